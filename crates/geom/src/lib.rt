@@ -1,0 +1,74 @@
+// Points and their distances, over i32 coordinates. Every function here is proved, and the crate assumes nothing of its own.
+ghost use mathlib.Core.Path.{_≡_};
+ghost use mathlib.Core.Bool.{true};
+ghost use lib.IntN.{natAbs, _-ℤ_};
+ghost use Rattle.geom.specs.Points.{ltP, eqP, inRange, cross, between};
+
+pub struct Point {
+    pub x: i32,
+    pub y: i32,
+}
+
+// Whether p is less than q: by x, then y.
+pub fn less(p: Point, q: Point) -> bool
+    ensures { λ r. ⌜ r ≡ ltP p q ⌝ }
+{
+    if p.x < q.x {
+        return true;
+    }
+    if q.x < p.x {
+        return false;
+    }
+    p.y < q.y
+}
+
+// Whether p and q are one point.
+pub fn same(p: Point, q: Point) -> bool
+    ensures { λ r. ⌜ r ≡ eqP p q ⌝ }
+{
+    if p.x != q.x {
+        return false;
+    }
+    p.y == q.y
+}
+
+// z - w, which always fits the wider type.
+fn difference(z: i32, w: i32) -> i64
+    ensures { λ r. ⌜ r ≡ z -ℤ w ⌝ }
+{
+    z as i64 - w as i64
+}
+
+// The cross product of the ways from p to q and from p to r: positive if r is left of the way to q, negative if right.
+pub fn cross(p: Point, q: Point, r: Point) -> i64
+    requires { ⌜ (inRange p ≡ true) × (inRange q ≡ true) × (inRange r ≡ true) ⌝ }
+    ensures { λ z. ⌜ z ≡ cross p q r ⌝ }
+{
+    let ux = difference(q.x, p.x);
+    let uy = difference(q.y, p.y);
+    let vx = difference(r.x, p.x);
+    let vy = difference(r.y, p.y);
+    ux * vy - uy * vx
+}
+
+// Whether r lies on the line from p to q, strictly between the two.
+pub fn strictly_between(p: Point, q: Point, r: Point) -> bool
+    requires { ⌜ (inRange p ≡ true) × (inRange q ≡ true) × (inRange r ≡ true) ⌝ }
+    ensures { λ z. ⌜ z ≡ between p q r ⌝ }
+{
+    if cross(p, q, r) != 0 {
+        return false;
+    }
+    if !less(p, r) {
+        return false;
+    }
+    less(r, q)
+}
+
+// |z - w|.
+pub fn distance(z: i32, w: i32) -> u64
+    ensures { λ r. ⌜ r ≡ natAbs (z -ℤ w) ⌝ }
+{
+    let d = difference(z, w);
+    if d < 0 { (0 - d) as u64 } else { d as u64 }
+}

@@ -1,0 +1,1 @@
+// Laws of the integers, and no code: proofs/ has them.
