@@ -1,0 +1,87 @@
+-- Laws of lists, members, places and sums: each once, for any list and any summand.
+use mathlib.Core.Path.{_≡_, refl, sym, _∙_, ap, ap₂, subst}
+use mathlib.Core.List.{List, [], _∷_, _++_}
+use mathlib.Core.Logic.{_⊎_, inl, inr}
+use mathlib.Core.Bool.{Bool, true, false, _||_}
+use Prim.Native.Nat.{ℕ, zero, suc, _<_, _+_}
+use native.Mathlib.Omega.{arith}
+use lib.ListN.{length, getD, take, drop}
+use lib.Seq.{take-suc}
+use lib.IntN.{ℤ, pos, _+ℤ_, _-ℤ_, +ℤ-idl, +ℤ-idr, +ℤ-assoc}
+use Rattle.integers.proofs.Booleans.{nor-l, nor-r, neither, or-l, or-r, one-of}
+use Rattle.integers.proofs.Ring.{_⊞_, _⊟_, _≐_, ring4, ring2}
+use Rattle.segm.specs.Lists.{_∈_, Pairs, any, sum}
+
+four- : (a b c d : ℤ) → (a -ℤ b) +ℤ (c -ℤ d) ≡ (a +ℤ c) -ℤ (b +ℤ d)
+four- = ring4 (λ a b c d. (a ⊟ b) ⊞ (c ⊟ d) ≐ (a ⊞ c) ⊟ (b ⊞ d)) tt
+
+-- ---- members and places
+module _ {A : Type 0} where
+  pub in-at : (l : List A) (z : A) (i : ℕ) → i < length l → getD l i z ∈ l
+  in-at [] z i h = absurd (omega arith)
+  in-at (x ∷ l) z zero h = inl refl
+  in-at (x ∷ l) z (suc i) h = inr (in-at l z i (omega arith))
+
+  -- a member stands at a place
+  pub record Stands (l : List A) (z x : A) : Type 0 where
+    pub place : ℕ
+    pub inside : place < length l
+    pub is : getD l place z ≡ x
+
+  pub stands : (l : List A) (z x : A) → x ∈ l → Stands l z x
+  stands [] z x m = absurd m
+  stands (y ∷ l) z x (inl e) = record { place = 0; inside = omega arith; is = sym e }
+  stands (y ∷ l) z x (inr m) = let s = stands l z x m in record { place = suc (s .place); inside = omega (arith, s .inside); is = s .is }
+
+  -- two places, the earlier first
+  pub pairs-of : (R : A → A → Type 0) (l : List A) (z : A) → ((i : ℕ) → i < length l → (y : A) → y ∈ drop (suc i) l → R (getD l i z) y) → Pairs R l
+  pairs-of R [] z h = tt
+  pairs-of R (x ∷ l) z h = (λ y m. h 0 (omega arith) y m, pairs-of R l z (λ i k. h (suc i) (omega arith)))
+
+  pub pairs-places : (R : A → A → Type 0) (l : List A) (z : A) → Pairs R l → (i : ℕ) → i < length l → (y : A) → y ∈ drop (suc i) l → R (getD l i z) y
+  pairs-places R [] z p i h = absurd (omega arith)
+  pairs-places R (x ∷ l) z p zero h = p .0
+  pairs-places R (x ∷ l) z p (suc i) h = pairs-places R l z (p .1) i (omega arith)
+
+  pub in-drop : (l : List A) (z : A) (k j : ℕ) → k + j < length l → getD l (k + j) z ∈ drop k l
+  in-drop l z zero j h = let k : 0 + j ≡ j = omega arith in subst (λ (i : ℕ). getD l i z ∈ l) (sym k) (in-at l z j (omega arith))
+  in-drop [] z (suc k) j h = absurd (omega arith)
+  in-drop (x ∷ l) z (suc k) j h = let e : suc k + j ≡ suc (k + j) = omega arith in subst (λ (i : ℕ). getD (x ∷ l) i z ∈ drop k l) (sym e) (in-drop l z k j (omega arith))
+
+  -- ---- some member
+  pub any-false : (P : A → Bool) (l : List A) → any P l ≡ false → (x : A) → x ∈ l → P x ≡ false
+  unfolding any
+  any-false P [] e x m = absurd m
+  any-false P (y ∷ l) e x (inl q) = ap P q ∙ nor-l (P y) (any P l) e
+  any-false P (y ∷ l) e x (inr m) = any-false P l (nor-r (P y) (any P l) e) x m
+
+  pub any-none : (P : A → Bool) (l : List A) → ((x : A) → x ∈ l → P x ≡ false) → any P l ≡ false
+  unfolding any
+  any-none P [] h = refl
+  any-none P (y ∷ l) h = neither (h y (inl refl)) (any-none P l (λ x m. h x (inr m)))
+
+  -- ---- sums
+  pub sum-cong : {f g : A → ℤ} (l : List A) → ((x : A) → x ∈ l → f x ≡ g x) → sum f l ≡ sum g l
+  unfolding sum
+  sum-cong [] h = refl
+  sum-cong (x ∷ l) h = ap₂ _+ℤ_ (h x (inl refl)) (sum-cong l (λ y m. h y (inr m)))
+
+  pub sum-zero : {f : A → ℤ} (l : List A) → ((x : A) → x ∈ l → f x ≡ pos 0) → sum f l ≡ pos 0
+  unfolding sum
+  sum-zero [] h = refl
+  sum-zero (x ∷ l) h = ap₂ _+ℤ_ (h x (inl refl)) (sum-zero l (λ y m. h y (inr m)))
+
+  pub sum-++ : (f : A → ℤ) (k l : List A) → sum f (k ++ l) ≡ sum f k +ℤ sum f l
+  unfolding sum
+  sum-++ f [] l = sym (+ℤ-idl (sum f l))
+  sum-++ f (x ∷ k) l = ap (λ z. f x +ℤ z) (sum-++ f k l) ∙ sym (+ℤ-assoc (f x) (sum f k) (sum f l))
+
+  -- one place more
+  pub sum-take : (f : A → ℤ) (l : List A) (z : A) (i : ℕ) → i < length l → sum f (take (suc i) l) ≡ sum f (take i l) +ℤ f (getD l i z)
+  unfolding sum
+  sum-take f l z i h = ap (sum f) (take-suc l i z h) ∙ sum-++ f (take i l) (getD l i z ∷ []) ∙ ap (λ y. sum f (take i l) +ℤ y) (+ℤ-idr (f (getD l i z)))
+
+  pub sum-- : (f g : A → ℤ) (l : List A) → sum (λ x. f x -ℤ g x) l ≡ sum f l -ℤ sum g l
+  unfolding sum
+  sum-- f g [] = refl
+  sum-- f g (x ∷ l) = ap (λ z. (f x -ℤ g x) +ℤ z) (sum-- f g l) ∙ four- (f x) (g x) (sum f l) (sum g l)

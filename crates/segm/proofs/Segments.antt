@@ -1,0 +1,59 @@
+-- Segments by place, and what a sum of windings depends on.
+use mathlib.Core.Path.{_≡_, refl, sym, _∙_, ap, subst}
+use mathlib.Core.List.{List, []}
+use mathlib.Core.Bool.{Bool, false}
+use Prim.Native.Nat.{ℕ, zero, suc, _+_, _*_, _<_, _≤_}
+use native.Mathlib.Omega.{arith}
+use lib.ListN.{length, getD, drop, List·getD-eq-default}
+use lib.Seq.{drop-drop, getD-drop}
+use lib.IntN.{ℤ, pos}
+use Rattle.segm.specs.declared.Segment.{Segment}
+use Rattle.segm.specs.Lists.{_∈_, only}
+use Rattle.segm.specs.Segments.{Drawing, width, front, segmentsOf, count, segments, nowhere, segmentAt, total}
+use Rattle.segm.proofs.Lists.{sum-cong, sum-zero}
+
+length-segmentsOf : (n : ℕ) (l : List ℤ) → length (segmentsOf n l) ≡ n
+unfolding segmentsOf
+length-segmentsOf zero l = refl
+length-segmentsOf (suc n) l = ap suc (length-segmentsOf n (drop width l))
+
+pub length-segments : (l : List ℤ) → length (segments l) ≡ count l
+unfolding segments
+length-segments l = length-segmentsOf (count l) l
+
+segmentsOf-at : (n : ℕ) (l : List ℤ) (i : ℕ) → i < n → getD (segmentsOf n l) i nowhere ≡ front (drop (i * width) l)
+unfolding segmentsOf
+segmentsOf-at zero l i h = absurd (omega arith)
+segmentsOf-at (suc n) l zero h = refl
+segmentsOf-at (suc n) l (suc i) h = segmentsOf-at n (drop width l) i (omega arith) ∙ ap front (drop-drop (i * width) width l ∙ ap (λ k. drop k l) by)
+  where
+    by : width + i * width ≡ suc i * width
+    by = omega arith
+
+pub segments-at : (l : List ℤ) (i : ℕ) → i < count l → segmentAt (segments l) i ≡ front (drop (i * width) l)
+unfolding segments segmentAt
+segments-at l i h = segmentsOf-at (count l) l i h
+
+-- number k of the segment at place i
+pub number-at : (l : List ℤ) (i k : ℕ) → getD (drop (i * width) l) k (pos 0) ≡ getD l (i * width + k) (pos 0)
+number-at l i k = getD-drop (i * width) l k (pos 0)
+
+pub first-at : (l : List ℤ) (i : ℕ) → getD (drop (i * width) l) 0 (pos 0) ≡ getD l (i * width) (pos 0)
+first-at l i = number-at l i 0 ∙ ap (λ k. getD l k (pos 0)) (omega arith)
+
+pub past : (d : Drawing) (i : ℕ) → length d ≤ i → segmentAt d i ≡ nowhere
+unfolding segmentAt
+past d i h = List·getD-eq-default d nowhere h
+
+-- ---- sums of windings
+only-cong : {a b : Bool} (w : ℤ) → a ≡ b → only a w ≡ only b w
+only-cong w e = ap (λ (c : Bool). only c w) e
+
+module _ (d : Drawing) where
+  pub total-cong : (P Q : Segment → Bool) → ((s : Segment) → s ∈ d → P s ≡ Q s) → total P d ≡ total Q d
+  unfolding total
+  total-cong P Q h = sum-cong d (λ s m. only-cong (s .winding) (h s m))
+
+  pub total-none : (P : Segment → Bool) → ((s : Segment) → s ∈ d → P s ≡ false) → total P d ≡ pos 0
+  unfolding total
+  total-none P h = sum-zero d (λ s m. only-cong (s .winding) (h s m))

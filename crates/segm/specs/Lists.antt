@@ -1,0 +1,30 @@
+-- Lists: members, pairs of places, and sums. Assumes nothing.
+use mathlib.Core.Path.{_≡_}
+use mathlib.Core.List.{List, [], _∷_}
+use mathlib.Core.Logic.{_⊎_}
+use mathlib.Core.Bool.{Bool, false, _||_, cond}
+use lib.IntN.{ℤ, pos, _+ℤ_}
+
+module _ {A : Type 0} where
+  infix 50 _∈_
+  abbrev pub _∈_ : A → List A → Type 0
+  x ∈ [] = ⊥
+  x ∈ (y ∷ l) = (x ≡ y) ⊎ (x ∈ l)
+
+  -- R holds of every two places, the earlier first
+  abbrev pub Pairs : (A → A → Type 0) → List A → Type 0
+  Pairs R [] = Unit {0}
+  Pairs R (x ∷ l) = ((y : A) → y ∈ l → R x y) × Pairs R l
+
+  -- some member passes a test
+  unfoldable pub any : (A → Bool) → List A → Bool
+  any P [] = false
+  any P (x ∷ l) = P x || any P l
+
+  unfoldable pub sum : (A → ℤ) → List A → ℤ
+  sum f [] = pos 0
+  sum f (x ∷ l) = f x +ℤ sum f l
+
+-- w if b, else 0
+abbrev pub only : Bool → ℤ → ℤ
+only b w = cond b w (pos 0)

@@ -1,0 +1,54 @@
+-- A drawing: its segments, how they are read from a flat list of numbers, and sums of their windings.
+-- A segment is the code's own record, its numbers read as integers. The contracts of `segm` cite these. Assumes nothing.
+use mathlib.Core.List.{List, [], _∷_}
+use mathlib.Core.Bool.{Bool}
+use Prim.Native.Nat.{ℕ, zero, suc, _/_, _%_}
+use lib.Dec.{eqb}
+use lib.ListN.{length, getD, drop}
+use lib.IntN.{ℤ, pos}
+use Rattle.segm.specs.declared.Segment.{Segment}
+use Rattle.segm.specs.Lists.{sum, only}
+
+abbrev pub Drawing : Type 0
+Drawing = List Segment
+
+-- a segment is six numbers: ax, ay, bx, by, winding, line bits
+abbrev pub width : ℕ
+width = 6
+
+-- the segment at the front of a list of numbers
+unfoldable pub front : List ℤ → Segment
+front l = record {
+  a = record { x = getD l 0 (pos 0); y = getD l 1 (pos 0) };
+  b = record { x = getD l 2 (pos 0); y = getD l 3 (pos 0) };
+  winding = getD l 4 (pos 0);
+  bits = getD l 5 (pos 0);
+}
+
+-- n segments, one after the other
+unfoldable pub segmentsOf : ℕ → List ℤ → Drawing
+segmentsOf zero l = []
+segmentsOf (suc n) l = front l ∷ segmentsOf n (drop width l)
+
+-- n, the number of segments
+unfoldable pub count : List ℤ → ℕ
+count l = length l / width
+
+-- the list holds whole segments only
+unfoldable pub whole : List ℤ → Bool
+whole l = eqb (length l % width) 0
+
+unfoldable pub segments : List ℤ → Drawing
+segments l = segmentsOf (count l) l
+
+-- at no place
+abbrev pub nowhere : Segment
+nowhere = record { a = record { x = pos 0; y = pos 0 }; b = record { x = pos 0; y = pos 0 }; winding = pos 0; bits = pos 0 }
+
+-- the segment at place i, from 0
+unfoldable pub segmentAt : Drawing → ℕ → Segment
+segmentAt d i = getD d i nowhere
+
+-- the windings of the segments that pass a test
+unfoldable pub total : (Segment → Bool) → Drawing → ℤ
+total P d = sum (λ s. only (P s) (s .winding)) d
