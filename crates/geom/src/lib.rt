@@ -2,7 +2,7 @@
 ghost use mathlib.Core.Path.{_≡_};
 ghost use mathlib.Core.Bool.{true};
 ghost use lib.IntN.{natAbs, _-ℤ_};
-ghost use Rattle.geom.specs.Points.{ltP, eqP, inRange, cross, between};
+ghost use Rattle.geom.specs.Points.{within, ltP, eqP, inRange, cross, between};
 
 pub struct Point {
     pub x: i32,
@@ -32,6 +32,20 @@ pub fn same(p: Point, q: Point) -> bool
     p.y == q.y
 }
 
+// Whether z is from low to high.
+pub fn is_within(low: i32, high: i32, z: i32) -> bool
+    ensures { λ r. ⌜ r ≡ within low high z ⌝ }
+{
+    low <= z && z <= high
+}
+
+// Whether both coordinates are in range.
+pub fn is_in_range(p: Point) -> bool
+    ensures { λ r. ⌜ r ≡ inRange p ⌝ }
+{
+    is_within(-16777216, 16777216, p.x) && is_within(-16777216, 16777216, p.y)
+}
+
 // z - w, which always fits the wider type.
 fn difference(z: i32, w: i32) -> i64
     ensures { λ r. ⌜ r ≡ z -ℤ w ⌝ }
@@ -56,13 +70,13 @@ pub fn strictly_between(p: Point, q: Point, r: Point) -> bool
     requires { ⌜ (inRange p ≡ true) × (inRange q ≡ true) × (inRange r ≡ true) ⌝ }
     ensures { λ z. ⌜ z ≡ between p q r ⌝ }
 {
-    if cross(p, q, r) != 0 {
-        return false;
-    }
     if !less(p, r) {
         return false;
     }
-    less(r, q)
+    if !less(r, q) {
+        return false;
+    }
+    cross(p, q, r) == 0
 }
 
 // |z - w|.

@@ -18,12 +18,27 @@ pub both-r : (a b : Bool) → (a && b) ≡ true → b ≡ true
 both-r true b e = e
 both-r false b e = absurd (true≢false (sym e))
 
+pub not-l : {a : Bool} (b : Bool) → a ≡ false → (a && b) ≡ false
+not-l b p = ap (λ (c : Bool). c && b) p
+
+pub not-r : (a : Bool) {b : Bool} → b ≡ false → (a && b) ≡ false
+not-r true p = p
+not-r false p = refl
+
+pub and-true : (a : Bool) {b : Bool} → b ≡ true → (a && b) ≡ a
+and-true true p = p
+and-true false p = refl
+
 pub or-l : {a : Bool} (b : Bool) → a ≡ true → (a || b) ≡ true
 or-l b p = ap (λ (c : Bool). c || b) p
 
 pub or-r : (a : Bool) {b : Bool} → b ≡ true → (a || b) ≡ true
 or-r true p = refl
 or-r false p = p
+
+pub or-false : (a : Bool) → (a || false) ≡ a
+or-false true = refl
+or-false false = refl
 
 pub neither : {a b : Bool} → a ≡ false → b ≡ false → (a || b) ≡ false
 neither {a} {b} p q = ap (λ (c : Bool). c || b) p ∙ q

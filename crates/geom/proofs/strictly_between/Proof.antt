@@ -1,49 +1,48 @@
--- The three tests of the definition, in its order. Assumes nothing.
+-- The definition's three tests, the cheap ones first. Assumes nothing.
 use borrow.Author.Needs.{needs}
 use borrow.Author.Tests.{not-true, not-false}
 use mathlib.Core.Path.{_≡_, sym, ap, _∙_}
-use mathlib.Core.Bool.{true}
+use mathlib.Core.Bool.{_&&_}
 use lib.Dec.{lit<}
 use lib.IntN.{pos}
 use mir.Syntax.{w64}
-use mir.Val.{ofZ}
-use Rattle.integers.proofs.Machine.{bits-eq}
-use Rattle.geom.specs.Points.{eqZ, cross, between}
-use Rattle.geom.proofs.Points.{eq-eqZ, ne-eqZ}
+use Rattle.integers.proofs.Booleans.{both, not-l, not-r, and-true}
+use Rattle.geom.specs.Points.{eqZ, ltP, cross, between}
+use Rattle.geom.proofs.Points.{bits-eqZ}
 use Rattle.geom.proofs.strictly_between.Statement.{statement}
 use Rattle.geom.proofs.strictly_between.Tie as tie
-
-cross-requires : tie.Need-cross-requires
-cross-requires c κs = search needs
-
--- past the first test r is on the line
-on-line : (c : tie.Else1) → eqZ (cross (c .before .before .args .p) (c .before .before .args .q) (c .before .before .args .r)) (pos 0) ≡ true
-on-line c = let d = c .before in eq-eqZ (sym (d .cross .ensures) ∙ bits-eq {w = w64} {a = d .cross .result} {b = pos 0} (record { sfits = d .cross .ok }) (record { sfits = lit< tt }) (c .if1 .left))
-
-returns : tie.Need-returns
-unfolding between
-returns c =
-    let d = c .before in
-    simp (ne-eqZ {b = pos 0} (λ e. c .if1 .taken (ap (ofZ w64) (d .cross .ensures ∙ e))))
 
 less-requires : tie.Need-less-requires
 less-requires c κs = search needs
 
-returns-2 : tie.Need-returns-2
+returns : tie.Need-returns
 unfolding between
-returns-2 c =
-    let d = c .before .before in
-    simp (on-line d, sym (c .before .less .ensures) ∙ not-true _ (c .if2 .taken))
+returns c =
+    let a = c .before .before .args in
+    sym (not-r (eqZ (cross (a .p) (a .q) (a .r)) (pos 0)) (not-l (ltP (a .r) (a .q)) (sym (c .before .less .ensures) ∙ not-true _ (c .if1 .taken))))
 
 less-requires-2 : tie.Need-less-requires-2
 less-requires-2 c κs = search needs
 
+returns-2 : tie.Need-returns-2
+unfolding between
+returns-2 c =
+    let a = c .before .before .before .before .args in
+    sym (not-r (eqZ (cross (a .p) (a .q) (a .r)) (pos 0)) (not-r (ltP (a .p) (a .r)) (sym (c .before .less2 .ensures) ∙ not-true _ (c .if2 .taken))))
+
+cross-requires : tie.Need-cross-requires
+cross-requires c κs = search needs
+
 returns-3 : tie.Need-returns-3
 unfolding between
 returns-3 c =
-    let d = c .before .before .before in
-    c .less2 .ensures ∙ sym (simp (on-line d, sym (c .before .before .less .ensures) ∙ not-false _ (c .before .if2 .left)))
+    let e = c .before in
+    let d = e .before .before in
+    let a = d .before .before .args in
+    let line = bits-eqZ w64 (c .cross .result) (pos 0) (c .cross .ok) (lit< tt) in
+    let past = both (sym (d .before .less .ensures) ∙ not-false _ (d .if1 .left)) (sym (e .before .less2 .ensures) ∙ not-false _ (e .if2 .left)) in
+    line ∙ ap (λ z. eqZ z (pos 0)) (c .cross .ensures) ∙ sym (and-true (eqZ (cross (a .p) (a .q) (a .r)) (pos 0)) past)
 
 pub strictly-between-spec : {M : Type 1} → statement M
 strictly-between-spec =
-    tie.close (tie.spec cross-requires returns less-requires returns-2 less-requires-2 returns-3)
+    tie.close (tie.spec less-requires returns less-requires-2 returns-2 cross-requires returns-3)

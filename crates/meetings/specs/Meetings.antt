@@ -1,0 +1,33 @@
+-- When two segments meet wrongly. The contracts of `meetings` cite this. Assumes nothing.
+use mathlib.Core.Path.{_≡_}
+use mathlib.Core.Bool.{Bool, true, _&&_, _||_}
+use lib.IntN.{ℤ, pos}
+use lib.Signed.{ltZ}
+use Rattle.geom.specs.declared.Point.{Point}
+use Rattle.geom.specs.Points.{eqP, ltP, inRange, cross, between}
+use Rattle.segm.specs.declared.Segment.{Segment}
+
+-- the side of s on which p lies: positive left of a to b (the top side), negative right of it (the bottom side)
+unfoldable pub side : Segment → Point → ℤ
+side s p = cross (s .a) (s .b) p
+
+-- t's ends lie strictly on opposite sides of s
+unfoldable pub parts : Segment → Segment → Bool
+parts s t = (ltZ (side s (t .a)) (pos 0) && ltZ (pos 0) (side s (t .b))) || (ltZ (pos 0) (side s (t .a)) && ltZ (side s (t .b)) (pos 0))
+
+-- p lies on s strictly between its ends
+unfoldable pub inside : Segment → Point → Bool
+inside s p = between (s .a) (s .b) p
+
+unfoldable pub sameEnds : Segment → Segment → Bool
+sameEnds s t = eqP (s .a) (t .a) && eqP (s .b) (t .b)
+
+-- the ends of each lie strictly on opposite sides of the other, or an end of one lies on the other strictly between its ends, or both ends are equal
+unfoldable pub meetsWrongly : Segment → Segment → Bool
+meetsWrongly s t = (parts s t && parts t s) || ((inside s (t .a) || inside s (t .b)) || ((inside t (s .a) || inside t (s .b)) || sameEnds s t))
+
+-- a segment whose coordinates are in range and whose a is less than its b: what refusals 3 and 4 leave
+pub record Proper (s : Segment) : Type 0 where
+  pub near-a : inRange (s .a) ≡ true
+  pub near-b : inRange (s .b) ≡ true
+  pub rises : ltP (s .a) (s .b) ≡ true
