@@ -6,7 +6,8 @@ use mathlib.Core.Bool.{Bool, true, false, _||_}
 use Prim.Native.Nat.{ℕ, zero, suc, _<_, _+_}
 use native.Mathlib.Omega.{arith}
 use lib.ListN.{length, getD, take, drop}
-use lib.Seq.{take-suc}
+use native.Mathlib.Numerals.{add-one}
+use lib.Seq.{take-suc, drop-cons}
 use lib.IntN.{ℤ, pos, _+ℤ_, _-ℤ_, +ℤ-idl, +ℤ-idr, +ℤ-assoc}
 use Rattle.integers.proofs.Booleans.{nor-l, nor-r, neither, or-l, or-r, one-of}
 use Rattle.integers.proofs.Ring.{_⊞_, _⊟_, _≐_, ring4, ring2}
@@ -60,6 +61,11 @@ module _ {A : Type 0} where
   any-none P [] h = refl
   any-none P (y ∷ l) h = neither (h y (inl refl)) (any-none P l (λ x m. h x (inr m)))
 
+  -- one place more
+  pub any-step : (P : A → Bool) (l : List A) (z : A) (k : ℕ) → k < length l → any P (drop k l) ≡ (P (getD l k z) || any P (drop (k + 1) l))
+  unfolding any
+  any-step P l z k h = rw (add-one, drop-cons l k z h)
+
   -- ---- sums
   pub sum-cong : {f g : A → ℤ} (l : List A) → ((x : A) → x ∈ l → f x ≡ g x) → sum f l ≡ sum g l
   unfolding sum
@@ -77,9 +83,9 @@ module _ {A : Type 0} where
   sum-++ f (x ∷ k) l = ap (λ z. f x +ℤ z) (sum-++ f k l) ∙ sym (+ℤ-assoc (f x) (sum f k) (sum f l))
 
   -- one place more
-  pub sum-take : (f : A → ℤ) (l : List A) (z : A) (i : ℕ) → i < length l → sum f (take (suc i) l) ≡ sum f (take i l) +ℤ f (getD l i z)
+  pub sum-take : (f : A → ℤ) (l : List A) (z : A) (i : ℕ) → i < length l → sum f (take (i + 1) l) ≡ sum f (take i l) +ℤ f (getD l i z)
   unfolding sum
-  sum-take f l z i h = ap (sum f) (take-suc l i z h) ∙ sum-++ f (take i l) (getD l i z ∷ []) ∙ ap (λ y. sum f (take i l) +ℤ y) (+ℤ-idr (f (getD l i z)))
+  sum-take f l z i h = ap (λ k. sum f (take k l)) (add-one i) ∙ ap (sum f) (take-suc l i z h) ∙ sum-++ f (take i l) (getD l i z ∷ []) ∙ ap (λ y. sum f (take i l) +ℤ y) (+ℤ-idr (f (getD l i z)))
 
   pub sum-- : (f g : A → ℤ) (l : List A) → sum (λ x. f x -ℤ g x) l ≡ sum f l -ℤ sum g l
   unfolding sum

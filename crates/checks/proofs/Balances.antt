@@ -1,0 +1,33 @@
+-- The balance at a point, one segment after the other, and how large it can be.
+use mathlib.Core.Path.{_≡_, refl, sym, ap, _∙_}
+use mathlib.Core.Bool.{Bool, true, false}
+use Prim.Native.Nat.{_≤_}
+use native.Mathlib.Omega.{arith}
+use lib.IntN.{ℤ, pos, negsuc, natAbs}
+use Rattle.integers.proofs.Order.{abs-in, abs--}
+use Rattle.geom.specs.declared.Point.{Point}
+use Rattle.geom.specs.Points.{eqP}
+use Rattle.geom.proofs.Points.{within-l, within-r}
+use Rattle.segm.specs.declared.Segment.{Segment}
+use Rattle.segm.specs.Lists.{sum, only}
+use Rattle.segm.specs.Segments.{Drawing, total}
+use Rattle.segm.proofs.Lists.{sum--}
+use Rattle.checks.specs.Drawing.{windingInRange, share, balance}
+
+pub winding-bound : (s : Segment) → windingInRange s ≡ true → natAbs (s .winding) ≤ 1000
+unfolding windingInRange
+winding-bound s e = abs-in {z = s .winding} (within-l (negsuc 999) (pos 1000) (s .winding) e) (within-r (negsuc 999) (pos 1000) (s .winding) e)
+
+pub only-bound : (b : Bool) (w : ℤ) → natAbs w ≤ 1000 → natAbs (only b w) ≤ 1000
+only-bound true w h = h
+only-bound false w h = omega arith
+
+pub share-bound : (p : Point) (s : Segment) → windingInRange s ≡ true → natAbs (share p s) ≤ 2000
+unfolding share
+share-bound p s e =
+    let w = winding-bound s e in
+    omega (arith, abs-- (only (eqP (s .a) p) (s .winding)) (only (eqP (s .b) p) (s .winding)), only-bound (eqP (s .a) p) (s .winding) w, only-bound (eqP (s .b) p) (s .winding) w)
+
+pub balance-shares : (d : Drawing) (p : Point) → sum (share p) d ≡ balance d p
+unfolding share balance total
+balance-shares d p = sum-- (λ s. only (eqP (s .a) p) (s .winding)) (λ s. only (eqP (s .b) p) (s .winding)) d

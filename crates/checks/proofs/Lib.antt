@@ -1,0 +1,4 @@
+pub mod Faults
+pub mod Balances
+pub mod Places
+pub mod Order

@@ -1,0 +1,62 @@
+-- The order is the definition's, and so are its two flags. Assumes nothing.
+use borrow.Author.Needs.{needs}
+use mathlib.Core.Path.{_≡_, ap₂, _∙_}
+use mathlib.Core.Bool.{Bool}
+use mir.Facts.{toZ-ofZ}
+use Rattle.integers.proofs.Booleans.{or-false}
+use Rattle.segm.specs.Lists.{any}
+use Rattle.segm.specs.Segments.{segments}
+use Rattle.checks.specs.Verdict.{wrongLength, inOrder, verdict}
+use Rattle.checks.specs.Runs.{clipRun}
+use Rattle.checks.proofs.check_clip.Statement.{statement}
+use Rattle.checks.proofs.check_clip.Tie as tie
+
+count-requires : tie.Need-count-requires
+count-requires c κs = search needs
+
+is-unknown-rule-requires : tie.Need-is-unknown-rule-requires
+is-unknown-rule-requires c κs = search needs
+
+is-unknown-flag-requires : tie.Need-is-unknown-flag-requires
+is-unknown-flag-requires c κs = search needs
+
+is-unknown-flag-requires-2 : tie.Need-is-unknown-flag-requires-2
+is-unknown-flag-requires-2 c κs = search needs
+
+is-short-requires : tie.Need-is-short-requires
+is-short-requires c κs = search needs
+
+is-short-requires-2 : tie.Need-is-short-requires-2
+is-short-requires-2 c κs = search needs
+
+in-order-requires : tie.Need-in-order-requires
+in-order-requires c κs = search needs
+
+returns : tie.Need-returns
+unfolding verdict clipRun any
+returns c =
+    let t₂ = c .before in
+    let t₁ = t₂ .before in
+    let u₃ = t₁ .before in
+    let u₂ = u₃ .before in
+    let u₁ = u₂ .before in
+    let n = u₁ .before in
+    let s = n .before in
+    let l = s .args .segments .now in
+    c .in-order .ensures
+    ∙ ap₂ (λ (unknown short : Bool). inOrder (wrongLength l) unknown short (segments l))
+    (simp (u₁ .is-unknown-rule .ensures, u₂ .is-unknown-flag .ensures, u₃ .is-unknown-flag2 .ensures, toZ-ofZ (s .fits .rule), toZ-ofZ (s .fits .invert), toZ-ofZ (s .fits .boundary), or-false))
+    (simp (t₁ .is-short .ensures, t₂ .is-short2 .ensures, n .count .ensures, or-false))
+
+pub check-clip-spec : {M : Type 1} → statement M
+check-clip-spec =
+    tie.close
+    (tie.spec
+    count-requires
+    is-unknown-rule-requires
+    is-unknown-flag-requires
+    is-unknown-flag-requires-2
+    is-short-requires
+    is-short-requires-2
+    in-order-requires
+    returns)

@@ -1,0 +1,19 @@
+-- The code searches for refusals by place in one loop: what each search looks for, and what it may rely on. Assumes nothing.
+use Prim.Native.Nat.{ℕ, _≤_}
+use lib.ListN.{length}
+use Rattle.segm.specs.Segments.{Drawing}
+use Rattle.checks.specs.declared.Search.{Search}
+use Rattle.checks.specs.declared.Search.the-variants.{Faults, Meetings, Balance}
+use Rattle.checks.specs.Drawing.{faultAt, meetingAt, unbalancedAt}
+use Rattle.checks.specs.Laws.{Sound}
+
+abbrev pub numberAt : Search → Drawing → ℕ → ℕ
+numberAt Faults d = faultAt d
+numberAt Meetings d = meetingAt d
+numberAt Balance d = unbalancedAt d
+
+-- meetings and balance are looked at only where 3 to 7 found nothing
+abbrev pub Ready : Search → Drawing → Type 0
+Ready Faults d = length d ≤ 1024
+Ready Meetings d = Sound d
+Ready Balance d = Sound d

@@ -1,0 +1,279 @@
+// Which drawings are turned down, with which number and place: refusals 2 to 11. Every function here is proved, and the crate assumes nothing of its own.
+// No public function has a `requires`: any numbers, any choices and any lengths of lent lists get a verdict.
+use geom::Point;
+use segm::Segment;
+ghost use mathlib.Core.Path.{_≡_};
+ghost use Prim.Native.Nat.{_*_, _-_, _<_, _≤_};
+ghost use mathlib.Core.Bool.{true};
+ghost use lib.Dec.{ltb};
+ghost use lib.ListN.{length, drop};
+ghost use Rattle.segm.specs.Lists.{any, only};
+ghost use Rattle.segm.specs.Segments.{count, segments, segmentAt};
+ghost use Rattle.meetings.specs.Meetings.{Proper, meetsWrongly};
+ghost use Rattle.checks.specs.Drawing.{windingInRange, fault, faultAt, meetingAt, share, balance, unbalancedAt};
+ghost use Rattle.checks.specs.Search.{Ready, numberAt};
+ghost use Rattle.checks.specs.Verdict.{wrongLength, unknownChoice, tooShort, first, drawingVerdict, inOrder, verdict};
+ghost use Rattle.checks.specs.Runs.{ruleChoice, flagChoice, lent, fillsRun, clipRun, sliceRun};
+ghost use Rattle.checks.specs.Laws.{Sound};
+
+// What a check finds: nothing wrong, or a refusal's number and place.
+pub enum Verdict {
+    Accepted,
+    Refused(u32, usize),
+}
+
+// The lowest of refusals 3 to 7 that fits t, where the segment before it starts at p; 0 for none.
+fn fault(p: Point, t: Segment) -> u32
+    ensures { λ r. ⌜ r ≡ fault p t ⌝ }
+{
+    let a = t.a;
+    let b = t.b;
+    if !(geom::is_in_range(a) & geom::is_in_range(b)) {
+        return 3;
+    }
+    if !geom::less(a, b) {
+        return 4;
+    }
+    if !geom::is_within(-1000, 1000, t.winding) {
+        return 5;
+    }
+    if !geom::is_within(0, 3, t.bits) {
+        return 6;
+    }
+    if geom::less(a, p) {
+        return 7;
+    }
+    0
+}
+
+// The place before i, 0 for the first.
+fn previous(i: usize) -> usize
+    ensures { λ r. ⌜ r ≡ i - 1 ⌝ }
+{
+    if i == 0 {
+        return 0;
+    }
+    i - 1
+}
+
+// Refusals 3 to 7 at place i.
+fn fault_at(s: &[i32], i: usize) -> u32
+    ensures { λ r. ⌜ r ≡ faultAt (segments (now (s .entry))) i ⌝ }
+{
+    let before = segm::segment_at(s, previous(i));
+    let p = before.a;
+    fault(p, segm::segment_at(s, i))
+}
+
+// Whether t meets wrongly with a segment from place j on.
+fn meets_any(s: &[i32], j: usize, t: Segment) -> bool
+    requires { ⌜ Sound (segments (now s)) × Proper t ⌝ }
+    ensures { λ r. ⌜ r ≡ any (meetsWrongly t) (drop j (segments (now (s .entry)))) ⌝ }
+{
+    let n = segm::count(s);
+    let mut k = j;
+    while k < n {
+        if meetings::meets_wrongly(t, segm::segment_at(s, k)) {
+            return true;
+        }
+        k += 1;
+    }
+    false
+}
+
+// Refusal 8 at place i.
+fn meeting_at(s: &[i32], i: usize) -> u32
+    requires { ⌜ Sound (segments (now s)) × (i < length (segments (now s))) ⌝ }
+    ensures { λ r. ⌜ r ≡ meetingAt (segments (now (s .entry))) i ⌝ }
+{
+    if meets_any(s, i + 1, segm::segment_at(s, i)) {
+        return 8;
+    }
+    0
+}
+
+// w if b, else 0.
+fn only(b: bool, w: i32) -> i32
+    ensures { λ r. ⌜ r ≡ only b w ⌝ }
+{
+    if b { w } else { 0 }
+}
+
+// What t adds to the balance at p.
+fn share(p: Point, t: Segment) -> i32
+    requires { ⌜ windingInRange t ≡ true ⌝ }
+    ensures { λ r. ⌜ r ≡ share p t ⌝ }
+{
+    let a = t.a;
+    let b = t.b;
+    only(geom::same(a, p), t.winding) - only(geom::same(b, p), t.winding)
+}
+
+// The windings starting at p, less those ending there.
+fn balance(s: &[i32], p: Point) -> i32
+    requires { ⌜ Sound (segments (now s)) ⌝ }
+    ensures { λ r. ⌜ r ≡ balance (segments (now (s .entry))) p ⌝ }
+{
+    let n = segm::count(s);
+    let mut sum: i32 = 0;
+    let mut i: usize = 0;
+    while i < n {
+        sum += share(p, segm::segment_at(s, i));
+        i += 1;
+    }
+    sum
+}
+
+// Refusal 9 at place i.
+fn unbalanced_at(s: &[i32], i: usize) -> u32
+    requires { ⌜ Sound (segments (now s)) ⌝ }
+    ensures { λ r. ⌜ r ≡ unbalancedAt (segments (now (s .entry))) i ⌝ }
+{
+    let t = segm::segment_at(s, i);
+    let a = t.a;
+    let b = t.b;
+    if balance(s, a) != 0 {
+        return 9;
+    }
+    if balance(s, b) != 0 {
+        return 9;
+    }
+    0
+}
+
+// The refusals that are searched for by place.
+pub enum Search {
+    Faults,
+    Meetings,
+    Balance,
+}
+
+// What a search finds at place i, 0 for nothing.
+fn number_at(search: Search, s: &[i32], i: usize) -> u32
+    requires { ⌜ Ready search (segments (now s)) × (i < length (segments (now s))) ⌝ }
+    ensures { λ r. ⌜ r ≡ numberAt search (segments (now (s .entry))) i ⌝ }
+{
+    match search {
+        Search::Faults => fault_at(s, i),
+        Search::Meetings => meeting_at(s, i),
+        Search::Balance => unbalanced_at(s, i),
+    }
+}
+
+// The first place where a search finds something.
+fn find_first(search: Search, s: &[i32]) -> Verdict
+    requires { ⌜ Ready search (segments (now s)) ⌝ }
+    ensures { λ r. ⌜ r ≡ first (numberAt search (segments (now (s .entry)))) (segments (now (s .entry))) ⌝ }
+{
+    let n = segm::count(s);
+    let mut i: usize = 0;
+    while i < n {
+        let number = number_at(search, s, i);
+        if number != 0 {
+            return Verdict::Refused(number, i);
+        }
+        i += 1;
+    }
+    Verdict::Accepted
+}
+
+// Refusals 3 to 9.
+fn drawing_verdict(s: &[i32]) -> Verdict
+    requires { ⌜ count (now s) ≤ 1024 ⌝ }
+    ensures { λ r. ⌜ r ≡ drawingVerdict (segments (now (s .entry))) ⌝ }
+{
+    let faults = find_first(Search::Faults, s);
+    let Verdict::Accepted = faults else {
+        return faults;
+    };
+    let meetings = find_first(Search::Meetings, s);
+    let Verdict::Accepted = meetings else {
+        return meetings;
+    };
+    find_first(Search::Balance, s)
+}
+
+// Every refusal in its order, of which 10 and 11 have been tried.
+fn in_order(s: &[i32], unknown: bool, short: bool) -> Verdict
+    ensures { λ r. ⌜ r ≡ inOrder (wrongLength (now (s .entry))) unknown short (segments (now (s .entry))) ⌝ }
+{
+    if !segm::is_whole(s) {
+        return Verdict::Refused(2, 0);
+    }
+    if 1024 < segm::count(s) {
+        return Verdict::Refused(2, 0);
+    }
+    if unknown {
+        return Verdict::Refused(10, 0);
+    }
+    if short {
+        return Verdict::Refused(11, 0);
+    }
+    drawing_verdict(s)
+}
+
+// Whether a rule is none of 0 to 3.
+fn is_unknown_rule(choice: i32) -> bool
+    ensures { λ r. ⌜ r ≡ unknownChoice (ruleChoice choice) ⌝ }
+{
+    !geom::is_within(0, 3, choice)
+}
+
+// Whether invert, boundary or output direction is neither 0 nor 1.
+fn is_unknown_flag(choice: i32) -> bool
+    ensures { λ r. ⌜ r ≡ unknownChoice (flagChoice choice) ⌝ }
+{
+    !geom::is_within(0, 1, choice)
+}
+
+// Whether a lent list has fewer than `each` entries for each of n segments. By a quotient, as a product could be too large.
+fn is_short(entries: usize, each: usize, n: usize) -> bool
+    requires { ⌜ 0 < each ⌝ }
+    ensures { λ r. ⌜ r ≡ tooShort n (lent entries each) ⌝ }
+{
+    entries / each < n
+}
+
+// The verdict on a fills run.
+pub fn check_fills(segments: &[i32], rule: i32, fills: usize) -> Verdict
+    ensures { λ r. ⌜ r ≡ verdict (fillsRun (now (segments .entry)) rule fills) ⌝ }
+{
+    let n = segm::count(segments);
+    let unknown = is_unknown_rule(rule);
+    let short = is_short(fills, 1, n);
+    in_order(segments, unknown, short)
+}
+
+// The verdict on a clip run.
+pub fn check_clip(
+    segments: &[i32],
+    rule: i32,
+    invert: i32,
+    boundary: i32,
+    points: usize,
+    lengths: usize,
+) -> Verdict
+    ensures { λ r. ⌜ r ≡ verdict (clipRun (now (segments .entry)) rule invert boundary points lengths) ⌝ }
+{
+    let n = segm::count(segments);
+    let unknown = is_unknown_rule(rule) | (is_unknown_flag(invert) | is_unknown_flag(boundary));
+    let short = is_short(points, 8, n) | is_short(lengths, 2, n);
+    in_order(segments, unknown, short)
+}
+
+// The verdict on a slice run.
+pub fn check_slice(
+    segments: &[i32],
+    rule: i32,
+    direction: i32,
+    points: usize,
+    lengths: usize,
+    roles: usize,
+) -> Verdict
+    ensures { λ r. ⌜ r ≡ verdict (sliceRun (now (segments .entry)) rule direction points lengths roles) ⌝ }
+{
+    let n = segm::count(segments);
+    let unknown = is_unknown_rule(rule) | is_unknown_flag(direction);
+    let short = is_short(points, 4, n) | (is_short(lengths, 2, n) | is_short(roles, 2, n));
+    in_order(segments, unknown, short)
+}
