@@ -1,17 +1,18 @@
--- What a place without one of refusals 3 to 7 has.
+-- What a place has where no refusal by place fits it.
 use mathlib.Core.Path.{_≡_, refl}
-use mathlib.Core.Bool.{Bool, true, false, not, cond}
-use Prim.Native.Nat.{ℕ, _<_, _-_}
+use mathlib.Core.Bool.{Bool, true, false, not, cond, _&&_}
+use Prim.Native.Nat.{ℕ, suc, _<_, _-_}
 use native.Mathlib.Omega.{arith}
-use lib.ListN.{length}
+use lib.ListN.{length, drop}
 use Rattle.integers.proofs.Booleans.{both-l, both-r}
 use Rattle.geom.specs.declared.Point.{Point}
 use Rattle.geom.specs.Points.{ltP, inRange}
 use Rattle.segm.specs.declared.Segment.{Segment}
+use Rattle.segm.specs.Lists.{any}
 use Rattle.segm.specs.Segments.{Drawing, segmentAt}
-use Rattle.meetings.specs.Meetings.{Proper}
-use Rattle.checks.specs.Drawing.{endsInRange, rises, windingInRange, bitsInRange, fault, faultAt}
-use Rattle.checks.specs.Laws.{Sound}
+use Rattle.meetings.specs.Meetings.{meetsWrongly, Proper}
+use Rattle.checks.specs.Drawing.{endsInRange, rises, windingInRange, bitsInRange, fault, faultAt, meetingAt, balances, unbalancedAt}
+use Rattle.checks.specs.Search.{Sound}
 
 pub record Faultless (p : Point) (s : Segment) : Type 0 where
   pub ends : endsInRange s ≡ true
@@ -46,6 +47,22 @@ pub faultless-at : (d : Drawing) (i : ℕ) → faultAt d i ≡ 0 → Faultless (
 unfolding faultAt
 faultless-at d i e = faultless (segmentAt d (i - 1) .a) (segmentAt d i) e
 
+-- ---- 8 and 9
+pub meetingless : (d : Drawing) (i : ℕ) → meetingAt d i ≡ 0 → any (meetsWrongly (segmentAt d i)) (drop (suc i) d) ≡ false
+unfolding meetingAt
+meetingless d i e = last (any (meetsWrongly (segmentAt d i)) (drop (suc i) d)) 8 (omega arith) e
+
+pub balanced-at : (d : Drawing) (i : ℕ) → unbalancedAt d i ≡ 0 → (balances d (segmentAt d i .a) ≡ true) × (balances d (segmentAt d i .b) ≡ true)
+unfolding unbalancedAt
+balanced-at d i e =
+    let both = balanced (balances d (segmentAt d i .a) && balances d (segmentAt d i .b)) 9 (omega arith) e in
+    (both-l (balances d (segmentAt d i .a)) (balances d (segmentAt d i .b)) both, both-r (balances d (segmentAt d i .a)) (balances d (segmentAt d i .b)) both)
+  where
+    balanced : (b : Bool) (m : ℕ) → 0 < m → cond b 0 m ≡ 0 → b ≡ true
+    balanced true m h e = refl
+    balanced false m h e = absurd (omega arith)
+
+-- ---- where 3 to 7 fit nowhere
 proper : (s : Segment) → endsInRange s ≡ true → rises s ≡ true → Proper s
 unfolding endsInRange rises
 proper s e o = record { near-a = both-l (inRange (s .a)) (inRange (s .b)) e; near-b = both-r (inRange (s .a)) (inRange (s .b)) e; rises = o }

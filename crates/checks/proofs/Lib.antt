@@ -2,3 +2,5 @@ pub mod Faults
 pub mod Balances
 pub mod Places
 pub mod Order
+pub mod Listed
+pub mod Good

@@ -1,5 +1,5 @@
 pub mod Drawing
 pub mod Verdict
 pub mod Runs
-pub mod Laws
 pub mod Search
+pub mod Accepted

@@ -1,11 +1,16 @@
 -- The code searches for refusals by place in one loop: what each search looks for, and what it may rely on. Assumes nothing.
-use Prim.Native.Nat.{ℕ, _≤_}
+use mathlib.Core.Path.{_≡_}
+use Prim.Native.Nat.{ℕ, _<_, _≤_}
 use lib.ListN.{length}
 use Rattle.segm.specs.Segments.{Drawing}
 use Rattle.checks.specs.declared.Search.{Search}
 use Rattle.checks.specs.declared.Search.the-variants.{Faults, Meetings, Balance}
 use Rattle.checks.specs.Drawing.{faultAt, meetingAt, unbalancedAt}
-use Rattle.checks.specs.Laws.{Sound}
+
+-- what 2 to 7 leave: enough to look at meetings and balance without overflow
+pub record Sound (d : Drawing) : Type 0 where
+  pub few : length d ≤ 1024
+  pub faultless : (i : ℕ) → i < length d → faultAt d i ≡ 0
 
 abbrev pub numberAt : Search → Drawing → ℕ → ℕ
 numberAt Faults d = faultAt d

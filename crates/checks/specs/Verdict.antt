@@ -1,6 +1,6 @@
 -- The verdict on a run: the first refusal that fits it, in the order of the checks. Assumes nothing.
 use mathlib.Core.List.{List, [], _∷_}
-use mathlib.Core.Bool.{Bool, not, _||_, cond}
+use mathlib.Core.Bool.{Bool, true, false, not, _||_, cond}
 use Prim.Native.Nat.{ℕ, zero, suc, _*_}
 use lib.Dec.{eqb, ltb}
 use lib.ListN.{length}
@@ -70,3 +70,7 @@ inOrder isWrongLength isUnknown isTooShort d = refuseIf 2 isWrongLength then ref
 unfoldable pub verdict : Run → Verdict
 verdict r =
     inOrder (wrongLength (r .numbers)) (any unknownChoice (r .choices)) (any (tooShort (count (r .numbers))) (r .lists)) (segments (r .numbers))
+
+abbrev pub isAccepted : Verdict → Bool
+isAccepted Accepted = true
+isAccepted (Refused number place) = false

@@ -11,10 +11,9 @@ ghost use Rattle.segm.specs.Lists.{any, only};
 ghost use Rattle.segm.specs.Segments.{count, segments, segmentAt};
 ghost use Rattle.meetings.specs.Meetings.{Proper, meetsWrongly};
 ghost use Rattle.checks.specs.Drawing.{windingInRange, fault, faultAt, meetingAt, share, balance, unbalancedAt};
-ghost use Rattle.checks.specs.Search.{Ready, numberAt};
 ghost use Rattle.checks.specs.Verdict.{wrongLength, unknownChoice, tooShort, first, drawingVerdict, inOrder, verdict};
 ghost use Rattle.checks.specs.Runs.{ruleChoice, flagChoice, lent, fillsRun, clipRun, sliceRun};
-ghost use Rattle.checks.specs.Laws.{Sound};
+ghost use Rattle.checks.specs.Search.{Sound, Ready, numberAt};
 
 // What a check finds: nothing wrong, or a refusal's number and place.
 pub enum Verdict {

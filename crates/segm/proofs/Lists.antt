@@ -2,7 +2,7 @@
 use mathlib.Core.Path.{_≡_, refl, sym, _∙_, ap, ap₂, subst}
 use mathlib.Core.List.{List, [], _∷_, _++_}
 use mathlib.Core.Logic.{_⊎_, inl, inr}
-use mathlib.Core.Bool.{Bool, true, false, _||_}
+use mathlib.Core.Bool.{Bool, true, false, _||_, true≢false}
 use Prim.Native.Nat.{ℕ, zero, suc, _<_, _+_}
 use native.Mathlib.Omega.{arith}
 use lib.ListN.{length, getD, take, drop}
@@ -44,10 +44,16 @@ module _ {A : Type 0} where
   pairs-places R (x ∷ l) z p zero h = p .0
   pairs-places R (x ∷ l) z p (suc i) h = pairs-places R l z (p .1) i (omega arith)
 
-  pub in-drop : (l : List A) (z : A) (k j : ℕ) → k + j < length l → getD l (k + j) z ∈ drop k l
-  in-drop l z zero j h = let k : 0 + j ≡ j = omega arith in subst (λ (i : ℕ). getD l i z ∈ l) (sym k) (in-at l z j (omega arith))
-  in-drop [] z (suc k) j h = absurd (omega arith)
-  in-drop (x ∷ l) z (suc k) j h = let e : suc k + j ≡ suc (k + j) = omega arith in subst (λ (i : ℕ). getD (x ∷ l) i z ∈ drop k l) (sym e) (in-drop l z k j (omega arith))
+  pub pairs-map : {R S : A → A → Type 0} → (l : List A) → ((x y : A) → x ∈ l → y ∈ l → R x y → S x y) → Pairs R l → Pairs S l
+  pairs-map [] f h = tt
+  pairs-map (x ∷ l) f h = (λ y m. f x y (inl refl) (inr m) (h .0 y m), pairs-map l (λ y z m n. f y z (inr m) (inr n)) (h .1))
+
+  -- a later place
+  pub in-after : (l : List A) (z : A) (i j : ℕ) → i < j → j < length l → getD l j z ∈ drop (suc i) l
+  in-after [] z i j h k = absurd (omega arith)
+  in-after (x ∷ l) z i zero h k = absurd (omega arith)
+  in-after (x ∷ l) z zero (suc j) h k = in-at l z j (omega arith)
+  in-after (x ∷ l) z (suc i) (suc j) h k = in-after l z i j (omega arith) (omega arith)
 
   -- ---- some member
   pub any-false : (P : A → Bool) (l : List A) → any P l ≡ false → (x : A) → x ∈ l → P x ≡ false
@@ -60,6 +66,21 @@ module _ {A : Type 0} where
   unfolding any
   any-none P [] h = refl
   any-none P (y ∷ l) h = neither (h y (inl refl)) (any-none P l (λ x m. h x (inr m)))
+
+  -- the member that passes
+  pub record Some (P : A → Bool) (l : List A) : Type 0 where
+    pub member : A
+    pub in-list : member ∈ l
+    pub passes : P member ≡ true
+
+  pub any-some : (P : A → Bool) (l : List A) → any P l ≡ true → Some P l
+  unfolding any
+  any-some P [] e = absurd (true≢false (sym e))
+  any-some P (y ∷ l) e = go (one-of (P y) (any P l) e) (any-some P l)
+    where
+      go : (P y ≡ true) ⊎ (any P l ≡ true) → (any P l ≡ true → Some P l) → Some P (y ∷ l)
+      go (inl p) rest = record { member = y; in-list = inl refl; passes = p }
+      go (inr p) rest = let s = rest p in record { member = s .member; in-list = inr (s .in-list); passes = s .passes }
 
   -- one place more
   pub any-step : (P : A → Bool) (l : List A) (z : A) (k : ℕ) → k < length l → any P (drop k l) ≡ (P (getD l k z) || any P (drop (k + 1) l))

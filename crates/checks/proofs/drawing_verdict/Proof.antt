@@ -8,7 +8,7 @@ use Rattle.checks.specs.declared.Verdict.{Verdict}
 use Rattle.checks.specs.declared.Verdict.the-variants.{Accepted}
 use Rattle.checks.specs.Drawing.{faultAt, meetingAt, unbalancedAt}
 use Rattle.checks.specs.Verdict.{first, _then_, drawingVerdict}
-use Rattle.checks.specs.Laws.{Sound}
+use Rattle.checks.specs.Search.{Sound}
 use Rattle.checks.proofs.Places.{first-none}
 use Rattle.checks.proofs.Order.{refused-then}
 use Rattle.checks.proofs.drawing_verdict.Statement.{statement}

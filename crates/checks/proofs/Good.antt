@@ -1,0 +1,148 @@
+-- What an accepted drawing has, in the forms that later layers use.
+use mathlib.Core.Path.{_≡_, refl, sym, ap, subst, _∙_}
+use mathlib.Core.List.{List, [], _∷_}
+use mathlib.Core.Logic.{_⊎_, inl, inr}
+use mathlib.Core.Bool.{true, false, not, true≢false}
+use Prim.Native.Nat.{ℕ, zero, suc, _+_, _-_, _<_, _≤_}
+use native.Mathlib.Omega.{arith}
+use lib.Dec.{ltb}
+use lib.ListN.{length, drop}
+use lib.IntN.{ℤ, pos, _-ℤ_}
+use borrow.Author.Tests.{ltb-true, ltb-false}
+use Rattle.integers.proofs.Booleans.{dec, clash, nor-r}
+use Rattle.geom.specs.declared.Point.{Point}
+use Rattle.geom.specs.Points.{eqZ, ltP, eqP}
+use Rattle.geom.proofs.Points.{within-l, within-r, eqZ-true, eqP-true, not-less-trans}
+use Rattle.segm.specs.declared.Segment.{Segment}
+use Rattle.segm.specs.Lists.{_∈_, Pairs, any}
+use Rattle.segm.specs.Segments.{Drawing, count, whole, segments, nowhere, segmentAt}
+use Rattle.segm.proofs.Lists.{Stands, stands, pairs-of, pairs-map, pairs-places, in-after, any-false}
+use Rattle.segm.proofs.Segments.{length-segments, total-none}
+use Rattle.meetings.specs.Meetings.{sameEnds, meetsWrongly}
+use Rattle.meetings.proofs.Apart.{apart-ends, same-ends-sym}
+use Rattle.checks.specs.declared.Verdict.{Verdict}
+use Rattle.checks.specs.declared.Verdict.the-variants.{Accepted, Refused}
+use Rattle.checks.specs.Drawing.{endsInRange, rises, bitsInRange, faultAt, meetingAt, balance, balances, unbalancedAt}
+use Rattle.checks.specs.Verdict.{Run, wrongLength, isAccepted, verdict}
+use Rattle.checks.specs.Runs.{clipRun}
+use Rattle.checks.specs.Accepted.{Good, inputOf, accepts}
+use Rattle.checks.proofs.Faults.{Faultless, faultless-at, meetingless, balanced-at}
+use Rattle.checks.proofs.Balances.{winding-bound}
+use Rattle.checks.proofs.Places.{first-none}
+use Rattle.checks.proofs.Order.{Passed, passed}
+
+is-accepted : (v : Verdict) → isAccepted v ≡ true → v ≡ Accepted
+is-accepted Accepted e = refl
+is-accepted (Refused number place) e = absurd (true≢false (sym e))
+
+-- ---- rising starts: each not less than the one before is each not less than any before
+abbrev Neighbours : Drawing → Type 0
+Neighbours [] = Unit {0}
+Neighbours (s ∷ []) = Unit {0}
+Neighbours (s ∷ (t ∷ d)) = (ltP (t .a) (s .a) ≡ false) × Neighbours (t ∷ d)
+
+neighbours : (d : Drawing) → ((i : ℕ) → suc i < length d → ltP (segmentAt d (suc i) .a) (segmentAt d i .a) ≡ false) → Neighbours d
+unfolding segmentAt
+neighbours [] h = tt
+neighbours (s ∷ []) h = tt
+neighbours (s ∷ (t ∷ d)) h = (h 0 (omega arith), neighbours (t ∷ d) (λ i l. h (suc i) (omega arith)))
+
+rising-pairs : (d : Drawing) → Neighbours d → Pairs (λ s t. ltP (t .a) (s .a) ≡ false) d
+rising-pairs [] n = tt
+rising-pairs (s ∷ []) n = (λ t m. absurd m, tt)
+rising-pairs (s ∷ (t ∷ d)) n = let p = rising-pairs (t ∷ d) (n .1) in (go (p .0), p)
+  where
+    go : ((u : Segment) → u ∈ d → ltP (u .a) (t .a) ≡ false) → (u : Segment) → (u ≡ t) ⊎ (u ∈ d) → ltP (u .a) (s .a) ≡ false
+    go p u (inl e) = ap (λ (i : Segment). ltP (i .a) (s .a)) e ∙ n .0
+    go p u (inr m) = not-less-trans (s .a) (t .a) (u .a) (n .0) (p u m)
+
+-- ---- balance: a point is an end, or nothing starts or ends there
+data End (d : Drawing) (p : Point) : Type 0 where
+  a-of : (s : Segment) → s ∈ d → s .a ≡ p → End d p
+  b-of : (s : Segment) → s ∈ d → s .b ≡ p → End d p
+  free : ((s : Segment) → s ∈ d → (eqP (s .a) p ≡ false) × (eqP (s .b) p ≡ false)) → End d p
+
+end : (d : Drawing) (p : Point) → End d p
+end [] p = free (λ s m. absurd m)
+end (s ∷ d) p = go (dec (eqP (s .a) p)) (dec (eqP (s .b) p)) (end d p)
+  where
+    go : (eqP (s .a) p ≡ true) ⊎ (eqP (s .a) p ≡ false) → (eqP (s .b) p ≡ true) ⊎ (eqP (s .b) p ≡ false) → End d p → End (s ∷ d) p
+    go (inl e) f r = a-of s (inl refl) (eqP-true e)
+    go (inr e) (inl f) r = b-of s (inl refl) (eqP-true f)
+    go (inr e) (inr f) (a-of t m q) = a-of t (inr m) q
+    go (inr e) (inr f) (b-of t m q) = b-of t (inr m) q
+    go (inr e) (inr f) (free h) = free by
+      where
+        by : (t : Segment) → (t ≡ s) ⊎ (t ∈ d) → (eqP (t .a) p ≡ false) × (eqP (t .b) p ≡ false)
+        by t (inl q) = (ap (λ (i : Segment). eqP (i .a) p) q ∙ e, ap (λ (i : Segment). eqP (i .b) p) q ∙ f)
+        by t (inr m) = h t m
+
+balance-free : (d : Drawing) (p : Point) → ((s : Segment) → s ∈ d → (eqP (s .a) p ≡ false) × (eqP (s .b) p ≡ false)) → balance d p ≡ pos 0
+unfolding balance
+balance-free d p h = (λ i. total-none d (λ s. eqP (s .a) p) (λ s m. h s m .0) i -ℤ total-none d (λ s. eqP (s .b) p) (λ s m. h s m .1) i)
+
+balanced-all : (d : Drawing) → ((s : Segment) → s ∈ d → (balances d (s .a) ≡ true) × (balances d (s .b) ≡ true)) → (p : Point) → balance d p ≡ pos 0
+unfolding balances
+balanced-all d ends p = go (end d p)
+  where
+    go : End d p → balance d p ≡ pos 0
+    go (a-of s m q) = subst (λ (r : Point). balance d r ≡ pos 0) q (eqZ-true (ends s m .0))
+    go (b-of s m q) = subst (λ (r : Point). balance d r ≡ pos 0) q (eqZ-true (ends s m .1))
+    go (free h) = balance-free d p h
+
+-- ---- the law
+module _ (r : Run) (p : Passed r) where
+  abbrev d : Drawing
+  d = segments (r .numbers)
+
+  -- a member stands at a place, where no refusal fits
+  at : (i : ℕ) → i < length d → Faultless (segmentAt d (i - 1) .a) (segmentAt d i)
+  at i l = faultless-at d i (first-none (faultAt d) d (p .faultless) i l)
+
+  everywhere : (P : Segment → Type 0) → ((i : ℕ) → i < length d → P (segmentAt d i)) → (s : Segment) → s ∈ d → P s
+  unfolding segmentAt
+  everywhere P h s m = let w = stands d nowhere s m in subst P (w .is) (h (w .place) (w .inside))
+
+  pub passed-good : Good d
+  unfolding segmentAt rises bitsInRange wrongLength
+  passed-good = record {
+    few = omega (arith, length-segments (r .numbers), ltb-false 1024 (count (r .numbers)) (nor-r (not (whole (r .numbers))) (ltb 1024 (count (r .numbers))) (p .right-length)));
+    near = everywhere (λ s. endsInRange s ≡ true) (λ i l. at i l .ends);
+    proper = everywhere (λ s. ltP (s .a) (s .b) ≡ true) (λ i l. at i l .order);
+    winding = everywhere _ (λ i l. winding-bound (segmentAt d i) (at i l .winding));
+    bits = everywhere _ (λ i l. (within-l (pos 0) (pos 3) (segmentAt d i .bits) (at i l .bits), within-r (pos 0) (pos 3) (segmentAt d i .bits) (at i l .bits)));
+    rising = rising-pairs d (neighbours d (λ i l. let k : suc i - 1 ≡ i = omega arith in subst (λ (k : ℕ). ltP (segmentAt d (suc i) .a) (segmentAt d k .a) ≡ false) k (at (suc i) l .after)));
+    apart = pairs-of (λ s t. meetsWrongly s t ≡ false) d nowhere (λ i l y m. any-false (meetsWrongly (segmentAt d i)) (drop (suc i) d) (meetingless d i (first-none (meetingAt d) d (p .apart) i l)) y m);
+    balanced = balanced-all d (everywhere (λ s. (balances d (s .a) ≡ true) × (balances d (s .b) ≡ true)) (λ i l. balanced-at d i (first-none (unbalancedAt d) d (p .balanced) i l)));
+  }
+
+pub verdict-good : (r : Run) → verdict r ≡ Accepted → Good (segments (r .numbers))
+verdict-good r e = passed-good r (passed r e)
+
+-- an accepted drawing: what a run was lent does not count
+module _ (numbers : List ℤ) (rule invert boundary : ℤ) (e : accepts numbers rule invert boundary ≡ true) where
+  pub accepted-input : verdict (inputOf (clipRun numbers rule invert boundary 0 0)) ≡ Accepted
+  unfolding accepts
+  accepted-input = is-accepted _ e
+
+  pub accepted-good : Good (segments numbers)
+  unfolding clipRun
+  accepted-good = verdict-good _ accepted-input
+
+-- ---- in a good drawing two different places never have both ends equal
+module _ (d : Drawing) (g : Good d) where
+  pub distinct : Pairs (λ s t. sameEnds s t ≡ false) d
+  distinct = pairs-map d (λ s t m n e. apart-ends s t e) (g .apart)
+
+  pub distinct-places : (i j : ℕ) → i < length d → j < length d → sameEnds (segmentAt d i) (segmentAt d j) ≡ true → i ≡ j
+  unfolding segmentAt
+  distinct-places i j hi hj e = go (dec (ltb i j)) (dec (ltb j i))
+    where
+      -- the earlier place first
+      never : (i j : ℕ) → i < j → j < length d → sameEnds (segmentAt d i) (segmentAt d j) ≡ true → ⊥
+      never i j l h e = clash e (pairs-places (λ s t. sameEnds s t ≡ false) d nowhere distinct i (omega arith) (segmentAt d j) (in-after d nowhere i j l h))
+
+      go : (ltb i j ≡ true) ⊎ (ltb i j ≡ false) → (ltb j i ≡ true) ⊎ (ltb j i ≡ false) → i ≡ j
+      go (inl l) m = absurd (never i j (ltb-true i j l) hj e)
+      go (inr l) (inl m) = absurd (never j i (ltb-true j i m) hi (same-ends-sym (segmentAt d i) (segmentAt d j) e))
+      go (inr l) (inr m) = omega (arith, ltb-false i j l, ltb-false j i m)

@@ -1,0 +1,55 @@
+-- What the laws of the checks speak of: each refusal by itself, and what an accepted drawing has. Assumes nothing.
+use mathlib.Core.Path.{_≡_}
+use mathlib.Core.List.{List, []}
+use mathlib.Core.Bool.{Bool, true, false}
+use Prim.Native.Nat.{ℕ, suc, _<_, _≤_}
+use lib.ListN.{length}
+use lib.IntN.{ℤ, pos, natAbs}
+use lib.Signed.{_≤ℤ_}
+use Rattle.geom.specs.declared.Point.{Point}
+use Rattle.geom.specs.Points.{ltP}
+use Rattle.segm.specs.declared.Segment.{Segment}
+use Rattle.segm.specs.Lists.{_∈_, Pairs}
+use Rattle.segm.specs.Segments.{Drawing, count, segments, segmentAt}
+use Rattle.meetings.specs.Meetings.{meetsWrongly}
+use Rattle.checks.specs.Drawing.{endsInRange, rises, windingInRange, bitsInRange, balance, balances}
+use Rattle.checks.specs.Verdict.{Choice, Lent, Run, wrongLength, unknownChoice, tooShort, isAccepted, verdict}
+use Rattle.checks.specs.Runs.{clipRun}
+
+-- ---- the list of refusals: `Fits r number place`, each with nothing said of the others
+module _ (r : Run) where
+  abbrev d : Drawing
+  d = segments (r .numbers)
+
+  pub data Fits : ℕ → ℕ → Type 0 where
+    wrong-length : wrongLength (r .numbers) ≡ true → Fits 2 0
+    coordinate-out : (i : ℕ) → i < length d → endsInRange (segmentAt d i) ≡ false → Fits 3 i
+    not-rising : (i : ℕ) → i < length d → rises (segmentAt d i) ≡ false → Fits 4 i
+    winding-out : (i : ℕ) → i < length d → windingInRange (segmentAt d i) ≡ false → Fits 5 i
+    bits-out : (i : ℕ) → i < length d → bitsInRange (segmentAt d i) ≡ false → Fits 6 i
+    start-falls : (i : ℕ) → suc i < length d → ltP (segmentAt d (suc i) .a) (segmentAt d i .a) ≡ true → Fits 7 (suc i)
+    wrong-meeting : (i j : ℕ) → i < j → j < length d → meetsWrongly (segmentAt d i) (segmentAt d j) ≡ true → Fits 8 i
+    a-unbalanced : (i : ℕ) → i < length d → balances d (segmentAt d i .a) ≡ false → Fits 9 i
+    b-unbalanced : (i : ℕ) → i < length d → balances d (segmentAt d i .b) ≡ false → Fits 9 i
+    unknown-choice : (c : Choice) → c ∈ r .choices → unknownChoice c ≡ true → Fits 10 0
+    too-short : (l : Lent) → l ∈ r .lists → tooShort (count (r .numbers)) l ≡ true → Fits 11 0
+
+-- ---- accepted
+-- the input of a run alone: refusal 11 is from the state
+abbrev pub inputOf : Run → Run
+inputOf r = record { numbers = r .numbers; choices = r .choices; lists = [] }
+
+-- a drawing with its choices is accepted when no refusal from the input fits a clip run on it
+unfoldable pub accepts : List ℤ → ℤ → ℤ → ℤ → Bool
+accepts numbers rule invert boundary = isAccepted (verdict (inputOf (clipRun numbers rule invert boundary 0 0)))
+
+-- what an accepted drawing has
+pub record Good (d : Drawing) : Type 0 where
+  pub few : length d ≤ 1024
+  pub near : (s : Segment) → s ∈ d → endsInRange s ≡ true
+  pub proper : (s : Segment) → s ∈ d → ltP (s .a) (s .b) ≡ true
+  pub winding : (s : Segment) → s ∈ d → natAbs (s .winding) ≤ 1000
+  pub bits : (s : Segment) → s ∈ d → (pos 0 ≤ℤ s .bits) × (s .bits ≤ℤ pos 3)
+  pub rising : Pairs (λ s t. ltP (t .a) (s .a) ≡ false) d
+  pub apart : Pairs (λ s t. meetsWrongly s t ≡ false) d
+  pub balanced : (p : Point) → balance d p ≡ pos 0
