@@ -9,7 +9,7 @@ use Rattle.meetings.specs.Meetings.{side, parts, inside, sameEnds, meetsWrongly
 use Rattle.checks.specs.declared.Verdict.{Verdict}
 use Rattle.checks.specs.declared.Verdict.the-variants.{Accepted, Refused}
 use Rattle.checks.specs.Drawing.{endsInRange, rises, windingInRange, bitsInRange, fault, faultAt, meetingAt, balance, balances, unbalancedAt}
-use Rattle.checks.specs.Verdict.{wrongLength, unknownChoice, tooShort, firstFrom, first, drawingVerdict, inOrder, verdict}
+use Rattle.checks.specs.Verdict.{wrongLength, unknownChoice, tooShort, firstFrom, first, inOrder, verdict}
 use Rattle.checks.specs.Runs.{clipRun}
 
 -- a clip run under nonzero, inside, boundary included, with lists for two segments
@@ -48,5 +48,5 @@ pub record Cases : Type 0 where
   pub accepted : verdict (clipRun A (pos 1) (pos 0) (pos 1) 72 18) ≡ Accepted
 
 pub cases : Cases
-unfolding clipRun verdict inOrder drawingVerdict wrongLength unknownChoice tooShort first firstFrom faultAt meetingAt unbalancedAt fault endsInRange rises windingInRange bitsInRange balance balances meetsWrongly parts inside sameEnds side total any sum front segmentsOf count whole segments segmentAt eqZ within ltP eqP coordinate inRange cross between
+unfolding clipRun verdict inOrder wrongLength unknownChoice tooShort first firstFrom faultAt meetingAt unbalancedAt fault endsInRange rises windingInRange bitsInRange balance balances meetsWrongly parts inside sameEnds side total any sum front segmentsOf count whole segments segmentAt eqZ within ltP eqP coordinate inRange cross between
 cases = record { touching = refl; joined = refl; unbalanced = refl; on-the-limit = refl; past-the-limit = refl; nothing = refl; short = refl; accepted = refl }

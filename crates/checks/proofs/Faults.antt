@@ -38,10 +38,6 @@ faultless p s e =
     let e₆ = passed (bitsInRange s) 6 _ (omega arith) (e₅ .1) in
     record { ends = e₃ .0; order = e₄ .0; winding = e₅ .0; bits = e₆ .0; after = last (ltP (s .a) p) 7 (omega arith) (e₆ .1) }
 
-pub faultless-none : (p : Point) (s : Segment) → Faultless p s → fault p s ≡ 0
-unfolding fault
-faultless-none p s f = simp (f .ends, f .order, f .winding, f .bits, f .after)
-
 -- at a place
 pub faultless-at : (d : Drawing) (i : ℕ) → faultAt d i ≡ 0 → Faultless (segmentAt d (i - 1) .a) (segmentAt d i)
 unfolding faultAt

@@ -3,7 +3,7 @@ use mathlib.Core.Path.{_≡_, refl, sym, ap, subst, _∙_}
 use mathlib.Core.List.{List, [], _∷_}
 use mathlib.Core.Logic.{_⊎_, inl, inr}
 use mathlib.Core.Bool.{true, false, not, true≢false}
-use Prim.Native.Nat.{ℕ, zero, suc, _+_, _-_, _<_, _≤_}
+use Prim.Native.Nat.{ℕ, suc, _-_, _<_}
 use native.Mathlib.Omega.{arith}
 use lib.Dec.{ltb}
 use lib.ListN.{length, drop}
@@ -11,25 +11,25 @@ use lib.IntN.{ℤ, pos, _-ℤ_}
 use borrow.Author.Tests.{ltb-true, ltb-false}
 use Rattle.integers.proofs.Booleans.{dec, clash, nor-r}
 use Rattle.geom.specs.declared.Point.{Point}
-use Rattle.geom.specs.Points.{eqZ, ltP, eqP}
+use Rattle.geom.specs.Points.{ltP, eqP}
 use Rattle.geom.proofs.Points.{within-l, within-r, eqZ-true, eqP-true, not-less-trans}
 use Rattle.segm.specs.declared.Segment.{Segment}
 use Rattle.segm.specs.Lists.{_∈_, Pairs, any}
 use Rattle.segm.specs.Segments.{Drawing, count, whole, segments, nowhere, segmentAt}
-use Rattle.segm.proofs.Lists.{Stands, stands, pairs-of, pairs-map, pairs-places, in-after, any-false}
+use Rattle.segm.proofs.Lists.{stands, pairs-of, pairs-map, pairs-places, in-after, any-false}
 use Rattle.segm.proofs.Segments.{length-segments, total-none}
 use Rattle.meetings.specs.Meetings.{sameEnds, meetsWrongly}
 use Rattle.meetings.proofs.Apart.{apart-ends, same-ends-sym}
 use Rattle.checks.specs.declared.Verdict.{Verdict}
 use Rattle.checks.specs.declared.Verdict.the-variants.{Accepted, Refused}
 use Rattle.checks.specs.Drawing.{endsInRange, rises, bitsInRange, faultAt, meetingAt, balance, balances, unbalancedAt}
-use Rattle.checks.specs.Verdict.{Run, wrongLength, isAccepted, verdict}
+use Rattle.checks.specs.Verdict.{Choice, Lent, Run, wrongLength, unknownChoice, tooShort, isAccepted, verdict}
 use Rattle.checks.specs.Runs.{clipRun}
 use Rattle.checks.specs.Accepted.{Good, inputOf, accepts}
 use Rattle.checks.proofs.Faults.{Faultless, faultless-at, meetingless, balanced-at}
 use Rattle.checks.proofs.Balances.{winding-bound}
 use Rattle.checks.proofs.Places.{first-none}
-use Rattle.checks.proofs.Order.{Passed, passed}
+use Rattle.checks.proofs.Order.{Passed, passed, passes}
 
 is-accepted : (v : Verdict) → isAccepted v ≡ true → v ≡ Accepted
 is-accepted Accepted e = refl
@@ -128,6 +128,13 @@ module _ (numbers : List ℤ) (rule invert boundary : ℤ) (e : accepts numbers 
   pub accepted-good : Good (segments numbers)
   unfolding clipRun
   accepted-good = verdict-good _ accepted-input
+
+  -- any run on it is accepted, if its choices are known and its lists long enough
+  pub accepted-run : (choices : List Choice) (lists : List Lent) → any unknownChoice choices ≡ false → any (tooShort (count numbers)) lists ≡ false → verdict (record { numbers = numbers; choices = choices; lists = lists }) ≡ Accepted
+  unfolding clipRun
+  accepted-run choices lists known long =
+      let p = passed _ accepted-input in
+      passes _ (record { right-length = p .right-length; known = known; long = long; faultless = p .faultless; apart = p .apart; balanced = p .balanced })
 
 -- ---- in a good drawing two different places never have both ends equal
 module _ (d : Drawing) (g : Good d) where

@@ -1,27 +1,27 @@
 -- The outcome is a refusal from the list that fits, or acceptance; and it is acceptance exactly where none of the list fits.
 use mathlib.Core.Path.{_≡_, refl, sym, ap, subst, _∙_}
 use mathlib.Core.Logic.{_⊎_, inl, inr}
-use mathlib.Core.Bool.{Bool, true, false, not, cond, _&&_}
-use Prim.Native.Nat.{ℕ, zero, suc, _+_, _-_, _<_, _≤_}
+use mathlib.Core.Bool.{Bool, true, false, not, cond}
+use Prim.Native.Nat.{ℕ, zero, suc, _+_, _-_, _<_}
 use native.Mathlib.Omega.{arith}
 use lib.ListN.{length, drop, length-drop}
 use lib.Seq.{getD-drop}
-use Rattle.integers.proofs.Booleans.{dec, clash, both, is-false}
+use Rattle.integers.proofs.Booleans.{dec, clash}
 use Rattle.geom.specs.declared.Point.{Point}
 use Rattle.geom.specs.Points.{ltP}
 use Rattle.geom.proofs.Points.{ltP-irrefl}
 use Rattle.segm.specs.declared.Segment.{Segment}
 use Rattle.segm.specs.Lists.{_∈_, any}
 use Rattle.segm.specs.Segments.{Drawing, count, segments, nowhere, segmentAt}
-use Rattle.segm.proofs.Lists.{Stands, stands, in-at, any-some, any-false, in-after}
+use Rattle.segm.proofs.Lists.{stands, any-some, any-false, in-after}
 use Rattle.meetings.specs.Meetings.{meetsWrongly}
 use Rattle.checks.specs.declared.Verdict.{Verdict}
 use Rattle.checks.specs.declared.Verdict.the-variants.{Accepted, Refused}
 use Rattle.checks.specs.Drawing.{endsInRange, rises, windingInRange, bitsInRange, fault, faultAt, meetingAt, balances, unbalancedAt}
-use Rattle.checks.specs.Verdict.{Run, wrongLength, unknownChoice, tooShort, refuseIf, first, _then_, drawingVerdict, inOrder, verdict}
+use Rattle.checks.specs.Verdict.{Run, wrongLength, unknownChoice, tooShort, refuseIf, first, inOrder, verdict}
 use Rattle.checks.specs.Accepted.{Fits, wrong-length, coordinate-out, not-rising, winding-out, bits-out, start-falls, wrong-meeting, a-unbalanced, b-unbalanced, unknown-choice, too-short}
 use Rattle.checks.proofs.Faults.{Faultless, faultless-at, meetingless, balanced-at}
-use Rattle.checks.proofs.Places.{At, not-both, first-none, first-at}
+use Rattle.checks.proofs.Places.{At, first-none, first-at}
 use Rattle.checks.proofs.Order.{If, refused-if, refused-by, Passed, passed}
 
 -- ---- 3 to 7
@@ -100,7 +100,7 @@ module _ (r : Run) where
   at-zero b n number place i f = subst (λ (k : ℕ). Fits r number k) (i .place-is) (subst (λ (k : ℕ). Fits r k 0) (i .number-is) (f (i .holds)))
 
   pub refused-fits : (number place : ℕ) → verdict r ≡ Refused number place → Fits r number place
-  unfolding verdict inOrder drawingVerdict
+  unfolding verdict inOrder
   refused-fits number place e =
       refused-by (refuseIf 2 (wrongLength (r .numbers))) _ e (λ e. at-zero (wrongLength (r .numbers)) 2 number place (refused-if 2 _ number place e) wrong-length) (λ e.
       refused-by (refuseIf 10 (any unknownChoice (r .choices))) _ e (λ e. at-zero (any unknownChoice (r .choices)) 10 number place (refused-if 10 _ number place e) unknown) (λ e.

@@ -3,11 +3,11 @@ use mathlib.Core.Path.{_≡_, refl, sym, ap, _∙_}
 use mathlib.Core.Bool.{Bool, true, false}
 use Prim.Native.Nat.{ℕ}
 use Rattle.segm.specs.Lists.{any}
-use Rattle.segm.specs.Segments.{Drawing, count, segments}
+use Rattle.segm.specs.Segments.{count, segments}
 use Rattle.checks.specs.declared.Verdict.{Verdict}
 use Rattle.checks.specs.declared.Verdict.the-variants.{Accepted, Refused}
 use Rattle.checks.specs.Drawing.{faultAt, meetingAt, unbalancedAt}
-use Rattle.checks.specs.Verdict.{Run, wrongLength, unknownChoice, tooShort, refuseIf, first, _then_, drawingVerdict, inOrder, verdict}
+use Rattle.checks.specs.Verdict.{Run, wrongLength, unknownChoice, tooShort, refuseIf, first, _then_, inOrder, verdict}
 use Rattle.checks.proofs.Places.{not-both}
 
 -- a refusal stays
@@ -48,7 +48,7 @@ pub record Passed (r : Run) : Type 0 where
   pub balanced : first (unbalancedAt (segments (r .numbers))) (segments (r .numbers)) ≡ Accepted
 
 pub passed : (r : Run) → verdict r ≡ Accepted → Passed r
-unfolding verdict inOrder drawingVerdict
+unfolding verdict inOrder
 passed r e =
     let e₂ = accepted-then (refuseIf 2 (wrongLength (r .numbers))) _ e in
     let e₁₀ = accepted-then (refuseIf 10 (any unknownChoice (r .choices))) _ (e₂ .1) in
@@ -65,5 +65,5 @@ passed r e =
     }
 
 pub passes : (r : Run) → Passed r → verdict r ≡ Accepted
-unfolding verdict inOrder drawingVerdict
+unfolding verdict inOrder
 passes r p = simp (p .right-length, p .known, p .long, p .faultless, p .apart, p .balanced)

@@ -1,5 +1,5 @@
 -- The first place with a refusal: what it means that there is none, and that there is one.
-use mathlib.Core.Path.{_≡_, refl, sym, ap, subst, _∙_}
+use mathlib.Core.Path.{_≡_, sym, ap, _∙_}
 use mathlib.Core.Logic.{_⊎_, inl, inr}
 use mathlib.Core.Bool.{Bool, true, false, cond}
 use Prim.Native.Nat.{ℕ, zero, suc, _+_, _-_, _<_, _≤_}
@@ -10,7 +10,6 @@ use lib.ListN.{length}
 use borrow.Author.Tests.{eqb-true, eqb-false, eq-eqb, ne-eqb}
 use Rattle.integers.proofs.Booleans.{dec}
 use Rattle.segm.specs.Segments.{Drawing}
-use Rattle.checks.specs.declared.Verdict.{Verdict}
 use Rattle.checks.specs.declared.Verdict.the-variants.{Accepted, Refused}
 use Rattle.checks.specs.Verdict.{firstFrom, first}
 
@@ -49,13 +48,6 @@ module _ (f : ℕ → ℕ) where
       go (inl z) (suc k) h rest = ap f (omega arith) ∙ rest (sym (looked left i true z) ∙ e) k (omega arith)
       go (inr z) k h rest = not-both (sym (looked left i false z) ∙ e)
 
-  from-none : (left i : ℕ) → ((k : ℕ) → k < left → f (i + k) ≡ 0) → firstFrom f left i ≡ Accepted
-  unfolding firstFrom
-  from-none zero i h = refl
-  from-none (suc left) i h =
-      looked left i true (eq-eqb (f i) 0 (ap f (omega arith) ∙ h 0 (omega arith)))
-      ∙ from-none left (suc i) (λ k l. ap f (omega arith) ∙ h (suc k) (omega arith))
-
   -- what a refusal tells of its place
   pub record At (n number place : ℕ) : Type 0 where
     pub inside : place < n
@@ -79,10 +71,6 @@ module _ (f : ℕ → ℕ) (d : Drawing) where
   pub first-none : first f d ≡ Accepted → (i : ℕ) → i < length d → f i ≡ 0
   unfolding first
   first-none e i h = ap f (omega arith) ∙ none-from f (length d) 0 e i h
-
-  pub none-first : ((i : ℕ) → i < length d → f i ≡ 0) → first f d ≡ Accepted
-  unfolding first
-  none-first h = from-none f (length d) 0 (λ k l. ap f (omega arith) ∙ h k l)
 
   pub first-at : (number place : ℕ) → first f d ≡ Refused number place → At f (length d) number place
   unfolding first

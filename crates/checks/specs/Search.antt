@@ -19,6 +19,6 @@ numberAt Balance d = unbalancedAt d
 
 -- meetings and balance are looked at only where 3 to 7 found nothing
 abbrev pub Ready : Search → Drawing → Type 0
-Ready Faults d = length d ≤ 1024
+Ready Faults d = Unit {0}
 Ready Meetings d = Sound d
 Ready Balance d = Sound d

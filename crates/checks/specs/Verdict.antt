@@ -1,5 +1,5 @@
 -- The verdict on a run: the first refusal that fits it, in the order of the checks. Assumes nothing.
-use mathlib.Core.List.{List, [], _∷_}
+use mathlib.Core.List.{List}
 use mathlib.Core.Bool.{Bool, true, false, not, _||_, cond}
 use Prim.Native.Nat.{ℕ, zero, suc, _*_}
 use lib.Dec.{eqb, ltb}
@@ -59,13 +59,15 @@ abbrev pub _then_ : Verdict → Verdict → Verdict
 Accepted then v = v
 Refused number place then v = Refused number place
 
--- 3 to 7 by place, lowest number first within one; 8 by lower, then upper place; 9 by the lowest place
-unfoldable pub drawingVerdict : Drawing → Verdict
-drawingVerdict d = first (faultAt d) d then first (meetingAt d) d then first (unbalancedAt d) d
-
--- 2, 10, 11, and then the drawing's own
+-- 2, 10, 11; then 3 to 7 by place, lowest number first within one; 8 by lower, then upper place; 9 by the lowest place
 unfoldable pub inOrder : (isWrongLength isUnknown isTooShort : Bool) → Drawing → Verdict
-inOrder isWrongLength isUnknown isTooShort d = refuseIf 2 isWrongLength then refuseIf 10 isUnknown then refuseIf 11 isTooShort then drawingVerdict d
+inOrder isWrongLength isUnknown isTooShort d =
+    refuseIf 2 isWrongLength
+    then refuseIf 10 isUnknown
+    then refuseIf 11 isTooShort
+    then first (faultAt d) d
+    then first (meetingAt d) d
+    then first (unbalancedAt d) d
 
 unfoldable pub verdict : Run → Verdict
 verdict r =

@@ -3,15 +3,14 @@
 use geom::Point;
 use segm::Segment;
 ghost use mathlib.Core.Path.{_≡_};
-ghost use Prim.Native.Nat.{_*_, _-_, _<_, _≤_};
+ghost use Prim.Native.Nat.{_-_, _<_, _≤_};
 ghost use mathlib.Core.Bool.{true};
-ghost use lib.Dec.{ltb};
 ghost use lib.ListN.{length, drop};
 ghost use Rattle.segm.specs.Lists.{any, only};
-ghost use Rattle.segm.specs.Segments.{count, segments, segmentAt};
+ghost use Rattle.segm.specs.Segments.{segments};
 ghost use Rattle.meetings.specs.Meetings.{Proper, meetsWrongly};
 ghost use Rattle.checks.specs.Drawing.{windingInRange, fault, faultAt, meetingAt, share, balance, unbalancedAt};
-ghost use Rattle.checks.specs.Verdict.{wrongLength, unknownChoice, tooShort, first, drawingVerdict, inOrder, verdict};
+ghost use Rattle.checks.specs.Verdict.{wrongLength, unknownChoice, tooShort, first, inOrder, verdict};
 ghost use Rattle.checks.specs.Runs.{ruleChoice, flagChoice, lent, fillsRun, clipRun, sliceRun};
 ghost use Rattle.checks.specs.Search.{Sound, Ready, numberAt};
 
@@ -141,7 +140,7 @@ fn unbalanced_at(s: &[i32], i: usize) -> u32
 }
 
 // The refusals that are searched for by place.
-pub enum Search {
+enum Search {
     Faults,
     Meetings,
     Balance,
@@ -176,22 +175,6 @@ fn find_first(search: Search, s: &[i32]) -> Verdict
     Verdict::Accepted
 }
 
-// Refusals 3 to 9.
-fn drawing_verdict(s: &[i32]) -> Verdict
-    requires { ⌜ count (now s) ≤ 1024 ⌝ }
-    ensures { λ r. ⌜ r ≡ drawingVerdict (segments (now (s .entry))) ⌝ }
-{
-    let faults = find_first(Search::Faults, s);
-    let Verdict::Accepted = faults else {
-        return faults;
-    };
-    let meetings = find_first(Search::Meetings, s);
-    let Verdict::Accepted = meetings else {
-        return meetings;
-    };
-    find_first(Search::Balance, s)
-}
-
 // Every refusal in its order, of which 10 and 11 have been tried.
 fn in_order(s: &[i32], unknown: bool, short: bool) -> Verdict
     ensures { λ r. ⌜ r ≡ inOrder (wrongLength (now (s .entry))) unknown short (segments (now (s .entry))) ⌝ }
@@ -208,7 +191,15 @@ fn in_order(s: &[i32], unknown: bool, short: bool) -> Verdict
     if short {
         return Verdict::Refused(11, 0);
     }
-    drawing_verdict(s)
+    let faults = find_first(Search::Faults, s);
+    let Verdict::Accepted = faults else {
+        return faults;
+    };
+    let meetings = find_first(Search::Meetings, s);
+    let Verdict::Accepted = meetings else {
+        return meetings;
+    };
+    find_first(Search::Balance, s)
 }
 
 // Whether a rule is none of 0 to 3.

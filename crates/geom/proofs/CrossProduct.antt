@@ -2,7 +2,7 @@
 use mathlib.Core.Path.{_≡_, sym, subst}
 use mathlib.Core.Logic.{inl, inr}
 use mathlib.Core.Bool.{true}
-use lib.IntN.{ℤ, pos, negℤ, _+ℤ_, *ℤ-zero}
+use lib.IntN.{pos, negℤ, _+ℤ_, *ℤ-zero}
 use lib.Signed.{_≤ℤ_, _<ℤ_}
 use Rattle.integers.proofs.Linear.{ints, of-neg, of-pos}
 use Rattle.integers.proofs.Order.{positive, lt-le, mul-nonneg, sub-nonneg}

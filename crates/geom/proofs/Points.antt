@@ -1,5 +1,5 @@
 -- What the tests of `Points` tell, and the order of points: total, transitive, antisymmetric.
-use mathlib.Core.Path.{_≡_, refl, sym, _∙_, ap, subst}
+use mathlib.Core.Path.{_≡_, ap, subst}
 use mathlib.Core.Logic.{_⊎_, inl, inr}
 use mathlib.Core.Bool.{true, false, _&&_}
 use Prim.Native.Nat.{_≤_, _<_, _^_}

@@ -1,7 +1,8 @@
 -- Booleans: what a conjunction, a disjunction or a negation tells of its parts.
 use mathlib.Core.Path.{_≡_, refl, sym, _∙_, ap}
 use mathlib.Core.Logic.{_⊎_, inl, inr}
-use mathlib.Core.Bool.{Bool, true, false, not, _&&_, _||_, true≢false, Bool·not-not}
+use lib.Dec.{T}
+use mathlib.Core.Bool.{Bool, true, false, _&&_, _||_, true≢false}
 
 pub dec : (b : Bool) → (b ≡ true) ⊎ (b ≡ false)
 dec true = inl refl
@@ -58,19 +59,13 @@ one-of false b e = inr e
 pub clash : {b : Bool} → b ≡ true → b ≡ false → ⊥
 clash p q = true≢false (sym p ∙ q)
 
-pub is-true : (a : Bool) → (a ≡ false → ⊥) → a ≡ true
-is-true true f = refl
-is-true false f = absurd (f refl)
+pub is-T : (a : Bool) → T a → a ≡ true
+is-T true t = refl
+is-T false t = absurd t
 
 pub is-false : (a : Bool) → (a ≡ true → ⊥) → a ≡ false
 is-false true f = absurd (f refl)
 is-false false f = refl
-
-pub not-false : {b : Bool} → not b ≡ true → b ≡ false
-not-false {b} e = sym (Bool·not-not b) ∙ ap not e
-
-pub not-true : {b : Bool} → not b ≡ false → b ≡ true
-not-true {b} e = sym (Bool·not-not b) ∙ ap not e
 
 -- two tests that imply one another
 pub same-test : (a b : Bool) → (a ≡ true → b ≡ true) → (b ≡ true → a ≡ true) → a ≡ b

@@ -1,9 +1,9 @@
 -- Laws of the integers, each by the bridge to ℕ.
 use mathlib.Core.Path.{_≡_}
 use native.Mathlib.Omega.{arith}
-use lib.IntN.{ℤ, negℤ, _+ℤ_, _-ℤ_, _*ℤ_}
+use lib.IntN.{ℤ, _+ℤ_, _*ℤ_}
 use lib.Signed.{_≤ℤ_, _<ℤ_}
-use Rattle.integers.proofs.Difference.{to-ℕ, all2, all3, all4}
+use Rattle.integers.proofs.Difference.{to-ℕ, all2, all3}
 
 pub *ℤ-assoc : (a b c : ℤ) → (a *ℤ b) *ℤ c ≡ a *ℤ (b *ℤ c)
 *ℤ-assoc = all3 _ (λ _ _ _ _ _ _. simp to-ℕ (omega arith))
@@ -14,18 +14,6 @@ pub +ℤ-*ℤ : (a b c : ℤ) → (a +ℤ b) *ℤ c ≡ a *ℤ c +ℤ b *ℤ c
 pub *ℤ-+ℤ : (a b c : ℤ) → a *ℤ (b +ℤ c) ≡ a *ℤ b +ℤ a *ℤ c
 *ℤ-+ℤ = all3 _ (λ _ _ _ _ _ _. simp to-ℕ (omega arith))
 
-pub negℤ-*ℤ : (a b : ℤ) → negℤ a *ℤ b ≡ negℤ (a *ℤ b)
-negℤ-*ℤ = all2 _ (λ _ _ _ _. simp to-ℕ (omega arith))
-
-pub *ℤ-negℤ : (a b : ℤ) → a *ℤ negℤ b ≡ negℤ (a *ℤ b)
-*ℤ-negℤ = all2 _ (λ _ _ _ _. simp to-ℕ (omega arith))
-
-pub ≤ℤ-trans : (a b c : ℤ) → a ≤ℤ b → b ≤ℤ c → a ≤ℤ c
-≤ℤ-trans = all3 _ (λ _ _ _ _ _ _. simp to-ℕ (omega arith))
-
-pub <ℤ-trans : (a b c : ℤ) → a <ℤ b → b <ℤ c → a <ℤ c
-<ℤ-trans = all3 _ (λ _ _ _ _ _ _. simp to-ℕ (omega arith))
-
 pub ≤ℤ-antisym : (a b : ℤ) → a ≤ℤ b → b ≤ℤ a → a ≡ b
 ≤ℤ-antisym = all2 _ (λ _ _ _ _. simp to-ℕ (omega arith))
 
@@ -34,15 +22,3 @@ pub <ℤ-not-≤ℤ : (a b : ℤ) → a <ℤ b → b ≤ℤ a → ⊥
 
 pub <ℤ-≤ℤ : (a b : ℤ) → a <ℤ b → a ≤ℤ b
 <ℤ-≤ℤ = all2 _ (λ _ _ _ _. simp to-ℕ (omega arith))
-
-pub +ℤ-mono : (a b c d : ℤ) → a ≤ℤ b → c ≤ℤ d → (a +ℤ c) ≤ℤ (b +ℤ d)
-+ℤ-mono = all4 _ (λ _ _ _ _ _ _ _ _. simp to-ℕ (omega arith))
-
-pub +ℤ-mono-< : (a b c d : ℤ) → a <ℤ b → c ≤ℤ d → (a +ℤ c) <ℤ (b +ℤ d)
-+ℤ-mono-< = all4 _ (λ _ _ _ _ _ _ _ _. simp to-ℕ (omega arith))
-
-pub negℤ-mono : (a b : ℤ) → a ≤ℤ b → negℤ b ≤ℤ negℤ a
-negℤ-mono = all2 _ (λ _ _ _ _. simp to-ℕ (omega arith))
-
-pub negℤ-mono-< : (a b : ℤ) → a <ℤ b → negℤ b <ℤ negℤ a
-negℤ-mono-< = all2 _ (λ _ _ _ _. simp to-ℕ (omega arith))

@@ -1,16 +1,17 @@
 -- The order of the integers with its products, the tests that decide it, and magnitudes.
-use mathlib.Core.Path.{_≡_, refl, sym, _∙_, ap, subst}
+use mathlib.Core.Path.{_≡_, refl, sym, _∙_, subst}
 use mathlib.Core.Logic.{_↔_, _⊎_, inl, inr, ⊎-elim}
 use mathlib.Core.Bool.{Bool, true, false, not}
 use Prim.Native.Nat.{ℕ, zero, suc, _+_, _*_, _^_, _<_, _≤_, zero-le}
 use native.Mathlib.Nat as N
 use native.Mathlib.Omega.{arith}
-use lib.Dec.{T, ltb, leb, ltb→lt, lt→ltb, leb→le, le→leb}
-use lib.IntN.{ℤ, pos, negsuc, negℤ, _+ℤ_, _-ℤ_, _*ℤ_, natAbs}
+use lib.Dec.{T, lt→ltb, le→leb}
+use lib.IntN.{ℤ, pos, negsuc, negℤ, _+ℤ_, _-ℤ_, _*ℤ_, natAbs, *ℤ-zero}
 use lib.Signed.{ltZ, leZ, mag, _≤ℤ_, _<ℤ_, leZ-yes, ltZ-yes, ltZ-no, ≤ℤ-refl}
 use mir.Syntax.{Width}
 use mir.Val.{SFits, hbits}
-use Rattle.integers.proofs.Difference.{_⊖_, to-ℕ, pos-⊖, all1, all2, all3, all4}
+use Rattle.integers.proofs.Booleans.{clash, is-T, is-false}
+use Rattle.integers.proofs.Difference.{to-ℕ, all1, all2}
 use Rattle.integers.proofs.Laws.{<ℤ-not-≤ℤ, <ℤ-≤ℤ, ≤ℤ-antisym}
 
 -- ---- the tests
@@ -21,40 +22,29 @@ order a b = go (ltZ a b) refl
     go true e = inl (ltZ-yes (subst T (sym e) tt))
     go false e = inr (ltZ-no (subst (λ (t : Bool). T (not t)) (sym e) tt))
 
-pub ≤ℤ-total : (a b : ℤ) → (a ≤ℤ b) ⊎ (b ≤ℤ a)
-≤ℤ-total a b = ⊎-elim (λ h. inl (<ℤ-≤ℤ a b h)) inr (order a b)
-
 pub ltZ-true : {a b : ℤ} → ltZ a b ≡ true → a <ℤ b
 ltZ-true e = ltZ-yes (subst T (sym e) tt)
 
 pub ltZ-false : {a b : ℤ} → ltZ a b ≡ false → b ≤ℤ a
 ltZ-false e = ltZ-no (subst (λ (t : Bool). T (not t)) (sym e) tt)
 
-is-true : (t : Bool) → T t → t ≡ true
-is-true true h = refl
-is-true false h = absurd h
-
-is-false : (t : Bool) → (T t → ⊥) → t ≡ false
-is-false true h = absurd (h tt)
-is-false false h = refl
-
-pub lt-ltZ : {a b : ℤ} → a <ℤ b → ltZ a b ≡ true
-lt-ltZ {a} {b} h = is-true (ltZ a b) (h .lt)
-
-pub le-ltZ : {a b : ℤ} → b ≤ℤ a → ltZ a b ≡ false
-le-ltZ {a} {b} h = is-false (ltZ a b) (λ t. <ℤ-not-≤ℤ a b (ltZ-yes t) h)
-
-pub le-leZ : {a b : ℤ} → a ≤ℤ b → leZ a b ≡ true
-le-leZ {a} {b} h = is-true (leZ a b) (h .le)
-
-pub lt-leZ : {a b : ℤ} → b <ℤ a → leZ a b ≡ false
-lt-leZ {a} {b} h = is-false (leZ a b) (λ t. <ℤ-not-≤ℤ b a h (leZ-yes t))
-
 pub leZ-true : {a b : ℤ} → leZ a b ≡ true → a ≤ℤ b
 leZ-true e = leZ-yes (subst T (sym e) tt)
 
+pub lt-ltZ : {a b : ℤ} → a <ℤ b → ltZ a b ≡ true
+lt-ltZ {a} {b} h = is-T (ltZ a b) (h .lt)
+
+pub le-ltZ : {a b : ℤ} → b ≤ℤ a → ltZ a b ≡ false
+le-ltZ {a} {b} h = is-false (ltZ a b) (λ e. <ℤ-not-≤ℤ a b (ltZ-true e) h)
+
+pub le-leZ : {a b : ℤ} → a ≤ℤ b → leZ a b ≡ true
+le-leZ {a} {b} h = is-T (leZ a b) (h .le)
+
+pub lt-leZ : {a b : ℤ} → b <ℤ a → leZ a b ≡ false
+lt-leZ {a} {b} h = is-false (leZ a b) (λ e. <ℤ-not-≤ℤ b a h (leZ-true e))
+
 pub leZ-false : {a b : ℤ} → leZ a b ≡ false → b <ℤ a
-leZ-false {a} {b} e = ⊎-elim (λ h. h) (λ h. absurd (subst T (sym (le-leZ h) ∙ e) tt)) (order b a)
+leZ-false {a} {b} e = ⊎-elim (λ h. h) (λ h. absurd (clash (le-leZ h) e)) (order b a)
 
 -- ---- signs: what is positive is a natural's successor
 pub pos-cases : (S : ℤ → Type 0) → ((n : ℕ) → S (pos (suc n))) → (a : ℤ) → pos 0 <ℤ a → S a
@@ -127,36 +117,15 @@ lt-le {a} {b} = <ℤ-≤ℤ a b
 
 pub ruleset positive = (mul-pos, add-pos, sub-pos, mul-nonneg, add-nonneg, add-pos-l, sub-nonneg, lt-le)
 
-times-zero : (k : ℤ) → k *ℤ pos 0 ≡ pos 0
-times-zero = all1 _ (λ _ _. simp to-ℕ (omega arith))
-
 -- v * e is r, and v and r are positive: so is e. The equation is `ring`'s, the two others are `search positive`'s
 pub pos-by : {v e r : ℤ} → v *ℤ e ≡ r → pos 0 <ℤ v → pos 0 <ℤ r → pos 0 <ℤ e
-pos-by {v} {e} {r} q hv hr = *-cancel-< v (lt-le hv) (pos 0) e (subst (λ z. z <ℤ (v *ℤ e)) (sym (times-zero v)) (subst (λ z. pos 0 <ℤ z) (sym q) hr))
-
-pub nonneg-by : {v e r : ℤ} → v *ℤ e ≡ r → pos 0 <ℤ v → pos 0 ≤ℤ r → pos 0 ≤ℤ e
-nonneg-by {v} {e} {r} q hv hr = *-cancel-≤ v hv (pos 0) e (subst (λ z. z ≤ℤ (v *ℤ e)) (sym (times-zero v)) (subst (λ z. pos 0 ≤ℤ z) (sym q) hr))
+pos-by {v} {e} {r} q hv hr = *-cancel-< v (lt-le hv) (pos 0) e (subst (λ z. z <ℤ (v *ℤ e)) (sym (*ℤ-zero v)) (subst (λ z. pos 0 <ℤ z) (sym q) hr))
 
 pub zero-by : {v e r : ℤ} → v *ℤ e ≡ r → pos 0 <ℤ v → r ≡ pos 0 → e ≡ pos 0
 zero-by {v} {e} {r} q hv hr =
-    let z : v *ℤ e ≡ v *ℤ pos 0 = q ∙ hr ∙ sym (times-zero v) in
+    let z : v *ℤ e ≡ v *ℤ pos 0 = q ∙ hr ∙ sym (*ℤ-zero v) in
     ≤ℤ-antisym e (pos 0) (*-cancel-≤ v hv e (pos 0) (subst (λ x. (v *ℤ e) ≤ℤ x) z (≤ℤ-refl (v *ℤ e))))
     (*-cancel-≤ v hv (pos 0) e (subst (λ x. x ≤ℤ (v *ℤ e)) z (≤ℤ-refl (v *ℤ e))))
-
--- a product is 0 only where a factor is
-pub zero-product : (a b : ℤ) → a *ℤ b ≡ pos 0 → (a ≡ pos 0) ⊎ (b ≡ pos 0)
-zero-product a b e = go (order (pos 0) a) (order a (pos 0))
-  where
-    negs : (a b : ℤ) → a *ℤ b ≡ pos 0 → negℤ a *ℤ b ≡ pos 0
-    negs = all2 _ (λ _ _ _ _. simp to-ℕ (omega arith))
-
-    neg-pos : (a : ℤ) → a <ℤ pos 0 → pos 0 <ℤ negℤ a
-    neg-pos = all1 _ (λ _ _. simp to-ℕ (omega arith))
-
-    go : (pos 0 <ℤ a) ⊎ (a ≤ℤ pos 0) → (a <ℤ pos 0) ⊎ (pos 0 ≤ℤ a) → (a ≡ pos 0) ⊎ (b ≡ pos 0)
-    go (inl h) k = inr (zero-by {v = a} e h refl)
-    go (inr h) (inl k) = inr (zero-by {v = negℤ a} (negs a b e) (neg-pos a k) refl)
-    go (inr h) (inr k) = inl (≤ℤ-antisym a (pos 0) h k)
 
 -- ---- magnitudes
 abs-≤′ : (n : ℕ) (z : ℤ) → (natAbs z ≤ n) ↔ ((negℤ (pos n) ≤ℤ z) × (z ≤ℤ pos n))
@@ -170,9 +139,6 @@ abs-+ = all2 _ (λ _ _ _ _. simp to-ℕ (omega arith))
 
 pub abs-- : (a b : ℤ) → natAbs (a -ℤ b) ≤ natAbs a + natAbs b
 abs-- = all2 _ (λ _ _ _ _. simp to-ℕ (omega arith))
-
-pub abs-neg : (a : ℤ) → natAbs (negℤ a) ≡ natAbs a
-abs-neg = all1 _ (λ _ _. simp to-ℕ (omega arith))
 
 neg-abs : (n : ℕ) → natAbs (negℤ (pos n)) ≡ n
 neg-abs zero = refl

@@ -1,12 +1,12 @@
 -- Identities of polynomials over ℤ, by computation: `ring8 (λ ax ay .. . lhs ≐ rhs) tt` proves lhs ≡ rhs of any eight integers.
 -- An expression is expanded to a sorted list of monomials with integer coefficients, and the two sides are equal if that of their difference is empty.
-use mathlib.Core.Path.{_≡_, refl, sym, _∙_, ap, ap₂, subst}
+use mathlib.Core.Path.{_≡_, refl, sym, _∙_, ap, ap₂}
 use mathlib.Core.List.{List, [], _∷_}
 use mathlib.Core.Bool.{Bool, true, false}
 use Prim.Native.Nat.{ℕ, zero, suc, compare, Ordering, Ordering·lt, Ordering·eq, Ordering·gt}
 use native.Mathlib.Omega.{arith}
 use lib.Dec.{T, isEq, eqb, eqb→eq}
-use lib.IntN.{ℤ, pos, negsuc, negℤ, _+ℤ_, _-ℤ_, _*ℤ_, +ℤ-assoc, +ℤ-comm, +ℤ-idl, +ℤ-idr, *ℤ-comm, *ℤ-zero, zero-*ℤ}
+use lib.IntN.{ℤ, pos, negsuc, negℤ, _+ℤ_, _-ℤ_, _*ℤ_, +ℤ-assoc, +ℤ-idl, *ℤ-zero, zero-*ℤ}
 use Rattle.integers.proofs.Difference.{to-ℕ, all1, all2, all3, all4}
 use Rattle.integers.proofs.Laws.{*ℤ-assoc, +ℤ-*ℤ, *ℤ-+ℤ}
 
@@ -135,7 +135,7 @@ a-swap* : (a b p : ℤ) → b *ℤ (a *ℤ p) ≡ a *ℤ (b *ℤ p)
 a-swap* = all3 _ (λ _ _ _ _ _ _. simp to-ℕ (omega arith))
 
 a-scale : (c d x y q : ℤ) → (c *ℤ d) *ℤ (x *ℤ y) +ℤ (c *ℤ x) *ℤ q ≡ (c *ℤ x) *ℤ (d *ℤ y +ℤ q)
-a-scale c d x y q = simp (*ℤ-+ℤ, *ℤ-assoc, *ℤ-comm, a-swap*)
+a-scale c d x y q = simp (*ℤ-+ℤ, *ℤ-assoc, a-swap*)
 
 a-one : (x : ℤ) → pos 1 *ℤ (x *ℤ pos 1) +ℤ pos 0 ≡ x
 a-one = all1 _ (λ _ _. simp to-ℕ (omega arith))

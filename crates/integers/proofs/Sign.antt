@@ -4,8 +4,8 @@ use mathlib.Core.Path.{_≡_}
 use mathlib.Core.List.{List, [], _∷_}
 use lib.Dec.{T}
 use lib.IntN.{ℤ, pos}
-use lib.Signed.{_<ℤ_, _≤ℤ_}
-use Rattle.integers.proofs.Order.{pos-by, nonneg-by, zero-by}
+use lib.Signed.{_<ℤ_}
+use Rattle.integers.proofs.Order.{pos-by, zero-by}
 use Rattle.integers.proofs.Ring.{E, var, _⊠_, _≐_, val, holds, ring}
 
 infix 5 _⊛_≑_
@@ -18,35 +18,17 @@ right (v ⊛ e ≑ r) = T (holds ((v ⊠ e) ≐ r))
 abbrev pub Pos : Cert → List ℤ → Type 0
 Pos (v ⊛ e ≑ r) ρ = pos 0 <ℤ val v ρ → pos 0 <ℤ val r ρ → pos 0 <ℤ val e ρ
 
-abbrev pub NonNeg : Cert → List ℤ → Type 0
-NonNeg (v ⊛ e ≑ r) ρ = pos 0 <ℤ val v ρ → pos 0 ≤ℤ val r ρ → pos 0 ≤ℤ val e ρ
-
 abbrev pub Zero : Cert → List ℤ → Type 0
 Zero (v ⊛ e ≑ r) ρ = pos 0 <ℤ val v ρ → val r ρ ≡ pos 0 → val e ρ ≡ pos 0
 
 pub pos-ring : (q : Cert) → right q → (ρ : List ℤ) → Pos q ρ
 pos-ring (v ⊛ e ≑ r) t ρ = pos-by {v = val v ρ} (ring ((v ⊠ e) ≐ r) t ρ)
 
-pub nonneg-ring : (q : Cert) → right q → (ρ : List ℤ) → NonNeg q ρ
-nonneg-ring (v ⊛ e ≑ r) t ρ = nonneg-by {v = val v ρ} (ring ((v ⊠ e) ≐ r) t ρ)
-
 pub zero-ring : (q : Cert) → right q → (ρ : List ℤ) → Zero q ρ
 zero-ring (v ⊛ e ≑ r) t ρ = zero-by {v = val v ρ} (ring ((v ⊠ e) ≐ r) t ρ)
 
-pub pos-ring6 : (q : E → E → E → E → E → E → Cert) → right (q (var 0) (var 1) (var 2) (var 3) (var 4) (var 5)) → (a b c d e f : ℤ) → Pos (q (var 0) (var 1) (var 2) (var 3) (var 4) (var 5)) (a ∷ b ∷ c ∷ d ∷ e ∷ f ∷ [])
-pos-ring6 q t a b c d e f = pos-ring (q (var 0) (var 1) (var 2) (var 3) (var 4) (var 5)) t (a ∷ b ∷ c ∷ d ∷ e ∷ f ∷ [])
-
 pub pos-ring8 : (q : E → E → E → E → E → E → E → E → Cert) → right (q (var 0) (var 1) (var 2) (var 3) (var 4) (var 5) (var 6) (var 7)) → (a b c d e f g h : ℤ) → Pos (q (var 0) (var 1) (var 2) (var 3) (var 4) (var 5) (var 6) (var 7)) (a ∷ b ∷ c ∷ d ∷ e ∷ f ∷ g ∷ h ∷ [])
 pos-ring8 q t a b c d e f g h = pos-ring (q (var 0) (var 1) (var 2) (var 3) (var 4) (var 5) (var 6) (var 7)) t (a ∷ b ∷ c ∷ d ∷ e ∷ f ∷ g ∷ h ∷ [])
-
-pub nonneg-ring6 : (q : E → E → E → E → E → E → Cert) → right (q (var 0) (var 1) (var 2) (var 3) (var 4) (var 5)) → (a b c d e f : ℤ) → NonNeg (q (var 0) (var 1) (var 2) (var 3) (var 4) (var 5)) (a ∷ b ∷ c ∷ d ∷ e ∷ f ∷ [])
-nonneg-ring6 q t a b c d e f = nonneg-ring (q (var 0) (var 1) (var 2) (var 3) (var 4) (var 5)) t (a ∷ b ∷ c ∷ d ∷ e ∷ f ∷ [])
-
-pub nonneg-ring8 : (q : E → E → E → E → E → E → E → E → Cert) → right (q (var 0) (var 1) (var 2) (var 3) (var 4) (var 5) (var 6) (var 7)) → (a b c d e f g h : ℤ) → NonNeg (q (var 0) (var 1) (var 2) (var 3) (var 4) (var 5) (var 6) (var 7)) (a ∷ b ∷ c ∷ d ∷ e ∷ f ∷ g ∷ h ∷ [])
-nonneg-ring8 q t a b c d e f g h = nonneg-ring (q (var 0) (var 1) (var 2) (var 3) (var 4) (var 5) (var 6) (var 7)) t (a ∷ b ∷ c ∷ d ∷ e ∷ f ∷ g ∷ h ∷ [])
-
-pub zero-ring6 : (q : E → E → E → E → E → E → Cert) → right (q (var 0) (var 1) (var 2) (var 3) (var 4) (var 5)) → (a b c d e f : ℤ) → Zero (q (var 0) (var 1) (var 2) (var 3) (var 4) (var 5)) (a ∷ b ∷ c ∷ d ∷ e ∷ f ∷ [])
-zero-ring6 q t a b c d e f = zero-ring (q (var 0) (var 1) (var 2) (var 3) (var 4) (var 5)) t (a ∷ b ∷ c ∷ d ∷ e ∷ f ∷ [])
 
 pub zero-ring8 : (q : E → E → E → E → E → E → E → E → Cert) → right (q (var 0) (var 1) (var 2) (var 3) (var 4) (var 5) (var 6) (var 7)) → (a b c d e f g h : ℤ) → Zero (q (var 0) (var 1) (var 2) (var 3) (var 4) (var 5) (var 6) (var 7)) (a ∷ b ∷ c ∷ d ∷ e ∷ f ∷ g ∷ h ∷ [])
 zero-ring8 q t a b c d e f g h = zero-ring (q (var 0) (var 1) (var 2) (var 3) (var 4) (var 5) (var 6) (var 7)) t (a ∷ b ∷ c ∷ d ∷ e ∷ f ∷ g ∷ h ∷ [])

@@ -1,5 +1,5 @@
 -- Laws of lists, members, places and sums: each once, for any list and any summand.
-use mathlib.Core.Path.{_≡_, refl, sym, _∙_, ap, ap₂, subst}
+use mathlib.Core.Path.{_≡_, refl, sym, _∙_, ap, ap₂}
 use mathlib.Core.List.{List, [], _∷_, _++_}
 use mathlib.Core.Logic.{_⊎_, inl, inr}
 use mathlib.Core.Bool.{Bool, true, false, _||_, true≢false}
@@ -9,12 +9,19 @@ use lib.ListN.{length, getD, take, drop}
 use native.Mathlib.Numerals.{add-one}
 use lib.Seq.{take-suc, drop-cons}
 use lib.IntN.{ℤ, pos, _+ℤ_, _-ℤ_, +ℤ-idl, +ℤ-idr, +ℤ-assoc}
-use Rattle.integers.proofs.Booleans.{nor-l, nor-r, neither, or-l, or-r, one-of}
-use Rattle.integers.proofs.Ring.{_⊞_, _⊟_, _≐_, ring4, ring2}
+use Rattle.integers.proofs.Booleans.{nor-l, nor-r, one-of}
+use Rattle.integers.proofs.Linear.{ints, of-+}
+use Rattle.integers.proofs.Ring.{_⊞_, _⊟_, _≐_, ring4}
 use Rattle.segm.specs.Lists.{_∈_, Pairs, any, sum}
 
 four- : (a b c d : ℤ) → (a -ℤ b) +ℤ (c -ℤ d) ≡ (a +ℤ c) -ℤ (b +ℤ d)
 four- = ring4 (λ a b c d. (a ⊟ b) ⊞ (c ⊟ d) ≐ (a ⊞ c) ⊟ (b ⊞ d)) tt
+
+four : (a b c d : ℤ) → (a +ℤ b) +ℤ (c +ℤ d) ≡ (a +ℤ c) +ℤ (b +ℤ d)
+four = ring4 (λ a b c d. (a ⊞ b) ⊞ (c ⊞ d) ≐ (a ⊞ c) ⊞ (b ⊞ d)) tt
+
+cancel : (a b c d : ℤ) → a +ℤ b ≡ c +ℤ d → b ≡ d → a ≡ c
+cancel a b c d e q = omega (ints, of-+ a b, of-+ c d)
 
 -- ---- members and places
 module _ {A : Type 0} where
@@ -62,11 +69,6 @@ module _ {A : Type 0} where
   any-false P (y ∷ l) e x (inl q) = ap P q ∙ nor-l (P y) (any P l) e
   any-false P (y ∷ l) e x (inr m) = any-false P l (nor-r (P y) (any P l) e) x m
 
-  pub any-none : (P : A → Bool) (l : List A) → ((x : A) → x ∈ l → P x ≡ false) → any P l ≡ false
-  unfolding any
-  any-none P [] h = refl
-  any-none P (y ∷ l) h = neither (h y (inl refl)) (any-none P l (λ x m. h x (inr m)))
-
   -- the member that passes
   pub record Some (P : A → Bool) (l : List A) : Type 0 where
     pub member : A
@@ -112,3 +114,16 @@ module _ {A : Type 0} where
   unfolding sum
   sum-- f g [] = refl
   sum-- f g (x ∷ l) = ap (λ z. (f x -ℤ g x) +ℤ z) (sum-- f g l) ∙ four- (f x) (g x) (sum f l) (sum g l)
+
+  pub sum-+ : (f g : A → ℤ) (l : List A) → sum (λ x. f x +ℤ g x) l ≡ sum f l +ℤ sum g l
+  unfolding sum
+  sum-+ f g [] = refl
+  sum-+ f g (x ∷ l) = ap (λ z. (f x +ℤ g x) +ℤ z) (sum-+ f g l) ∙ four (f x) (g x) (sum f l) (sum g l)
+
+  -- f = g + k at every member
+  pub sum-split : (f g k : A → ℤ) (l : List A) → ((x : A) → x ∈ l → f x ≡ g x +ℤ k x) → sum f l ≡ sum g l +ℤ sum k l
+  sum-split f g k l h = sum-cong l h ∙ sum-+ g k l
+
+  -- f + g = f′ + g′ at every member, and the sums of g and g′ are equal: so are those of f and f′
+  pub sum-trade : (f g f′ g′ : A → ℤ) (l : List A) → ((x : A) → x ∈ l → f x +ℤ g x ≡ f′ x +ℤ g′ x) → sum g l ≡ sum g′ l → sum f l ≡ sum f′ l
+  sum-trade f g f′ g′ l h e = cancel (sum f l) (sum g l) (sum f′ l) (sum g′ l) (sym (sum-+ f g l) ∙ sum-cong l h ∙ sum-+ f′ g′ l) e

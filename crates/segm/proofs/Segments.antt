@@ -1,16 +1,16 @@
 -- Segments by place, and what a sum of windings depends on.
-use mathlib.Core.Path.{_≡_, refl, sym, _∙_, ap, subst}
-use mathlib.Core.List.{List, []}
+use mathlib.Core.Path.{_≡_, refl, _∙_, ap}
+use mathlib.Core.List.{List, _++_}
 use mathlib.Core.Bool.{Bool, false}
 use Prim.Native.Nat.{ℕ, zero, suc, _+_, _*_, _<_, _≤_}
 use native.Mathlib.Omega.{arith}
 use lib.ListN.{length, getD, drop, List·getD-eq-default}
 use lib.Seq.{drop-drop, getD-drop}
-use lib.IntN.{ℤ, pos}
+use lib.IntN.{ℤ, pos, _+ℤ_}
 use Rattle.segm.specs.declared.Segment.{Segment}
 use Rattle.segm.specs.Lists.{_∈_, only}
 use Rattle.segm.specs.Segments.{Drawing, width, front, segmentsOf, count, segments, nowhere, segmentAt, total}
-use Rattle.segm.proofs.Lists.{sum-cong, sum-zero}
+use Rattle.segm.proofs.Lists.{sum-cong, sum-zero, sum-++, sum-split, sum-trade}
 
 length-segmentsOf : (n : ℕ) (l : List ℤ) → length (segmentsOf n l) ≡ n
 unfolding segmentsOf
@@ -57,3 +57,18 @@ module _ (d : Drawing) where
   pub total-none : (P : Segment → Bool) → ((s : Segment) → s ∈ d → P s ≡ false) → total P d ≡ pos 0
   unfolding total
   total-none P h = sum-zero d (λ s m. only-cong (s .winding) (h s m))
+
+  -- a test that is one of two others
+  pub total-split : (P Q R : Segment → Bool) → ((s : Segment) → s ∈ d → (w : ℤ) → only (P s) w ≡ only (Q s) w +ℤ only (R s) w) → total P d ≡ total Q d +ℤ total R d
+  unfolding total
+  total-split P Q R h = sum-split (λ s. only (P s) (s .winding)) (λ s. only (Q s) (s .winding)) (λ s. only (R s) (s .winding)) d (λ s m. h s m (s .winding))
+
+  pub total-trade : (P Q P′ Q′ : Segment → Bool) → ((s : Segment) → s ∈ d → (w : ℤ) → only (P s) w +ℤ only (Q s) w ≡ only (P′ s) w +ℤ only (Q′ s) w)
+      → total Q d ≡ total Q′ d → total P d ≡ total P′ d
+  unfolding total
+  total-trade P Q P′ Q′ h e =
+      sum-trade (λ s. only (P s) (s .winding)) (λ s. only (Q s) (s .winding)) (λ s. only (P′ s) (s .winding)) (λ s. only (Q′ s) (s .winding)) d (λ s m. h s m (s .winding)) e
+
+pub total-++ : (P : Segment → Bool) (d e : Drawing) → total P (d ++ e) ≡ total P d +ℤ total P e
+unfolding total
+total-++ P d e = sum-++ (λ s. only (P s) (s .winding)) d e

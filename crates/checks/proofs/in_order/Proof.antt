@@ -1,12 +1,18 @@
--- Each return rewrites the definition by the tests that led there. Assumes nothing.
+-- Each return rewrites the definition by the tests and the searches that led there. Assumes nothing.
 use borrow.Author.Needs.{needs}
 use borrow.Author.Tests.{not-true, not-false, lt-ltb, le-ltb}
 use mathlib.Core.Path.{_≡_, sym, ap, _∙_}
-use mathlib.Core.Bool.{true, false}
+use mathlib.Core.Bool.{false}
 use native.Mathlib.Omega.{arith}
-use lib.Dec.{ltb}
-use Rattle.segm.specs.Segments.{count, whole}
-use Rattle.checks.specs.Verdict.{wrongLength, inOrder}
+use Rattle.segm.specs.Segments.{Drawing, count, segments}
+use Rattle.segm.proofs.Segments.{length-segments}
+use Rattle.checks.specs.declared.Verdict.{Verdict}
+use Rattle.checks.specs.declared.Verdict.the-variants.{Accepted}
+use Rattle.checks.specs.Drawing.{faultAt, meetingAt, unbalancedAt}
+use Rattle.checks.specs.Verdict.{wrongLength, first, _then_, inOrder}
+use Rattle.checks.specs.Search.{Sound}
+use Rattle.checks.proofs.Places.{first-none}
+use Rattle.checks.proofs.Order.{refused-then}
 use Rattle.checks.proofs.in_order.Statement.{statement}
 use Rattle.checks.proofs.in_order.Tie as tie
 
@@ -43,14 +49,71 @@ returns-4 : tie.Need-returns-4
 unfolding inOrder
 returns-4 c = simp (right-length (c .before .before), c .before .if3 .left, c .if4 .taken)
 
-drawing-verdict-requires : tie.Need-drawing-verdict-requires
-drawing-verdict-requires c κs = omega (arith, c .before .before .before .count .ensures)
+find-first-requires : tie.Need-find-first-requires
+find-first-requires c κs = search needs
+
+enum-told : tie.Need-enum-told
+enum-told c = search needs
+
+enum-told-2 : tie.Need-enum-told-2
+enum-told-2 c = search needs
+
+-- past the tests: the three searches are left
+module _ (c : tie.Else4) where
+  abbrev s : tie.Start
+  s = c .before .before .before .before .before .before
+
+  abbrev d : Drawing
+  d = segments (s .args .s .now)
+
+  searches : inOrder (wrongLength (s .args .s .now)) (s .args .unknown) (s .args .short) d ≡ (first (faultAt d) d then first (meetingAt d) d then first (unbalancedAt d) d)
+  unfolding inOrder
+  searches = simp (right-length (c .before .before), c .before .if3 .left, c .if4 .left)
 
 returns-5 : tie.Need-returns-5
-unfolding inOrder
 returns-5 c =
-    let e = c .before in
-    c .drawing-verdict .ensures ∙ sym (simp (right-length (e .before .before), e .before .if3 .left, e .if4 .left))
+    let e = c .before .before in
+    let f = e .before in
+    e .find-first .ensures ∙ sym (searches f ∙ refused-then (first (faultAt (d f)) (d f)) (first (meetingAt (d f)) (d f) then first (unbalancedAt (d f)) (d f)) (sym (e .find-first .ensures) ∙ c .enum-told2 .given .1))
+
+-- past the first search: two are left, of a sound drawing
+module _ (c : tie.After-enum-told) where
+  abbrev f : tie.Else4
+  f = c .before .before .before
+
+  faultless : first (faultAt (d f)) (d f) ≡ Accepted
+  faultless = sym (c .before .before .find-first .ensures) ∙ c .enum-told .given .1
+
+  sound : Sound (d f)
+  sound = record { few = omega (arith, length-segments (s f .args .s .now), f .before .before .before .count .ensures); faultless = first-none (faultAt (d f)) (d f) faultless }
+
+  two-left : inOrder (wrongLength (s f .args .s .now)) (s f .args .unknown) (s f .args .short) (d f) ≡ (first (meetingAt (d f)) (d f) then first (unbalancedAt (d f)) (d f))
+  two-left = searches f ∙ ap (λ (v : Verdict). v then first (meetingAt (d f)) (d f) then first (unbalancedAt (d f)) (d f)) faultless
+
+find-first-requires-2 : tie.Need-find-first-requires-2
+find-first-requires-2 c κs = sound c
+
+enum-told-3 : tie.Need-enum-told-3
+enum-told-3 c = search needs
+
+enum-told-4 : tie.Need-enum-told-4
+enum-told-4 c = search needs
+
+returns-6 : tie.Need-returns-6
+returns-6 c =
+    let e = c .before .before in
+    let g = f (e .before) in
+    e .find-first2 .ensures ∙ sym (two-left (e .before) ∙ refused-then (first (meetingAt (d g)) (d g)) (first (unbalancedAt (d g)) (d g)) (sym (e .find-first2 .ensures) ∙ c .enum-told4 .given .1))
+
+find-first-requires-3 : tie.Need-find-first-requires-3
+find-first-requires-3 c κs = sound (c .before .before .before)
+
+returns-7 : tie.Need-returns-7
+returns-7 c =
+    let k = c .before in
+    let e = k .before .before in
+    let g = f (e .before) in
+    c .find-first3 .ensures ∙ sym (two-left (e .before) ∙ ap (λ (v : Verdict). v then first (unbalancedAt (d g)) (d g)) (sym (e .find-first2 .ensures) ∙ k .enum-told3 .given .1))
 
 pub in-order-spec : {M : Type 1} → statement M
 in-order-spec =
@@ -62,5 +125,13 @@ in-order-spec =
     returns-2
     returns-3
     returns-4
-    drawing-verdict-requires
-    returns-5)
+    find-first-requires
+    enum-told
+    enum-told-2
+    returns-5
+    find-first-requires-2
+    enum-told-3
+    enum-told-4
+    returns-6
+    find-first-requires-3
+    returns-7)

@@ -1,6 +1,5 @@
 -- A quotient below n is a number below the product. Assumes nothing.
 use borrow.Author.Tests.{ltb-true, lt-ltb}
-use mathlib.Core.Path.{_≡_}
 use native.Mathlib.Nat.{div-lt-iff-lt-mul, mul-comm}
 use Prim.Native.Nat.{_*_, _/_}
 use lib.Dec.{ltb}

@@ -1,5 +1,5 @@
 -- The choice is not within its limits. Assumes nothing.
-use mathlib.Core.Path.{_≡_, ap, _∙_}
+use mathlib.Core.Path.{ap, _∙_}
 use mathlib.Core.Bool.{not}
 use lib.IntN.{pos}
 use mir.Facts.{toZ-ofZ}

@@ -1,6 +1,5 @@
 -- What the search over the later places told. Assumes nothing.
 use mathlib.Core.Path.{_≡_, sym, ap, subst, _∙_}
-use mathlib.Core.Bool.{Bool}
 use native.Mathlib.Numerals.{add-one}
 use Prim.Native.Nat.{suc, _+_}
 use lib.ListN.{drop}

@@ -1,12 +1,11 @@
 -- Whether the balance at each end is 0. Assumes nothing.
 use borrow.Author.Needs.{needs}
 use mathlib.Core.Path.{_≡_, sym, ap, _∙_}
-use mathlib.Core.Bool.{true, false}
+use mathlib.Core.Bool.{true}
 use lib.Dec.{lit<}
 use lib.IntN.{ℤ, pos}
 use mir.Syntax.{w32}
 use mir.Val.{ofZ, SFits}
-use Rattle.integers.proofs.Booleans.{not-r}
 use Rattle.integers.proofs.Machine.{bits-eq}
 use Rattle.geom.proofs.Points.{eq-eqZ, ne-eqZ}
 use Rattle.segm.specs.declared.Segment.{Segment}

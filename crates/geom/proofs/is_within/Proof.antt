@@ -1,5 +1,5 @@
 -- Both tests are of the number itself. Assumes nothing.
-use mathlib.Core.Path.{_≡_, refl, sym, _∙_}
+use mathlib.Core.Path.{refl, sym, _∙_}
 use Rattle.integers.proofs.Machine.{any, flag-le}
 use Rattle.geom.specs.Points.{within}
 use Rattle.geom.proofs.is_within.Statement.{statement}

@@ -1,5 +1,5 @@
 -- Each test is of the coordinates themselves. Assumes nothing.
-use mathlib.Core.Path.{_≡_, refl, sym, _∙_}
+use mathlib.Core.Path.{refl, sym, _∙_}
 use native.Mathlib.Omega.{arith}
 use mir.Syntax.{w32}
 use Rattle.integers.proofs.Machine.{res, flag-lt}

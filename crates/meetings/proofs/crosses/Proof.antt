@@ -1,6 +1,6 @@
 -- The definition's two tests. Assumes nothing.
 use borrow.Author.Tests.{not-true, not-false}
-use mathlib.Core.Path.{_≡_, sym, _∙_}
+use mathlib.Core.Path.{sym, _∙_}
 use borrow.Author.Needs.{needs}
 use Rattle.meetings.proofs.crosses.Statement.{statement}
 use Rattle.meetings.proofs.crosses.Tie as tie

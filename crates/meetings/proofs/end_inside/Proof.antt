@@ -1,5 +1,5 @@
 -- The definition's two tests. Assumes nothing.
-use mathlib.Core.Path.{_≡_, sym, _∙_}
+use mathlib.Core.Path.{sym, _∙_}
 use Rattle.meetings.specs.Meetings.{inside}
 use borrow.Author.Needs.{needs}
 use Rattle.meetings.proofs.end_inside.Statement.{statement}

@@ -1,7 +1,7 @@
 -- Past the cheap test, the definition's four tests in its order. Assumes nothing.
 use borrow.Author.Needs.{needs}
 use mathlib.Core.Path.{_≡_, sym, _∙_}
-use mathlib.Core.Bool.{Bool, false, _||_, _&&_}
+use mathlib.Core.Bool.{false, _||_, _&&_}
 use native.Mathlib.Omega.{arith}
 use mir.Syntax.{w32}
 use Rattle.integers.proofs.Machine.{res, flag-lt}
