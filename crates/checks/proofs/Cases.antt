@@ -1,4 +1,4 @@
--- Trial drawings, by computing: the definitions give what the paper says.
+-- Trial drawings of document 01, by computing: the definitions give what it says.
 use mathlib.Core.Path.{_≡_, refl}
 use mathlib.Core.List.{List, [], _∷_}
 use lib.IntN.{ℤ, pos, negsuc}

@@ -1,15 +1,19 @@
 -- The runs: which choices each has, and what its lent lists must hold. Assumes nothing.
 use mathlib.Core.List.{List, [], _∷_}
 use Prim.Native.Nat.{ℕ}
-use lib.IntN.{ℤ}
+use lib.IntN.{ℤ, pos}
 use Rattle.checks.specs.Verdict.{Choice, Lent, Run}
 
--- a rule is 0 to 3; invert, boundary and output direction are 0 or 1
-abbrev pub ruleChoice : ℤ → Choice
-ruleChoice z = record { value = z; greatest = 3 }
+abbrev pub upTo : ℤ → ℤ → Choice
+upTo greatest z = record { value = z; greatest = greatest }
 
+-- a rule is 0 to 3
+abbrev pub ruleChoice : ℤ → Choice
+ruleChoice = upTo (pos 3)
+
+-- invert, boundary and output direction are 0 or 1
 abbrev pub flagChoice : ℤ → Choice
-flagChoice z = record { value = z; greatest = 1 }
+flagChoice = upTo (pos 1)
 
 abbrev pub lent : ℕ → ℕ → Lent
 lent entries each = record { entries = entries; each = each }

@@ -16,7 +16,7 @@ use Rattle.checks.specs.Drawing.{faultAt, meetingAt, unbalancedAt}
 -- a choice, known from 0 to the greatest
 pub record Choice : Type 0 where
   pub value : ℤ
-  pub greatest : ℕ
+  pub greatest : ℤ
 
 -- a lent list, and how many entries it needs for each segment
 pub record Lent : Type 0 where
@@ -35,7 +35,7 @@ wrongLength l = not (whole l) || ltb 1024 (count l)
 
 -- 10: an unknown choice
 unfoldable pub unknownChoice : Choice → Bool
-unknownChoice c = not (within (pos 0) (pos (c .greatest)) (c .value))
+unknownChoice c = not (within (pos 0) (c .greatest) (c .value))
 
 -- 11: a lent list too short for n segments
 unfoldable pub tooShort : ℕ → Lent → Bool

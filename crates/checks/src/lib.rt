@@ -3,7 +3,7 @@
 use geom::Point;
 use segm::Segment;
 ghost use mathlib.Core.Path.{_≡_};
-ghost use Prim.Native.Nat.{_-_, _<_, _≤_};
+ghost use Prim.Native.Nat.{_-_, _<_};
 ghost use mathlib.Core.Bool.{true};
 ghost use lib.ListN.{length, drop};
 ghost use Rattle.segm.specs.Lists.{any, only};
@@ -11,7 +11,7 @@ ghost use Rattle.segm.specs.Segments.{segments};
 ghost use Rattle.meetings.specs.Meetings.{Proper, meetsWrongly};
 ghost use Rattle.checks.specs.Drawing.{windingInRange, fault, faultAt, meetingAt, share, balance, unbalancedAt};
 ghost use Rattle.checks.specs.Verdict.{wrongLength, unknownChoice, tooShort, first, inOrder, verdict};
-ghost use Rattle.checks.specs.Runs.{ruleChoice, flagChoice, lent, fillsRun, clipRun, sliceRun};
+ghost use Rattle.checks.specs.Runs.{upTo, lent, fillsRun, clipRun, sliceRun};
 ghost use Rattle.checks.specs.Search.{Sound, Ready, numberAt};
 
 // What a check finds: nothing wrong, or a refusal's number and place.
@@ -202,18 +202,11 @@ fn in_order(s: &[i32], unknown: bool, short: bool) -> Verdict
     find_first(Search::Balance, s)
 }
 
-// Whether a rule is none of 0 to 3.
-fn is_unknown_rule(choice: i32) -> bool
-    ensures { λ r. ⌜ r ≡ unknownChoice (ruleChoice choice) ⌝ }
+// Whether a choice is none of 0 to the greatest.
+fn is_unknown(choice: i32, greatest: i32) -> bool
+    ensures { λ r. ⌜ r ≡ unknownChoice (upTo greatest choice) ⌝ }
 {
-    !geom::is_within(0, 3, choice)
-}
-
-// Whether invert, boundary or output direction is neither 0 nor 1.
-fn is_unknown_flag(choice: i32) -> bool
-    ensures { λ r. ⌜ r ≡ unknownChoice (flagChoice choice) ⌝ }
-{
-    !geom::is_within(0, 1, choice)
+    !geom::is_within(0, greatest, choice)
 }
 
 // Whether a lent list has fewer than `each` entries for each of n segments. By a quotient, as a product could be too large.
@@ -229,7 +222,7 @@ pub fn check_fills(segments: &[i32], rule: i32, fills: usize) -> Verdict
     ensures { λ r. ⌜ r ≡ verdict (fillsRun (now (segments .entry)) rule fills) ⌝ }
 {
     let n = segm::count(segments);
-    let unknown = is_unknown_rule(rule);
+    let unknown = is_unknown(rule, 3);
     let short = is_short(fills, 1, n);
     in_order(segments, unknown, short)
 }
@@ -246,7 +239,7 @@ pub fn check_clip(
     ensures { λ r. ⌜ r ≡ verdict (clipRun (now (segments .entry)) rule invert boundary points lengths) ⌝ }
 {
     let n = segm::count(segments);
-    let unknown = is_unknown_rule(rule) | (is_unknown_flag(invert) | is_unknown_flag(boundary));
+    let unknown = is_unknown(rule, 3) | (is_unknown(invert, 1) | is_unknown(boundary, 1));
     let short = is_short(points, 8, n) | is_short(lengths, 2, n);
     in_order(segments, unknown, short)
 }
@@ -263,7 +256,7 @@ pub fn check_slice(
     ensures { λ r. ⌜ r ≡ verdict (sliceRun (now (segments .entry)) rule direction points lengths roles) ⌝ }
 {
     let n = segm::count(segments);
-    let unknown = is_unknown_rule(rule) | is_unknown_flag(direction);
+    let unknown = is_unknown(rule, 3) | is_unknown(direction, 1);
     let short = is_short(points, 4, n) | (is_short(lengths, 2, n) | is_short(roles, 2, n));
     in_order(segments, unknown, short)
 }

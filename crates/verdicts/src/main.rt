@@ -4,7 +4,7 @@ use checks::Verdict;
 use libc::STDOUT_FILENO;
 ghost use Prim.Native.Nat.{_*_, _+_, _<_, _≤_};
 
-// Case A of the paper: nine segments, accepted.
+// Case A of document 01: nine segments, accepted.
 const A: [i32; 54] = [
     -5,
     5,

@@ -14,14 +14,14 @@ use Rattle.checks.proofs.check_clip.Tie as tie
 count-requires : tie.Need-count-requires
 count-requires c κs = search needs
 
-is-unknown-rule-requires : tie.Need-is-unknown-rule-requires
-is-unknown-rule-requires c κs = search needs
+is-unknown-requires : tie.Need-is-unknown-requires
+is-unknown-requires c κs = search needs
 
-is-unknown-flag-requires : tie.Need-is-unknown-flag-requires
-is-unknown-flag-requires c κs = search needs
+is-unknown-requires-2 : tie.Need-is-unknown-requires-2
+is-unknown-requires-2 c κs = search needs
 
-is-unknown-flag-requires-2 : tie.Need-is-unknown-flag-requires-2
-is-unknown-flag-requires-2 c κs = search needs
+is-unknown-requires-3 : tie.Need-is-unknown-requires-3
+is-unknown-requires-3 c κs = search needs
 
 is-short-requires : tie.Need-is-short-requires
 is-short-requires c κs = search needs
@@ -45,7 +45,7 @@ returns c =
     let l = s .args .segments .now in
     c .in-order .ensures
     ∙ ap₂ (λ (unknown short : Bool). inOrder (wrongLength l) unknown short (segments l))
-    (simp (u₁ .is-unknown-rule .ensures, u₂ .is-unknown-flag .ensures, u₃ .is-unknown-flag2 .ensures, toZ-ofZ (s .fits .rule), toZ-ofZ (s .fits .invert), toZ-ofZ (s .fits .boundary), or-false))
+    (simp (u₁ .is-unknown .ensures, u₂ .is-unknown2 .ensures, u₃ .is-unknown3 .ensures, toZ-ofZ (s .fits .rule), toZ-ofZ (s .fits .invert), toZ-ofZ (s .fits .boundary), or-false))
     (simp (t₁ .is-short .ensures, t₂ .is-short2 .ensures, n .count .ensures, or-false))
 
 pub check-clip-spec : {M : Type 1} → statement M
@@ -53,9 +53,9 @@ check-clip-spec =
     tie.close
     (tie.spec
     count-requires
-    is-unknown-rule-requires
-    is-unknown-flag-requires
-    is-unknown-flag-requires-2
+    is-unknown-requires
+    is-unknown-requires-2
+    is-unknown-requires-3
     is-short-requires
     is-short-requires-2
     in-order-requires

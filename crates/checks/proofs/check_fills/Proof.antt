@@ -14,8 +14,8 @@ use Rattle.checks.proofs.check_fills.Tie as tie
 count-requires : tie.Need-count-requires
 count-requires c κs = search needs
 
-is-unknown-rule-requires : tie.Need-is-unknown-rule-requires
-is-unknown-rule-requires c κs = search needs
+is-unknown-requires : tie.Need-is-unknown-requires
+is-unknown-requires c κs = search needs
 
 is-short-requires : tie.Need-is-short-requires
 is-short-requires c κs = search needs
@@ -33,10 +33,10 @@ returns c =
     let l = s .args .segments .now in
     c .in-order .ensures
     ∙ ap₂ (λ (unknown short : Bool). inOrder (wrongLength l) unknown short (segments l))
-    (simp (u .is-unknown-rule .ensures, toZ-ofZ (s .fits .rule), or-false))
+    (simp (u .is-unknown .ensures, toZ-ofZ (s .fits .rule), or-false))
     (simp (t .is-short .ensures, n .count .ensures, or-false))
 
 pub check-fills-spec : {M : Type 1} → statement M
 check-fills-spec =
     tie.close
-    (tie.spec count-requires is-unknown-rule-requires is-short-requires in-order-requires returns)
+    (tie.spec count-requires is-unknown-requires is-short-requires in-order-requires returns)

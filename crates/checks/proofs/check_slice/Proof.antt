@@ -14,11 +14,11 @@ use Rattle.checks.proofs.check_slice.Tie as tie
 count-requires : tie.Need-count-requires
 count-requires c κs = search needs
 
-is-unknown-rule-requires : tie.Need-is-unknown-rule-requires
-is-unknown-rule-requires c κs = search needs
+is-unknown-requires : tie.Need-is-unknown-requires
+is-unknown-requires c κs = search needs
 
-is-unknown-flag-requires : tie.Need-is-unknown-flag-requires
-is-unknown-flag-requires c κs = search needs
+is-unknown-requires-2 : tie.Need-is-unknown-requires-2
+is-unknown-requires-2 c κs = search needs
 
 is-short-requires : tie.Need-is-short-requires
 is-short-requires c κs = search needs
@@ -45,7 +45,7 @@ returns c =
     let l = s .args .segments .now in
     c .in-order .ensures
     ∙ ap₂ (λ (unknown short : Bool). inOrder (wrongLength l) unknown short (segments l))
-    (simp (u₁ .is-unknown-rule .ensures, u₂ .is-unknown-flag .ensures, toZ-ofZ (s .fits .rule), toZ-ofZ (s .fits .direction), or-false))
+    (simp (u₁ .is-unknown .ensures, u₂ .is-unknown2 .ensures, toZ-ofZ (s .fits .rule), toZ-ofZ (s .fits .direction), or-false))
     (simp (t₁ .is-short .ensures, t₂ .is-short2 .ensures, t₃ .is-short3 .ensures, n .count .ensures, or-false))
 
 pub check-slice-spec : {M : Type 1} → statement M
@@ -53,8 +53,8 @@ check-slice-spec =
     tie.close
     (tie.spec
     count-requires
-    is-unknown-rule-requires
-    is-unknown-flag-requires
+    is-unknown-requires
+    is-unknown-requires-2
     is-short-requires
     is-short-requires-2
     is-short-requires-3

@@ -2,12 +2,12 @@
 use borrow.Author.Needs.{needs}
 use borrow.Author.Tests.{not-true, not-false}
 use mathlib.Core.Path.{_≡_, sym, ap, ap₂, _∙_}
-use mathlib.Core.Bool.{true, _&&_}
+use mathlib.Core.Bool.{true, _&&_, cond}
 use native.Mathlib.Omega.{arith}
 use lib.IntN.{pos, negsuc}
 use mir.Syntax.{w32}
 use Rattle.integers.proofs.Machine.{read}
-use Rattle.geom.specs.Points.{within}
+use Rattle.geom.specs.Points.{within, ltP}
 use Rattle.checks.specs.Drawing.{endsInRange, rises, windingInRange, bitsInRange, fault}
 use Rattle.checks.proofs.fault.Statement.{statement}
 use Rattle.checks.proofs.fault.Tie as tie
@@ -85,23 +85,19 @@ returns-4 c =
     let e = f .before .before .before in
     simp (ends-pass (e .before .before), order-pass e, winding-pass f, sym (bits d) ∙ not-true _ (c .if4 .taken))
 
-returns-5 : tie.Need-returns-5
+-- past 3 to 6
+only-seven : (c : tie.Else4) → fault (c .before .before .before .before .before .before .before .before .before .before .before .before .before .args .p) (c .before .before .before .before .before .before .before .before .before .before .before .before .before .args .t) ≡ cond (ltP (c .before .before .before .before .before .before .before .before .before .before .before .before .before .args .t .a) (c .before .before .before .before .before .before .before .before .before .before .before .before .before .args .p)) 7 0
 unfolding fault
-returns-5 c =
-    let d = c .before in
-    let g = d .before in
-    let f = g .before .before .before in
+only-seven c =
+    let f = c .before .before .before in
     let e = f .before .before .before in
-    simp (ends-pass (e .before .before), order-pass e, winding-pass f, bits-pass g, sym (d .less2 .ensures) ∙ c .if5 .taken)
+    simp (ends-pass (e .before .before), order-pass e, winding-pass f, bits-pass c)
+
+returns-5 : tie.Need-returns-5
+returns-5 c = sym (only-seven (c .before .before) ∙ simp (sym (c .before .less2 .ensures) ∙ c .if5 .taken))
 
 returns-6 : tie.Need-returns-6
-unfolding fault
-returns-6 c =
-    let d = c .before in
-    let g = d .before in
-    let f = g .before .before .before in
-    let e = f .before .before .before in
-    simp (ends-pass (e .before .before), order-pass e, winding-pass f, bits-pass g, sym (d .less2 .ensures) ∙ c .if5 .left)
+returns-6 c = sym (only-seven (c .before .before) ∙ simp (sym (c .before .less2 .ensures) ∙ c .if5 .left))
 
 pub fault-spec : {M : Type 1} → statement M
 fault-spec =
