@@ -3,15 +3,15 @@ use mathlib.Core.Path.{_≡_, refl, sym, ap, subst, _∙_}
 use mathlib.Core.List.{List, [], _∷_}
 use mathlib.Core.Logic.{_⊎_, inl, inr}
 use mathlib.Core.Bool.{true, false, not, true≢false}
-use Prim.Native.Nat.{ℕ, suc, _-_, _<_}
+use Prim.Native.Nat.{ℕ, suc, _*_, _-_, _<_, _≤_}
 use native.Mathlib.Omega.{arith}
 use lib.Dec.{ltb}
 use lib.ListN.{length, drop}
 use lib.IntN.{ℤ, pos, _-ℤ_}
-use borrow.Author.Tests.{ltb-true, ltb-false}
+use borrow.Author.Tests.{ltb-true, ltb-false, not-false}
 use Rattle.integers.proofs.Booleans.{dec, clash, nor-r}
 use Rattle.geom.specs.declared.Point.{Point}
-use Rattle.geom.specs.Points.{ltP, eqP}
+use Rattle.geom.specs.Points.{within, ltP, eqP}
 use Rattle.geom.proofs.Points.{within-l, within-r, eqZ-true, eqP-true, not-less-trans}
 use Rattle.segm.specs.declared.Segment.{Segment}
 use Rattle.segm.specs.Lists.{_∈_, Pairs, any}
@@ -118,6 +118,16 @@ module _ (r : Run) (p : Passed r) where
 
 pub verdict-good : (r : Run) → verdict r ≡ Accepted → Good (segments (r .numbers))
 verdict-good r e = passed-good r (passed r e)
+
+-- its choices are known, and its lists long enough
+module _ (r : Run) (e : verdict r ≡ Accepted) where
+  pub verdict-known : (c : Choice) → c ∈ r .choices → within (pos 0) (c .greatest) (c .value) ≡ true
+  unfolding unknownChoice
+  verdict-known c m = not-false _ (any-false unknownChoice (r .choices) (passed r e .known) c m)
+
+  pub verdict-room : (l : Lent) → l ∈ r .lists → l .each * count (r .numbers) ≤ l .entries
+  unfolding tooShort
+  verdict-room l m = ltb-false (l .entries) (l .each * count (r .numbers)) (any-false (tooShort (count (r .numbers))) (r .lists) (passed r e .long) l m)
 
 -- an accepted drawing: what a run was lent does not count
 module _ (numbers : List ℤ) (rule invert boundary : ℤ) (e : accepts numbers rule invert boundary ≡ true) where
