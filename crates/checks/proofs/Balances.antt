@@ -3,7 +3,7 @@ use mathlib.Core.Path.{_≡_}
 use mathlib.Core.Bool.{Bool, true, false}
 use Prim.Native.Nat.{_≤_}
 use native.Mathlib.Omega.{arith}
-use lib.IntN.{ℤ, pos, negsuc, natAbs}
+use lib.IntN.{ℤ, pos, negℤ, natAbs}
 use Rattle.integers.proofs.Order.{abs-in, abs--}
 use Rattle.geom.specs.declared.Point.{Point}
 use Rattle.geom.specs.Points.{eqP}
@@ -12,11 +12,12 @@ use Rattle.segm.specs.declared.Segment.{Segment}
 use Rattle.segm.specs.Lists.{sum, only}
 use Rattle.segm.specs.Segments.{Drawing, total}
 use Rattle.segm.proofs.Lists.{sum--}
-use Rattle.checks.specs.Drawing.{windingInRange, share, balance}
+use Rattle.checks.specs.Drawing.{windingInRange, balance}
+use Rattle.checks.specs.Search.{share}
 
 pub winding-bound : (s : Segment) → windingInRange s ≡ true → natAbs (s .winding) ≤ 1000
 unfolding windingInRange
-winding-bound s e = abs-in {z = s .winding} (within-l (negsuc 999) (pos 1000) (s .winding) e) (within-r (negsuc 999) (pos 1000) (s .winding) e)
+winding-bound s e = abs-in {z = s .winding} (within-l (negℤ (pos 1000)) (pos 1000) (s .winding) e) (within-r (negℤ (pos 1000)) (pos 1000) (s .winding) e)
 
 pub only-bound : (b : Bool) (w : ℤ) → natAbs w ≤ 1000 → natAbs (only b w) ≤ 1000
 only-bound true w h = h

@@ -2,11 +2,11 @@
 use mathlib.Core.Bool.{Bool, not, _&&_, cond}
 use Prim.Native.Nat.{ℕ, suc, _-_}
 use lib.ListN.{drop}
-use lib.IntN.{ℤ, pos, negsuc, _-ℤ_}
+use lib.IntN.{ℤ, pos, negℤ, _-ℤ_}
 use Rattle.geom.specs.declared.Point.{Point}
 use Rattle.geom.specs.Points.{eqZ, within, ltP, eqP, inRange}
 use Rattle.segm.specs.declared.Segment.{Segment}
-use Rattle.segm.specs.Lists.{any, only}
+use Rattle.segm.specs.Lists.{any}
 use Rattle.segm.specs.Segments.{Drawing, segmentAt, total}
 use Rattle.meetings.specs.Meetings.{meetsWrongly}
 
@@ -21,7 +21,7 @@ rises s = ltP (s .a) (s .b)
 
 -- winding is -1,000 to 1,000
 unfoldable pub windingInRange : Segment → Bool
-windingInRange s = within (negsuc 999) (pos 1000) (s .winding)
+windingInRange s = within (negℤ (pos 1000)) (pos 1000) (s .winding)
 
 -- line bits are 0 to 3
 unfoldable pub bitsInRange : Segment → Bool
@@ -49,10 +49,6 @@ meetingAt d i = cond (any (meetsWrongly (segmentAt d i)) (drop (suc i) d)) 8 0
 -- the windings of the segments starting at p, less those of the segments ending there
 unfoldable pub balance : Drawing → Point → ℤ
 balance d p = total (λ s. eqP (s .a) p) d -ℤ total (λ s. eqP (s .b) p) d
-
--- the same, one segment after the other: what s adds at p
-unfoldable pub share : Point → Segment → ℤ
-share p s = only (eqP (s .a) p) (s .winding) -ℤ only (eqP (s .b) p) (s .winding)
 
 unfoldable pub balances : Drawing → Point → Bool
 balances d p = eqZ (balance d p) (pos 0)

@@ -1,7 +1,12 @@
--- The code searches for refusals by place in one loop: what each search looks for, and what it may rely on. Assumes nothing.
+-- What the contracts of the inner functions cite: the code searches for refusals by place in one loop, and sums a balance segment by segment. Assumes nothing.
 use mathlib.Core.Path.{_≡_}
 use Prim.Native.Nat.{ℕ, _<_, _≤_}
 use lib.ListN.{length}
+use lib.IntN.{ℤ, _-ℤ_}
+use Rattle.geom.specs.declared.Point.{Point}
+use Rattle.geom.specs.Points.{eqP}
+use Rattle.segm.specs.declared.Segment.{Segment}
+use Rattle.segm.specs.Lists.{only}
 use Rattle.segm.specs.Segments.{Drawing}
 use Rattle.checks.specs.declared.Search.{Search}
 use Rattle.checks.specs.declared.Search.the-variants.{Faults, Meetings, Balance}
@@ -22,3 +27,7 @@ abbrev pub Ready : Search → Drawing → Type 0
 Ready Faults d = Unit {0}
 Ready Meetings d = Sound d
 Ready Balance d = Sound d
+
+-- what s adds to the balance at p
+unfoldable pub share : Point → Segment → ℤ
+share p s = only (eqP (s .a) p) (s .winding) -ℤ only (eqP (s .b) p) (s .winding)

@@ -9,10 +9,10 @@ ghost use lib.ListN.{length, drop};
 ghost use Rattle.segm.specs.Lists.{any, only};
 ghost use Rattle.segm.specs.Segments.{segments};
 ghost use Rattle.meetings.specs.Meetings.{Proper, meetsWrongly};
-ghost use Rattle.checks.specs.Drawing.{windingInRange, fault, faultAt, meetingAt, share, balance, unbalancedAt};
+ghost use Rattle.checks.specs.Drawing.{windingInRange, fault, faultAt, meetingAt, balance, unbalancedAt};
 ghost use Rattle.checks.specs.Verdict.{wrongLength, unknownChoice, tooShort, first, inOrder, verdict};
 ghost use Rattle.checks.specs.Runs.{upTo, lent, fillsRun, clipRun, sliceRun};
-ghost use Rattle.checks.specs.Search.{Sound, Ready, numberAt};
+ghost use Rattle.checks.specs.Search.{Sound, Ready, numberAt, share};
 
 // What a check finds: nothing wrong, or a refusal's number and place.
 pub enum Verdict {

@@ -3,7 +3,7 @@ use mathlib.Core.Path.{_≡_, ap, subst}
 use mathlib.Core.Logic.{_⊎_, inl, inr}
 use mathlib.Core.Bool.{true, false, _&&_}
 use Prim.Native.Nat.{_≤_, _<_, _^_}
-use lib.IntN.{ℤ, pos, negsuc, natAbs}
+use lib.IntN.{ℤ, pos, negℤ, natAbs}
 use lib.Dec.{eqb}
 use lib.Signed.{ltZ, leZ, mag, _≤ℤ_, _<ℤ_}
 use mir.Syntax.{Width}
@@ -57,7 +57,7 @@ within-r low high z e = leZ-true (both-r (leZ low z) (leZ z high) e)
 
 near : (z : ℤ) → coordinate z ≡ true → natAbs z ≤ 16777216
 unfolding coordinate
-near z e = abs-in {z = z} (within-l (negsuc 16777215) (pos 16777216) z e) (within-r (negsuc 16777215) (pos 16777216) z e)
+near z e = abs-in {z = z} (within-l (negℤ (pos 16777216)) (pos 16777216) z e) (within-r (negℤ (pos 16777216)) (pos 16777216) z e)
 
 pub near-x : (p : Point) → inRange p ≡ true → natAbs (p .x) ≤ 16777216
 unfolding inRange

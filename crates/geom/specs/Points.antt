@@ -1,7 +1,7 @@
 -- Points: their order, their range, and on which side of a line they lie. A point is the code's own pair of coordinates, read as integers.
 -- The contracts of `geom` cite these. Assumes nothing.
 use mathlib.Core.Bool.{Bool, _&&_, _||_}
-use lib.IntN.{ℤ, pos, negsuc, _-ℤ_, _*ℤ_}
+use lib.IntN.{ℤ, pos, negℤ, _-ℤ_, _*ℤ_}
 use lib.Signed.{ltZ, leZ}
 use Rattle.geom.specs.declared.Point.{Point}
 
@@ -21,7 +21,7 @@ eqP p q = eqZ (p .x) (q .x) && eqZ (p .y) (q .y)
 
 -- coordinates are -16,777,216 to 16,777,216
 unfoldable pub coordinate : ℤ → Bool
-coordinate = within (negsuc 16777215) (pos 16777216)
+coordinate = within (negℤ (pos 16777216)) (pos 16777216)
 
 unfoldable pub inRange : Point → Bool
 inRange p = coordinate (p .x) && coordinate (p .y)

@@ -13,7 +13,9 @@ side s p = cross (s .a) (s .b) p
 
 -- t's ends lie strictly on opposite sides of s
 unfoldable pub parts : Segment → Segment → Bool
-parts s t = (ltZ (side s (t .a)) (pos 0) && ltZ (pos 0) (side s (t .b))) || (ltZ (pos 0) (side s (t .a)) && ltZ (side s (t .b)) (pos 0))
+parts s t =
+    (ltZ (side s (t .a)) (pos 0) && ltZ (pos 0) (side s (t .b)))
+    || (ltZ (pos 0) (side s (t .a)) && ltZ (side s (t .b)) (pos 0))
 
 -- p lies on s strictly between its ends
 unfoldable pub inside : Segment → Point → Bool
@@ -24,7 +26,11 @@ sameEnds s t = eqP (s .a) (t .a) && eqP (s .b) (t .b)
 
 -- the ends of each lie strictly on opposite sides of the other, or an end of one lies on the other strictly between its ends, or both ends are equal
 unfoldable pub meetsWrongly : Segment → Segment → Bool
-meetsWrongly s t = (parts s t && parts t s) || ((inside s (t .a) || inside s (t .b)) || ((inside t (s .a) || inside t (s .b)) || sameEnds s t))
+meetsWrongly s t =
+    (parts s t && parts t s)
+    || ((inside s (t .a) || inside s (t .b))
+    || ((inside t (s .a) || inside t (s .b))
+    || sameEnds s t))
 
 -- a segment whose coordinates are in range and whose a is less than its b: what refusals 3 and 4 leave
 pub record Proper (s : Segment) : Type 0 where

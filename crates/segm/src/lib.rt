@@ -4,6 +4,7 @@ use geom::Point;
 ghost use mathlib.Core.Path.{_≡_};
 ghost use Rattle.segm.specs.Segments.{count, whole, segments, segmentAt};
 
+// A segment from a to b, a being the lesser. The winding is positive when the outline runs from a to b. Of the line bits, 1 is a line drawn from a to b and 2 one from b to a.
 pub struct Segment {
     pub a: Point,
     pub b: Point,

@@ -15,7 +15,8 @@ use Rattle.segm.specs.Lists.{sum}
 use Rattle.segm.specs.Segments.{segments, nowhere, segmentAt}
 use Rattle.segm.proofs.Lists.{sum-take}
 use Rattle.segm.proofs.Segments.{length-segments}
-use Rattle.checks.specs.Drawing.{windingInRange, share}
+use Rattle.checks.specs.Drawing.{windingInRange}
+use Rattle.checks.specs.Search.{share}
 use Rattle.checks.proofs.Faults.{winding-at}
 use Rattle.checks.proofs.Balances.{share-bound, balance-shares}
 use Rattle.checks.proofs.balance.Statement.{statement}

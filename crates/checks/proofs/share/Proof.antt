@@ -7,7 +7,7 @@ use mir.Val.{toZ, ofZ}
 use Rattle.integers.proofs.Machine.{Val, read, ret, sub}
 use Rattle.geom.specs.Points.{eqP}
 use Rattle.segm.specs.Lists.{only}
-use Rattle.checks.specs.Drawing.{share}
+use Rattle.checks.specs.Search.{share}
 use Rattle.checks.proofs.Balances.{winding-bound, only-bound}
 use borrow.Author.Needs.{needs}
 use Rattle.checks.proofs.share.Statement.{statement}
