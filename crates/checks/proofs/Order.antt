@@ -1,5 +1,5 @@
 -- One check after the other: what the verdict of all says of each.
-use mathlib.Core.Path.{_≡_, refl, sym, ap, _∙_}
+use mathlib.Core.Path.{_≡_, refl, sym, ap, _∙_, ap₂}
 use mathlib.Core.Bool.{Bool, true, false}
 use Prim.Native.Nat.{ℕ}
 use Rattle.segm.specs.Lists.{any}
@@ -37,6 +37,12 @@ pub record If (b : Bool) (n number place : ℕ) : Type 0 where
 pub refused-if : (n : ℕ) (b : Bool) (number place : ℕ) → refuseIf n b ≡ Refused number place → If b n number place
 refused-if n true number place e = record { holds = refl; number-is = cc; place-is = cc }
 refused-if n false number place e = not-both (sym e)
+
+-- a run whose flags are known has the verdict of its order
+pub by-flags : (r : Run) {v : Verdict} {unknown short : Bool} → v ≡ inOrder (wrongLength (r .numbers)) unknown short (segments (r .numbers))
+    → unknown ≡ any unknownChoice (r .choices) → short ≡ any (tooShort (count (r .numbers))) (r .lists) → v ≡ verdict r
+unfolding verdict
+by-flags r e u s = e ∙ ap₂ (λ (unknown short : Bool). inOrder (wrongLength (r .numbers)) unknown short (segments (r .numbers))) u s
 
 -- a run that is accepted passed every check
 pub record Passed (r : Run) : Type 0 where

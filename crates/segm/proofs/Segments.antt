@@ -21,6 +21,13 @@ pub length-segments : (l : List ℤ) → length (segments l) ≡ count l
 unfolding segments
 length-segments l = length-segmentsOf (count l) l
 
+-- a loop that counts to n, which is `count`: below n is a place, and from n on there is none
+pub count-inside : (l : List ℤ) {n k : ℕ} → n ≡ count l → k < n → k < length (segments l)
+count-inside l e h = omega (arith, length-segments l)
+
+pub count-past : (l : List ℤ) {n k : ℕ} → n ≡ count l → n ≤ k → length (segments l) ≤ k
+count-past l e h = omega (arith, length-segments l)
+
 segmentsOf-at : (n : ℕ) (l : List ℤ) (i : ℕ) → i < n → getD (segmentsOf n l) i nowhere ≡ front (drop (i * width) l)
 unfolding segmentsOf
 segmentsOf-at zero l i h = absurd (omega arith)

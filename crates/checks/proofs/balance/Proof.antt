@@ -14,7 +14,7 @@ use Rattle.segm.specs.declared.Segment.{Segment}
 use Rattle.segm.specs.Lists.{sum}
 use Rattle.segm.specs.Segments.{segments, nowhere, segmentAt}
 use Rattle.segm.proofs.Lists.{sum-take}
-use Rattle.segm.proofs.Segments.{length-segments}
+use Rattle.segm.proofs.Segments.{count-inside, count-past}
 use Rattle.checks.specs.Drawing.{windingInRange}
 use Rattle.checks.specs.Search.{share}
 use Rattle.checks.proofs.Faults.{winding-at}
@@ -40,7 +40,7 @@ segment-at-requires c κs = search needs
 
 -- the place looked at, and the winding there
 inside : (c : tie.In-loop Inv-loop μ-loop) → c .before .loop .i < length (segments (c .before .before .before .args .s .now))
-inside c = let n = c .before .before in omega (arith, n .count .ensures, length-segments (n .before .args .s .now))
+inside c = let n = c .before .before in count-inside (n .before .args .s .now) (n .count .ensures) (c .loop-test .taken)
 
 known : (c : tie.After-segment-at Inv-loop μ-loop) → windingInRange (c .segment-at .result) ≡ true
 known c =
@@ -90,8 +90,7 @@ returns c =
     let n = l .before in
     let d = segments (n .before .args .s .now) in
     let p = n .before .args .p in
-    let all : length d ≤ l .loop .i = omega (arith, n .count .ensures, length-segments (n .before .args .s .now)) in
-    l .loop .inv .1 .is ∙ ap (sum (share p)) (take-all (l .loop .i) d all) ∙ balance-shares d p
+    l .loop .inv .1 .is ∙ ap (sum (share p)) (take-all (l .loop .i) d (count-past (n .before .args .s .now) (n .count .ensures) (c .loop-test .left))) ∙ balance-shares d p
 
 pub balance-spec : {M : Type 1} → statement M
 balance-spec =

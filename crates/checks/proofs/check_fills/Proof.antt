@@ -1,13 +1,10 @@
 -- The order is the definition's, and so are its two flags. Assumes nothing.
 use borrow.Author.Needs.{needs}
-use mathlib.Core.Path.{ap₂, _∙_}
-use mathlib.Core.Bool.{Bool}
 use mir.Facts.{toZ-ofZ}
 use Rattle.integers.proofs.Booleans.{or-false}
 use Rattle.segm.specs.Lists.{any}
-use Rattle.segm.specs.Segments.{segments}
-use Rattle.checks.specs.Verdict.{wrongLength, inOrder, verdict}
 use Rattle.checks.specs.Runs.{fillsRun}
+use Rattle.checks.proofs.Order.{by-flags}
 use Rattle.checks.proofs.check_fills.Statement.{statement}
 use Rattle.checks.proofs.check_fills.Tie as tie
 
@@ -24,15 +21,14 @@ in-order-requires : tie.Need-in-order-requires
 in-order-requires c κs = search needs
 
 returns : tie.Need-returns
-unfolding verdict fillsRun any
+unfolding fillsRun any
 returns c =
     let t = c .before in
     let u = t .before in
     let n = u .before in
     let s = n .before in
-    let l = s .args .segments .now in
-    c .in-order .ensures
-    ∙ ap₂ (λ (unknown short : Bool). inOrder (wrongLength l) unknown short (segments l))
+    let a = s .args in
+    by-flags (fillsRun (a .segments .now) (a .rule) (a .fills)) (c .in-order .ensures)
     (simp (u .is-unknown .ensures, toZ-ofZ (s .fits .rule), or-false))
     (simp (t .is-short .ensures, n .count .ensures, or-false))
 

@@ -1,13 +1,10 @@
 -- The order is the definition's, and so are its two flags. Assumes nothing.
 use borrow.Author.Needs.{needs}
-use mathlib.Core.Path.{ap₂, _∙_}
-use mathlib.Core.Bool.{Bool}
 use mir.Facts.{toZ-ofZ}
 use Rattle.integers.proofs.Booleans.{or-false}
 use Rattle.segm.specs.Lists.{any}
-use Rattle.segm.specs.Segments.{segments}
-use Rattle.checks.specs.Verdict.{wrongLength, inOrder, verdict}
 use Rattle.checks.specs.Runs.{sliceRun}
+use Rattle.checks.proofs.Order.{by-flags}
 use Rattle.checks.proofs.check_slice.Statement.{statement}
 use Rattle.checks.proofs.check_slice.Tie as tie
 
@@ -33,7 +30,7 @@ in-order-requires : tie.Need-in-order-requires
 in-order-requires c κs = search needs
 
 returns : tie.Need-returns
-unfolding verdict sliceRun any
+unfolding sliceRun any
 returns c =
     let t₃ = c .before in
     let t₂ = t₃ .before in
@@ -42,9 +39,8 @@ returns c =
     let u₁ = u₂ .before in
     let n = u₁ .before in
     let s = n .before in
-    let l = s .args .segments .now in
-    c .in-order .ensures
-    ∙ ap₂ (λ (unknown short : Bool). inOrder (wrongLength l) unknown short (segments l))
+    let a = s .args in
+    by-flags (sliceRun (a .segments .now) (a .rule) (a .direction) (a .points) (a .lengths) (a .roles)) (c .in-order .ensures)
     (simp (u₁ .is-unknown .ensures, u₂ .is-unknown2 .ensures, toZ-ofZ (s .fits .rule), toZ-ofZ (s .fits .direction), or-false))
     (simp (t₁ .is-short .ensures, t₂ .is-short2 .ensures, t₃ .is-short3 .ensures, n .count .ensures, or-false))
 

@@ -5,7 +5,7 @@ use native.Mathlib.Omega.{arith}
 use Prim.Native.Nat.{_-_, _≤_}
 use lib.ListN.{length}
 use Rattle.segm.specs.Segments.{segments}
-use Rattle.segm.proofs.Segments.{length-segments}
+use Rattle.segm.proofs.Segments.{length-segments, count-inside}
 use Rattle.checks.specs.declared.Verdict.the-variants.{Refused}
 use Rattle.checks.specs.Verdict.{firstFrom, first}
 use Rattle.checks.specs.Search.{numberAt}
@@ -32,7 +32,7 @@ loop-holds c =
 number-at-requires : tie.Need-number-at-requires Inv-loop μ-loop
 number-at-requires c κs =
     let n = c .before .before in
-    (n .before .pre, omega (arith, n .count .ensures, length-segments (n .before .args .s .now)))
+    (n .before .pre, count-inside (n .before .args .s .now) (n .count .ensures) (c .loop-test .taken))
 
 returns : tie.Need-returns Inv-loop μ-loop
 returns c =

@@ -2,13 +2,12 @@
 use borrow.Author.Needs.{needs}
 use mathlib.Core.Path.{_≡_, sym, ap, subst, _∙_}
 use mathlib.Core.Bool.{Bool, _||_}
-use native.Mathlib.Omega.{arith}
-use Prim.Native.Nat.{ℕ, _-_, _<_, _≤_, _+_}
+use Prim.Native.Nat.{ℕ, _-_, _<_, _+_}
 use lib.ListN.{length, drop, drop-of-length-le}
 use Rattle.segm.specs.Lists.{any}
 use Rattle.segm.specs.Segments.{segments, nowhere, segmentAt}
 use Rattle.segm.proofs.Lists.{any-step}
-use Rattle.segm.proofs.Segments.{length-segments}
+use Rattle.segm.proofs.Segments.{count-inside, count-past}
 use Rattle.meetings.specs.Meetings.{Proper, meetsWrongly}
 use Rattle.checks.proofs.Faults.{proper-at}
 use Rattle.checks.proofs.meets_any.Statement.{statement}
@@ -31,7 +30,7 @@ segment-at-requires c κs = search needs
 
 -- the place looked at
 inside : (c : tie.In-loop Inv-loop μ-loop) → c .before .loop .k < length (segments (c .before .before .before .args .s .now))
-inside c = let n = c .before .before in omega (arith, n .count .ensures, length-segments (n .before .args .s .now))
+inside c = let n = c .before .before in count-inside (n .before .args .s .now) (n .count .ensures) (c .loop-test .taken)
 
 meets-wrongly-requires : tie.Need-meets-wrongly-requires Inv-loop μ-loop
 meets-wrongly-requires c κs =
@@ -74,8 +73,7 @@ returns-2 c =
     let l = c .before in
     let n = l .before in
     let d = segments (n .before .args .s .now) in
-    let past : length d ≤ l .loop .k = omega (arith, n .count .ensures, length-segments (n .before .args .s .now)) in
-    sym (l .loop .inv ∙ ap (any (meetsWrongly (n .before .args .t))) (drop-of-length-le d past))
+    sym (l .loop .inv ∙ ap (any (meetsWrongly (n .before .args .t))) (drop-of-length-le d (count-past (n .before .args .s .now) (n .count .ensures) (c .loop-test .left))))
 
 pub meets-any-spec : {M : Type 1} → statement M
 meets-any-spec =
