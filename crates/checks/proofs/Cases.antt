@@ -1,6 +1,6 @@
 -- Trial drawings of document 01, by computing: the definitions give what it says.
 use mathlib.Core.Path.{_≡_, refl}
-use mathlib.Core.List.{List, [], _∷_}
+use mathlib.Core.List.{List, [], _∷_, _++_}
 use lib.IntN.{ℤ, pos, negsuc}
 use Rattle.geom.specs.Points.{eqZ, within, ltP, eqP, coordinate, inRange, cross, between}
 use Rattle.segm.specs.Lists.{any, sum}
@@ -10,11 +10,11 @@ use Rattle.checks.specs.declared.Verdict.{Verdict}
 use Rattle.checks.specs.declared.Verdict.the-variants.{Accepted, Refused}
 use Rattle.checks.specs.Drawing.{endsInRange, rises, windingInRange, bitsInRange, fault, faultAt, meetingAt, balance, balances, unbalancedAt}
 use Rattle.checks.specs.Verdict.{wrongLength, unknownChoice, tooShort, firstFrom, first, inOrder, verdict}
-use Rattle.checks.specs.Runs.{clipRun}
+use Rattle.checks.specs.Runs.{fillsRun, clipRun, sliceRun}
 
--- a clip run under nonzero, inside, boundary included, with lists for two segments
+-- a clip run under nonzero, inside, boundary included, with lists for three segments
 abbrev clip : List ℤ → Verdict
-clip numbers = verdict (clipRun numbers (pos 1) (pos 0) (pos 1) 16 4)
+clip numbers = verdict (clipRun numbers (pos 1) (pos 0) (pos 1) 24 6)
 
 -- one segment
 abbrev segment : ℤ → ℤ → ℤ → ℤ → ℤ → ℤ → List ℤ
@@ -34,19 +34,68 @@ A = negsuc 4 ∷ pos 5 ∷ pos 0 ∷ pos 5 ∷ pos 0 ∷ pos 1
 
 pub record Cases : Type 0 where
   -- (0,0)-(2,0) and (1,0)-(1,1): 8, place 0. With (2,0)-(2,1) instead: no refusal
-  pub touching : clip (pos 0 ∷ pos 0 ∷ pos 2 ∷ pos 0 ∷ pos 0 ∷ pos 0 ∷ pos 1 ∷ pos 0 ∷ pos 1 ∷ pos 1 ∷ pos 0 ∷ pos 0 ∷ []) ≡ Refused 8 0
-  pub joined : clip (pos 0 ∷ pos 0 ∷ pos 2 ∷ pos 0 ∷ pos 0 ∷ pos 0 ∷ pos 2 ∷ pos 0 ∷ pos 2 ∷ pos 1 ∷ pos 0 ∷ pos 0 ∷ []) ≡ Accepted
+  pub touching : clip (segment (pos 0) (pos 0) (pos 2) (pos 0) (pos 0) (pos 0) ++ segment (pos 1) (pos 0) (pos 1) (pos 1) (pos 0) (pos 0)) ≡ Refused 8 0
+  pub joined : clip (segment (pos 0) (pos 0) (pos 2) (pos 0) (pos 0) (pos 0) ++ segment (pos 2) (pos 0) (pos 2) (pos 1) (pos 0) (pos 0)) ≡ Accepted
   -- one segment, winding 1
   pub unbalanced : clip (segment (pos 0) (pos 0) (pos 1) (pos 0) (pos 1) (pos 0)) ≡ Refused 9 0
   -- x 16,777,216 is taken, 16,777,217 is not
   pub on-the-limit : clip (segment (pos 16777216) (pos 0) (pos 16777216) (pos 1) (pos 0) (pos 0)) ≡ Accepted
   pub past-the-limit : clip (segment (pos 16777217) (pos 0) (pos 16777217) (pos 1) (pos 0) (pos 0)) ≡ Refused 3 0
-  -- no segments
+  -- no segments, and a list of no whole ones
   pub nothing : clip [] ≡ Accepted
-  -- lists of 16 numbers and 4 lengths are too short for nine segments, 72 and 18 are not
-  pub short : clip A ≡ Refused 11 0
-  pub accepted : verdict (clipRun A (pos 1) (pos 0) (pos 1) 72 18) ≡ Accepted
+  pub ragged : clip (pos 0 ∷ []) ≡ Refused 2 0
+  -- 4 before 5 within one segment; a 6 at place 2 before an 8 at place 0; 8 before 9
+  pub four-before-five : clip (segment (pos 1) (pos 0) (pos 1) (pos 0) (pos 1001) (pos 0)) ≡ Refused 4 0
+  pub six-before-eight : clip (segment (pos 0) (pos 0) (pos 2) (pos 0) (pos 0) (pos 0) ++ segment (pos 1) (pos 0) (pos 1) (pos 1) (pos 0) (pos 0) ++ segment (pos 3) (pos 0) (pos 4) (pos 0) (pos 0) (pos 4)) ≡ Refused 6 2
+  pub eight-before-nine : clip (segment (pos 0) (pos 0) (pos 2) (pos 0) (pos 1) (pos 0) ++ segment (pos 1) (pos 0) (pos 1) (pos 1) (pos 0) (pos 0)) ≡ Refused 8 0
+  -- equal starts are taken, falling ones are not
+  pub equal-starts : clip (segment (pos 0) (pos 0) (pos 2) (pos 2) (pos 0) (pos 0) ++ segment (pos 0) (pos 0) (pos 2) (pos 0) (pos 0) (pos 0)) ≡ Accepted
+  pub falling-starts : clip (segment (pos 0) (pos 1) (pos 2) (pos 2) (pos 0) (pos 0) ++ segment (pos 0) (pos 0) (pos 2) (pos 0) (pos 0) (pos 0)) ≡ Refused 7 1
+  -- the lowest segment that touches an unbalanced point, here one of winding 0
+  pub touched : clip (segment (pos 0) (pos 0) (pos 1) (pos 0) (pos 0) (pos 1) ++ segment (pos 1) (pos 0) (pos 2) (pos 0) (pos 1) (pos 0)) ≡ Refused 9 0
+  -- unknown choices, which come before lists too short
+  pub unknown-rule : verdict (clipRun A (pos 4) (pos 0) (pos 1) 0 0) ≡ Refused 10 0
+  pub unknown-invert : verdict (clipRun A (pos 1) (negsuc 0) (pos 1) 72 18) ≡ Refused 10 0
+  pub unknown-boundary : verdict (clipRun A (pos 1) (pos 0) (pos 2) 72 18) ≡ Refused 10 0
+  pub unknown-direction : verdict (sliceRun A (pos 1) (pos 2) 36 18 18) ≡ Refused 10 0
+  -- lists exactly long enough for case A, and each one entry short
+  pub fills-room : verdict (fillsRun A (pos 0) 9) ≡ Accepted
+  pub fills-short : verdict (fillsRun A (pos 0) 8) ≡ Refused 11 0
+  pub clip-room : verdict (clipRun A (pos 3) (pos 1) (pos 0) 72 18) ≡ Accepted
+  pub points-short : verdict (clipRun A (pos 3) (pos 1) (pos 0) 71 18) ≡ Refused 11 0
+  pub lengths-short : verdict (clipRun A (pos 3) (pos 1) (pos 0) 72 17) ≡ Refused 11 0
+  pub slice-room : verdict (sliceRun A (pos 2) (pos 1) 36 18 18) ≡ Accepted
+  pub numbers-short : verdict (sliceRun A (pos 2) (pos 1) 35 18 18) ≡ Refused 11 0
+  pub contours-short : verdict (sliceRun A (pos 2) (pos 1) 36 17 18) ≡ Refused 11 0
+  pub roles-short : verdict (sliceRun A (pos 2) (pos 1) 36 18 17) ≡ Refused 11 0
 
 pub cases : Cases
-unfolding clipRun verdict inOrder wrongLength unknownChoice tooShort first firstFrom faultAt meetingAt unbalancedAt fault endsInRange rises windingInRange bitsInRange balance balances meetsWrongly parts inside sameEnds side total any sum front segmentsOf count whole segments segmentAt eqZ within ltP eqP coordinate inRange cross between
-cases = record { touching = refl; joined = refl; unbalanced = refl; on-the-limit = refl; past-the-limit = refl; nothing = refl; short = refl; accepted = refl }
+unfolding fillsRun clipRun sliceRun verdict inOrder wrongLength unknownChoice tooShort first firstFrom faultAt meetingAt unbalancedAt fault endsInRange rises windingInRange bitsInRange balance balances meetsWrongly parts inside sameEnds side total any sum front segmentsOf count whole segments segmentAt eqZ within ltP eqP coordinate inRange cross between
+cases = record {
+  touching = refl;
+  joined = refl;
+  unbalanced = refl;
+  on-the-limit = refl;
+  past-the-limit = refl;
+  nothing = refl;
+  ragged = refl;
+  four-before-five = refl;
+  six-before-eight = refl;
+  eight-before-nine = refl;
+  equal-starts = refl;
+  falling-starts = refl;
+  touched = refl;
+  unknown-rule = refl;
+  unknown-invert = refl;
+  unknown-boundary = refl;
+  unknown-direction = refl;
+  fills-room = refl;
+  fills-short = refl;
+  clip-room = refl;
+  points-short = refl;
+  lengths-short = refl;
+  slice-room = refl;
+  numbers-short = refl;
+  contours-short = refl;
+  roles-short = refl;
+}
