@@ -2,12 +2,12 @@
 use mathlib.Core.Path.{_≡_, sym, subst}
 use mathlib.Core.Logic.{inl, inr}
 use mathlib.Core.Bool.{true}
-use lib.IntN.{pos, negℤ, _+ℤ_, *ℤ-zero}
+use lib.IntN.{pos, negℤ, _+ℤ_}
 use lib.Signed.{_≤ℤ_, _<ℤ_}
 use Rattle.integers.proofs.Linear.{ints, of-neg, of-pos}
 use Rattle.integers.proofs.Order.{positive, lt-le, mul-nonneg, sub-nonneg}
 use Rattle.integers.proofs.Ring.{E, neg, _⊞_, _⊟_, _⊠_, _≐_, ring5, ring6, ring8}
-use Rattle.integers.proofs.Sign.{_⊛_≑_, pos-ring8, zero-ring8}
+use Rattle.integers.proofs.Sign.{_⊛_≑_, pos-ring8}
 use Rattle.geom.specs.declared.Point.{Point}
 use Rattle.geom.specs.Points.{ltP, cross}
 use Rattle.geom.proofs.Points.{Before, ltP-true, before-le}
@@ -28,13 +28,6 @@ pub cross-four : (a b c d : Point) → cross a b d +ℤ cross b c d +ℤ cross c
 unfolding cross
 cross-four a b c d =
     ring8 (λ ax ay bx by cx cy dx dy. crossE ax ay bx by dx dy ⊞ crossE bx by cx cy dx dy ⊞ crossE cx cy ax ay dx dy ≐ crossE ax ay bx by cx cy) tt (a .x) (a .y) (b .x) (b .y) (c .x) (c .y) (d .x) (d .y)
-
--- two points on the line a b are on a line with a
-pub in-line : (a b c d : Point) → a .x <ℤ b .x → cross a b c ≡ pos 0 → cross a b d ≡ pos 0 → cross a c d ≡ pos 0
-unfolding cross
-in-line a b c d hb h k =
-    zero-ring8 (λ ax ay bx by cx cy dx dy. (bx ⊟ ax) ⊛ crossE ax ay cx cy dx dy ≑ (cx ⊟ ax) ⊠ crossE ax ay bx by dx dy ⊟ (dx ⊟ ax) ⊠ crossE ax ay bx by cx cy) tt (a .x) (a .y) (b .x) (b .y) (c .x) (c .y) (d .x) (d .y)
-    (search positive) (simp (h, k, *ℤ-zero))
 
 -- ---- the angular order about a
 -- b stands above a, c is not to the left of a: c is not left of a b

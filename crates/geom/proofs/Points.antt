@@ -29,9 +29,6 @@ eq-eqZ {a} {b} e = both {b = leZ b a} (le-leZ {a = a} {b = b} (omega ints)) (le-
 pub ne-eqZ : {a b : ℤ} → (a ≡ b → ⊥) → eqZ a b ≡ false
 ne-eqZ {a} {b} f = is-false (eqZ a b) (λ e. f (eqZ-true e))
 
-pub eqZ-false : {a b : ℤ} → eqZ a b ≡ false → a ≡ b → ⊥
-eqZ-false e f = clash (eq-eqZ f) e
-
 pub point : {p q : Point} → p .x ≡ q .x → p .y ≡ q .y → p ≡ q
 point e f = λ i. record { x = e i; y = f i }
 
