@@ -1,9 +1,9 @@
 -- The balance at a point, one segment after the other, and how large it can be.
 use mathlib.Core.Path.{_≡_}
-use mathlib.Core.Bool.{Bool, true, false}
+use mathlib.Core.Bool.{true}
 use Prim.Native.Nat.{_≤_}
 use native.Mathlib.Omega.{arith}
-use lib.IntN.{ℤ, pos, negℤ, natAbs}
+use lib.IntN.{pos, negℤ, natAbs}
 use Rattle.integers.proofs.Order.{abs-in, abs--}
 use Rattle.geom.specs.declared.Point.{Point}
 use Rattle.geom.specs.Points.{eqP}
@@ -12,16 +12,13 @@ use Rattle.segm.specs.declared.Segment.{Segment}
 use Rattle.segm.specs.Lists.{sum, only}
 use Rattle.segm.specs.Segments.{Drawing, total}
 use Rattle.segm.proofs.Lists.{sum--}
+use Rattle.segm.proofs.Segments.{only-bound}
 use Rattle.checks.specs.Drawing.{windingInRange, balance}
 use Rattle.checks.specs.Search.{share}
 
 pub winding-bound : (s : Segment) → windingInRange s ≡ true → natAbs (s .winding) ≤ 1000
 unfolding windingInRange
 winding-bound s e = abs-in {z = s .winding} (within-l (negℤ (pos 1000)) (pos 1000) (s .winding) e) (within-r (negℤ (pos 1000)) (pos 1000) (s .winding) e)
-
-pub only-bound : (b : Bool) (w : ℤ) → natAbs w ≤ 1000 → natAbs (only b w) ≤ 1000
-only-bound true w h = h
-only-bound false w h = omega arith
 
 pub share-bound : (p : Point) (s : Segment) → windingInRange s ≡ true → natAbs (share p s) ≤ 2000
 unfolding share

@@ -9,16 +9,16 @@ use lib.Dec.{ltb}
 use lib.ListN.{length, drop}
 use lib.IntN.{ℤ, pos, _-ℤ_}
 use borrow.Author.Tests.{ltb-true, ltb-false, not-false}
-use Rattle.integers.proofs.Booleans.{dec, clash, nor-r}
+use Rattle.integers.proofs.Booleans.{dec, clash, both-l, both-r, nor-r}
 use Rattle.geom.specs.declared.Point.{Point}
-use Rattle.geom.specs.Points.{within, ltP, eqP}
+use Rattle.geom.specs.Points.{within, ltP, eqP, inRange}
 use Rattle.geom.proofs.Points.{within-l, within-r, eqZ-true, eqP-true, not-less-trans}
 use Rattle.segm.specs.declared.Segment.{Segment}
 use Rattle.segm.specs.Lists.{_∈_, Pairs, any}
 use Rattle.segm.specs.Segments.{Drawing, count, whole, segments, nowhere, segmentAt}
 use Rattle.segm.proofs.Lists.{stands, pairs-of, pairs-map, pairs-places, in-after, any-false}
 use Rattle.segm.proofs.Segments.{length-segments, total-none}
-use Rattle.meetings.specs.Meetings.{sameEnds, meetsWrongly}
+use Rattle.meetings.specs.Meetings.{Proper, sameEnds, meetsWrongly}
 use Rattle.meetings.proofs.Apart.{apart-ends, same-ends-sym}
 use Rattle.checks.specs.declared.Verdict.{Verdict}
 use Rattle.checks.specs.declared.Verdict.the-variants.{Accepted, Refused}
@@ -145,6 +145,16 @@ module _ (numbers : List ℤ) (rule invert boundary : ℤ) (e : accepts numbers 
   accepted-run choices lists known long =
       let p = passed _ accepted-input in
       passes _ (record { right-length = p .right-length; known = known; long = long; faultless = p .faultless; apart = p .apart; balanced = p .balanced })
+
+-- its segments, one by one
+module _ (d : Drawing) (g : Good d) (s : Segment) (m : s ∈ d) where
+  pub good-proper : Proper s
+  unfolding endsInRange
+  good-proper = record {
+    near-a = both-l (inRange (s .a)) (inRange (s .b)) (g .near s m);
+    near-b = both-r (inRange (s .a)) (inRange (s .b)) (g .near s m);
+    rises = g .proper s m;
+  }
 
 -- ---- in a good drawing two different places never have both ends equal
 module _ (d : Drawing) (g : Good d) where

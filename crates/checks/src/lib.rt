@@ -6,7 +6,7 @@ ghost use mathlib.Core.Path.{_≡_};
 ghost use Prim.Native.Nat.{_-_, _<_};
 ghost use mathlib.Core.Bool.{true};
 ghost use lib.ListN.{length, drop};
-ghost use Rattle.segm.specs.Lists.{any, only};
+ghost use Rattle.segm.specs.Lists.{any};
 ghost use Rattle.segm.specs.Segments.{segments};
 ghost use Rattle.meetings.specs.Meetings.{Proper, meetsWrongly};
 ghost use Rattle.checks.specs.Drawing.{windingInRange, fault, faultAt, meetingAt, balance, unbalancedAt};
@@ -90,13 +90,6 @@ fn meeting_at(s: &[i32], i: usize) -> u32
     0
 }
 
-// w if b, else 0.
-fn only(b: bool, w: i32) -> i32
-    ensures { λ r. ⌜ r ≡ only b w ⌝ }
-{
-    if b { w } else { 0 }
-}
-
 // What t adds to the balance at p.
 fn share(p: Point, t: Segment) -> i32
     requires { ⌜ windingInRange t ≡ true ⌝ }
@@ -104,7 +97,7 @@ fn share(p: Point, t: Segment) -> i32
 {
     let a = t.a;
     let b = t.b;
-    only(geom::same(a, p), t.winding) - only(geom::same(b, p), t.winding)
+    segm::only(geom::same(a, p), t.winding) - segm::only(geom::same(b, p), t.winding)
 }
 
 // The windings starting at p, less those ending there.

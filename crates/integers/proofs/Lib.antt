@@ -6,3 +6,4 @@ pub mod Ring
 pub mod Sign
 pub mod Machine
 pub mod Linear
+pub mod Parity

@@ -1,18 +1,19 @@
 -- Laws of lists, members, places and sums: each once, for any list and any summand.
 use mathlib.Core.Path.{_≡_, refl, sym, _∙_, ap, ap₂}
-use mathlib.Core.List.{List, [], _∷_, _++_}
+use mathlib.Core.List.{List, [], _∷_, _++_, map, map-append, append-assoc}
 use mathlib.Core.Logic.{_⊎_, inl, inr}
 use mathlib.Core.Bool.{Bool, true, false, _||_, true≢false}
-use Prim.Native.Nat.{ℕ, zero, suc, _<_, _+_}
+use Prim.Native.Nat.{ℕ, zero, suc, _<_, _≤_, _+_, _*_}
 use native.Mathlib.Omega.{arith}
-use lib.ListN.{length, getD, take, drop}
+use lib.ListN.{length, getD, take, drop, set, length-append, length-drop, length-map, length-take}
 use native.Mathlib.Numerals.{add-one}
-use lib.Seq.{take-suc, drop-cons}
-use lib.IntN.{ℤ, pos, _+ℤ_, _-ℤ_, +ℤ-idl, +ℤ-idr, +ℤ-assoc}
+use lib.Seq.{take-suc, drop-cons, set-at}
+use lib.IntN.{ℤ, pos, natAbs, _+ℤ_, _-ℤ_, +ℤ-idl, +ℤ-idr, +ℤ-assoc}
 use Rattle.integers.proofs.Booleans.{nor-l, nor-r, one-of}
 use Rattle.integers.proofs.Linear.{ints, of-+}
+use Rattle.integers.proofs.Order.{abs-+}
 use Rattle.integers.proofs.Ring.{_⊞_, _⊟_, _≐_, ring4}
-use Rattle.segm.specs.Lists.{_∈_, Pairs, any, sum}
+use Rattle.segm.specs.Lists.{_∈_, Pairs, any, sum, written}
 
 four- : (a b c d : ℤ) → (a -ℤ b) +ℤ (c -ℤ d) ≡ (a +ℤ c) -ℤ (b +ℤ d)
 four- = ring4 (λ a b c d. (a ⊟ b) ⊞ (c ⊟ d) ≐ (a ⊞ c) ⊟ (b ⊞ d)) tt
@@ -62,6 +63,13 @@ module _ {A : Type 0} where
   in-after (x ∷ l) z zero (suc j) h k = in-at l z j (omega arith)
   in-after (x ∷ l) z (suc i) (suc j) h k = in-after l z i j (omega arith) (omega arith)
 
+  -- among the first k
+  pub in-take : (k : ℕ) (l : List A) (x : A) → x ∈ take k l → x ∈ l
+  in-take zero l x m = absurd m
+  in-take (suc k) [] x m = absurd m
+  in-take (suc k) (y ∷ l) x (inl e) = inl e
+  in-take (suc k) (y ∷ l) x (inr m) = inr (in-take k l x m)
+
   -- ---- some member
   pub any-false : (P : A → Bool) (l : List A) → any P l ≡ false → (x : A) → x ∈ l → P x ≡ false
   unfolding any
@@ -110,6 +118,24 @@ module _ {A : Type 0} where
   unfolding sum
   sum-take f l z i h = ap (λ k. sum f (take k l)) (add-one i) ∙ ap (sum f) (take-suc l i z h) ∙ sum-++ f (take i l) (getD l i z ∷ []) ∙ ap (λ y. sum f (take i l) +ℤ y) (+ℤ-idr (f (getD l i z)))
 
+  -- where nothing from place i on counts, the first i are all
+  pub sum-rest : (f : A → ℤ) (l : List A) (i : ℕ) → ((x : A) → x ∈ drop i l → f x ≡ pos 0) → sum f (take i l) ≡ sum f l
+  unfolding sum
+  sum-rest f l zero h = sym (sum-zero l h)
+  sum-rest f [] (suc i) h = refl
+  sum-rest f (x ∷ l) (suc i) h = ap (λ z. f x +ℤ z) (sum-rest f l i h)
+
+  -- no summand is larger than k
+  pub sum-bound : (f : A → ℤ) (k : ℕ) (l : List A) → ((x : A) → x ∈ l → natAbs (f x) ≤ k) → natAbs (sum f l) ≤ length l * k
+  unfolding sum
+  sum-bound f k [] h = omega arith
+  sum-bound f k (x ∷ l) h = omega (arith, abs-+ (f x) (sum f l), h x (inl refl), sum-bound f k l (λ y m. h y (inr m)))
+
+  pub sum-map : {B : Type 0} (f : B → ℤ) (g : A → B) (l : List A) → sum f (map g l) ≡ sum (λ x. f (g x)) l
+  unfolding sum
+  sum-map f g [] = refl
+  sum-map f g (x ∷ l) = ap (λ z. f (g x) +ℤ z) (sum-map f g l)
+
   pub sum-- : (f g : A → ℤ) (l : List A) → sum (λ x. f x -ℤ g x) l ≡ sum f l -ℤ sum g l
   unfolding sum
   sum-- f g [] = refl
@@ -127,3 +153,21 @@ module _ {A : Type 0} where
   -- f + g = f′ + g′ at every member, and the sums of g and g′ are equal: so are those of f and f′
   pub sum-trade : (f g f′ g′ : A → ℤ) (l : List A) → ((x : A) → x ∈ l → f x +ℤ g x ≡ f′ x +ℤ g′ x) → sum g l ≡ sum g′ l → sum f l ≡ sum f′ l
   sum-trade f g f′ g′ l h e = cancel (sum f l) (sum g l) (sum f′ l) (sum g′ l) (sym (sum-+ f g l) ∙ sum-cong l h ∙ sum-+ f′ g′ l) e
+
+  -- ---- lists written to: one more entry of the answer
+  pub written-more : (answer old : List A) (k : ℕ) (x : A) → k ≡ length answer → k < length old → set (written answer old) k x ≡ written (answer ++ (x ∷ [])) old
+  unfolding written
+  written-more answer old k x e h =
+      let d : length answer < length old = omega arith in
+      ap (λ (l : List A). set (answer ++ l) k x) (drop-cons old (length answer) x d) ∙ set-at answer _ _ x k (sym e) ∙ sym (simp (append-assoc, length-append, add-one))
+
+  pub length-written : (answer old : List A) → length answer ≤ length old → length (written answer old) ≡ length old
+  unfolding written
+  length-written answer old h = simp (length-append, length-drop) (omega arith)
+
+  -- the answer is l's entries through f: one place more of it
+  pub written-map : {B : Type 0} (f : B → A) (l : List B) (z : B) (old : List A) (i : ℕ) → i < length l → length l ≤ length old
+      → set (written (map f (take i l)) old) i (f (getD l i z)) ≡ written (map f (take (i + 1) l)) old
+  written-map f l z old i h k =
+      let n : i ≡ length (map f (take i l)) = sym (length-map (take i l) f ∙ length-take i l ∙ omega arith) in
+      written-more (map f (take i l)) old i (f (getD l i z)) n (omega arith) ∙ ap (λ (a : List A). written a old) (sym (ap (λ m. map f (take m l)) (add-one i) ∙ ap (map f) (take-suc l i z h) ∙ map-append f (take i l) (getD l i z ∷ [])))

@@ -1,12 +1,12 @@
 -- Segments by place, and what a sum of windings depends on.
 use mathlib.Core.Path.{_≡_, refl, _∙_, ap}
 use mathlib.Core.List.{List, _++_}
-use mathlib.Core.Bool.{Bool, false}
+use mathlib.Core.Bool.{Bool, true, false}
 use Prim.Native.Nat.{ℕ, zero, suc, _+_, _*_, _<_, _≤_}
 use native.Mathlib.Omega.{arith}
 use lib.ListN.{length, getD, drop, List·getD-eq-default}
 use lib.Seq.{drop-drop, getD-drop}
-use lib.IntN.{ℤ, pos, _+ℤ_}
+use lib.IntN.{ℤ, pos, natAbs, _+ℤ_}
 use Rattle.segm.specs.declared.Segment.{Segment}
 use Rattle.segm.specs.Lists.{_∈_, only}
 use Rattle.segm.specs.Segments.{Drawing, width, front, segmentsOf, count, segments, nowhere, segmentAt, total}
@@ -53,6 +53,10 @@ unfolding segmentAt
 past d i h = List·getD-eq-default d nowhere h
 
 -- ---- sums of windings
+pub only-bound : (b : Bool) (w : ℤ) {k : ℕ} → natAbs w ≤ k → natAbs (only b w) ≤ k
+only-bound true w h = h
+only-bound false w h = omega arith
+
 only-cong : {a b : Bool} (w : ℤ) → a ≡ b → only a w ≡ only b w
 only-cong w e = ap (λ (c : Bool). only c w) e
 

@@ -1,8 +1,9 @@
--- Lists: members, pairs of places, and sums. Assumes nothing.
+-- Lists: members, pairs of places, sums, and lists written to. Assumes nothing.
 use mathlib.Core.Path.{_≡_}
-use mathlib.Core.List.{List, [], _∷_}
+use mathlib.Core.List.{List, [], _∷_, _++_}
 use mathlib.Core.Logic.{_⊎_}
 use mathlib.Core.Bool.{Bool, false, _||_, cond}
+use lib.ListN.{length, drop}
 use lib.IntN.{ℤ, pos, _+ℤ_}
 
 module _ {A : Type 0} where
@@ -24,6 +25,10 @@ module _ {A : Type 0} where
   unfoldable pub sum : (A → ℤ) → List A → ℤ
   sum f [] = pos 0
   sum f (x ∷ l) = f x +ℤ sum f l
+
+  -- a lent list once an answer was written to its front: entries past the answer keep their old values
+  unfoldable pub written : List A → List A → List A
+  written answer old = answer ++ drop (length answer) old
 
 -- w if b, else 0
 abbrev pub only : Bool → ℤ → ℤ

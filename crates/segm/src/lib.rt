@@ -2,6 +2,7 @@
 // No function has a `requires`: any list of numbers can be read at any place.
 use geom::Point;
 ghost use mathlib.Core.Path.{_≡_};
+ghost use Rattle.segm.specs.Lists.{only};
 ghost use Rattle.segm.specs.Segments.{count, whole, segments, segmentAt};
 
 // A segment from a to b, a being the lesser. The winding is positive when the outline runs from a to b. Of the line bits, 1 is a line drawn from a to b and 2 one from b to a.
@@ -57,4 +58,11 @@ pub fn segment_at(s: &[i32], i: usize) -> Segment
         winding: s[k + 4],
         bits: s[k + 5],
     }
+}
+
+// w if b, else 0.
+pub fn only(b: bool, w: i32) -> i32
+    ensures { λ r. ⌜ r ≡ only b w ⌝ }
+{
+    if b { w } else { 0 }
 }

@@ -8,7 +8,8 @@ use Rattle.integers.proofs.Machine.{Val, read, ret, sub}
 use Rattle.geom.specs.Points.{eqP}
 use Rattle.segm.specs.Lists.{only}
 use Rattle.checks.specs.Search.{share}
-use Rattle.checks.proofs.Balances.{winding-bound, only-bound}
+use Rattle.segm.proofs.Segments.{only-bound}
+use Rattle.checks.proofs.Balances.{winding-bound}
 use borrow.Author.Needs.{needs}
 use Rattle.checks.proofs.share.Statement.{statement}
 use Rattle.checks.proofs.share.Tie as tie

@@ -2,9 +2,9 @@
 use mathlib.Core.Path.{sym, ap, _∙_}
 use mathlib.Core.Bool.{Bool}
 use mir.Facts.{toZ-ofZ}
 use Rattle.segm.specs.Lists.{only}
-use Rattle.checks.proofs.only.Statement.{statement}
-use Rattle.checks.proofs.only.Tie as tie
+use Rattle.segm.proofs.only.Statement.{statement}
+use Rattle.segm.proofs.only.Tie as tie
 
 returns : tie.Need-returns
 returns c = let s = c .before in toZ-ofZ (s .fits .w) ∙ sym (ap (λ (b : Bool). only b (s .args .w)) (c .if1 .taken))

@@ -1,0 +1,116 @@
+-- The parts of a fill: how they are read back, how large a fill is, and that line bits count for their own four-fold part only.
+use mathlib.Core.Path.{_≡_, refl, sym, ap, ap₂, subst, _∙_}
+use mathlib.Core.List.{List, [], _∷_, map, map-map}
+use mathlib.Core.Logic.{inl, inr}
+use mathlib.Core.Bool.{Bool, true, false, cond}
+use Prim.Native.Nat.{ℕ, _+_, _*_, _/_, _%_, _<_, _≤_}
+use native.Mathlib.Omega.{arith}
+use lib.ListN.{length, length-map}
+use lib.IntN.{ℤ, pos, natAbs}
+use lib.Signed.{_≤ℤ_}
+use Rattle.integers.proofs.Linear.{ints, of-neg, of-pos}
+use Rattle.integers.proofs.Order.{abs-in}
+use Rattle.segm.specs.declared.Segment.{Segment}
+use Rattle.segm.specs.Lists.{_∈_}
+use Rattle.segm.specs.Segments.{Drawing, total}
+use Rattle.segm.proofs.Lists.{sum-map}
+use Rattle.meetings.specs.Meetings.{side}
+use Rattle.checks.specs.Accepted.{Good}
+use Rattle.build.specs.declared.ray.Rule.{Rule}
+use Rattle.build.specs.Fills.{spans, above, clockwise, met, bottom, top, filled, fillOf, fill, fills}
+use Rattle.build.proofs.Counts.{adds}
+
+-- ---- how large each part is
+pub bit-bound : (b : Bool) (k : ℕ) → cond b k 0 ≤ k
+bit-bound true k = omega arith
+bit-bound false k = omega arith
+
+pub bits-abs : (bits : ℤ) → (pos 0 ≤ℤ bits) × (bits ≤ℤ pos 3) → natAbs bits ≤ 3
+bits-abs bits b = abs-in {z = bits} (omega (ints, of-neg (pos 3), of-pos 3, of-pos 0, b .0)) (b .1)
+
+-- ---- a fill's two side bits and its line bits
+top-part : (t b : Bool) (l : ℕ) → (cond t 1 0 + cond b 2 0 + 4 * l) % 2 ≡ cond t 1 0
+top-part true true l = omega arith
+top-part true false l = omega arith
+top-part false true l = omega arith
+top-part false false l = omega arith
+
+bottom-part : (t b : Bool) (l : ℕ) → (cond t 1 0 + cond b 2 0 + 4 * l) / 2 % 2 ≡ cond b 1 0
+bottom-part true true l = omega arith
+bottom-part true false l = omega arith
+bottom-part false true l = omega arith
+bottom-part false false l = omega arith
+
+line-part : (t b : Bool) (l : ℕ) → (cond t 1 0 + cond b 2 0 + 4 * l) / 4 ≡ l
+line-part true true l = omega arith
+line-part true false l = omega arith
+line-part false true l = omega arith
+line-part false false l = omega arith
+
+size : (t b : Bool) (l : ℕ) → l ≤ 3 → cond t 1 0 + cond b 2 0 + 4 * l < 16
+size t b l h = omega (arith, bit-bound t 1, bit-bound b 2)
+
+module _ (rule : Rule) (d : Drawing) (i : Segment) where
+  pub fill-top : fill rule d i % 2 ≡ cond (filled rule (top d i)) 1 0
+  unfolding fill fillOf
+  fill-top = top-part (filled rule (top d i)) (filled rule (bottom d i)) (natAbs (i .bits))
+
+  pub fill-bottom : fill rule d i / 2 % 2 ≡ cond (filled rule (bottom d i)) 1 0
+  unfolding fill fillOf
+  fill-bottom = bottom-part (filled rule (top d i)) (filled rule (bottom d i)) (natAbs (i .bits))
+
+  pub fill-lines : fill rule d i / 4 ≡ natAbs (i .bits)
+  unfolding fill fillOf
+  fill-lines = line-part (filled rule (top d i)) (filled rule (bottom d i)) (natAbs (i .bits))
+
+-- ---- one entry a segment, each below 16
+pub length-fills : (rule : Rule) (d : Drawing) → length (fills rule d) ≡ length d
+unfolding fills
+length-fills rule d = length-map d (fill rule d)
+
+module _ (d : Drawing) (g : Good d) where
+  pub fill-small : (rule : Rule) (i : Segment) → i ∈ d → fill rule d i < 16
+  unfolding fill fillOf
+  fill-small rule i m = size (filled rule (top d i)) (filled rule (bottom d i)) (natAbs (i .bits)) (bits-abs (i .bits) (g .bits i m))
+
+  pub fills-small : (rule : Rule) (f : ℕ) → f ∈ fills rule d → f < 16
+  unfolding fills
+  fills-small rule f = go d (λ i m. m)
+    where
+      go : (e : Drawing) → ((i : Segment) → i ∈ e → i ∈ d) → f ∈ map (fill rule d) e → f < 16
+      go [] h m = absurd m
+      go (i ∷ e) h (inl q) = subst (λ k. k < 16) (sym q) (fill-small rule i (h i (inl refl)))
+      go (i ∷ e) h (inr m) = go e (λ j k. h j (inr k)) m
+
+-- ---- line bits count for their own four-fold part only
+-- a segment without its line bits
+abbrev pub plain : Segment → Segment
+plain s = record { a = s .a; b = s .b; winding = s .winding; bits = pos 0 }
+
+module _ (d : Drawing) (i : Segment) where
+  bottom-plain : bottom (map plain d) (plain i) ≡ bottom d i
+  unfolding bottom total met spans above clockwise side
+  bottom-plain = sum-map (adds (plain i)) plain d
+
+  pub fill-plain : (rule : Rule) → fill rule d i ≡ fill rule (map plain d) (plain i) + 4 * natAbs (i .bits)
+  unfolding fill fillOf top
+  fill-plain rule = simp bottom-plain (omega arith)
+
+-- the two side bits of a fill
+abbrev pub sides : ℕ → ℕ
+sides f = f % 4
+
+pub sides-plain : (rule : Rule) (d : Drawing) → map sides (fills rule d) ≡ map sides (fills rule (map plain d))
+unfolding fills
+sides-plain rule d = go d ∙ sym (ap (map sides) (map-map (fill rule (map plain d)) plain d))
+  where
+    at : (i : Segment) → sides (fill rule d i) ≡ sides (fill rule (map plain d) (plain i))
+    at i = ap sides (fill-plain d i rule) ∙ omega arith
+
+    go : (e : Drawing) → map sides (map (fill rule d) e) ≡ map sides (map (λ i. fill rule (map plain d) (plain i)) e)
+    go [] = refl
+    go (i ∷ e) = ap₂ _∷_ (at i) (go e)
+
+-- two drawings that differ in line bits alone have the same sides filled
+pub sides-alike : (rule : Rule) (d e : Drawing) → map plain d ≡ map plain e → map sides (fills rule d) ≡ map sides (fills rule e)
+sides-alike rule d e q = sides-plain rule d ∙ ap (λ (l : Drawing). map sides (fills rule l)) q ∙ sym (sides-plain rule e)

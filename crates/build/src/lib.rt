@@ -1,0 +1,7 @@
+// From a drawing to its fills. Every function here is proved, and the crate assumes nothing of its own. No public function has a `requires`.
+mod ray;
+
+pub use ray::Filled;
+pub use ray::Rule;
+pub use ray::fills;
+pub use ray::rule_of;
