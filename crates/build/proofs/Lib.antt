@@ -1,2 +1,3 @@
 pub mod Counts
 pub mod Parts
+pub mod Cases

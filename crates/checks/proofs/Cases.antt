@@ -17,11 +17,11 @@ abbrev clip : List ℤ → Verdict
 clip numbers = verdict (clipRun numbers (pos 1) (pos 0) (pos 1) 24 6)
 
 -- one segment
-abbrev segment : ℤ → ℤ → ℤ → ℤ → ℤ → ℤ → List ℤ
+abbrev pub segment : ℤ → ℤ → ℤ → ℤ → ℤ → ℤ → List ℤ
 segment ax ay bx by winding bits = ax ∷ ay ∷ bx ∷ by ∷ winding ∷ bits ∷ []
 
 -- case A
-abbrev A : List ℤ
+abbrev pub A : List ℤ
 A = negsuc 4 ∷ pos 5 ∷ pos 0 ∷ pos 5 ∷ pos 0 ∷ pos 1
     ∷ pos 0 ∷ pos 0 ∷ pos 0 ∷ pos 5 ∷ negsuc 0 ∷ pos 0
     ∷ pos 0 ∷ pos 0 ∷ pos 10 ∷ pos 0 ∷ pos 1 ∷ pos 0

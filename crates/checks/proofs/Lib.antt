@@ -4,4 +4,4 @@ pub mod Places
 pub mod Order
 pub mod Listed
 pub mod Good
-mod Cases
+pub mod Cases

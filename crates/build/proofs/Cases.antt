@@ -1,0 +1,84 @@
+-- Worked cases of the fills, by computing: document 01's case A, each rule, and each clause of the ray.
+use mathlib.Core.Path.{_≡_, refl}
+use mathlib.Core.List.{List, [], _∷_, _++_, map}
+use mathlib.Core.Bool.{true, false}
+use Prim.Native.Nat.{ℕ}
+use lib.IntN.{ℤ, pos, negsuc}
+use Rattle.geom.specs.Points.{eqZ, within, ltP, eqP, coordinate, inRange, cross, between}
+use Rattle.segm.specs.Lists.{any, sum, written}
+use Rattle.segm.specs.Segments.{front, segmentsOf, count, whole, segments, segmentAt, total}
+use Rattle.meetings.specs.Meetings.{side, parts, inside, sameEnds, meetsWrongly}
+use Rattle.checks.specs.Drawing.{endsInRange, rises, windingInRange, bitsInRange, fault, faultAt, meetingAt, balance, balances, unbalancedAt}
+use Rattle.checks.specs.Verdict.{wrongLength, unknownChoice, tooShort, firstFrom, first, inOrder, verdict}
+use Rattle.checks.specs.Runs.{fillsRun}
+use Rattle.checks.proofs.Cases.{segment, A}
+use Rattle.build.specs.declared.ray.Rule.the-variants.{EvenOdd, NonZero, Positive, Negative}
+use Rattle.build.specs.declared.ray.Filled.the-variants.{Done, Refused}
+use Rattle.build.specs.Fills.{spans, above, clockwise, met, bottom, top, filled, ruleOf, fillOf, fill, fills, outcome, fillsOutcome}
+
+-- the bottom counts of all segments
+abbrev bottoms : List ℤ → List ℤ
+bottoms numbers = map (bottom (segments numbers)) (segments numbers)
+
+-- a square run counter-clockwise twice over a hole run clockwise once: left, bottom, hole's four, top, right
+abbrev ring : List ℤ
+ring =
+    segment (pos 0) (pos 0) (pos 0) (pos 9) (negsuc 1) (pos 0)
+    ++ segment (pos 0) (pos 0) (pos 9) (pos 0) (pos 2) (pos 0)
+    ++ segment (pos 0) (pos 9) (pos 9) (pos 9) (negsuc 1) (pos 0)
+    ++ segment (pos 3) (pos 3) (pos 3) (pos 6) (pos 3) (pos 0)
+    ++ segment (pos 3) (pos 3) (pos 6) (pos 3) (negsuc 2) (pos 2)
+    ++ segment (pos 3) (pos 6) (pos 6) (pos 6) (pos 3) (pos 0)
+    ++ segment (pos 6) (pos 3) (pos 6) (pos 6) (negsuc 2) (pos 0)
+    ++ segment (pos 9) (pos 0) (pos 9) (pos 9) (pos 2) (pos 0)
+
+-- a lent list that held something
+abbrev noise : List ℕ
+noise = 21 ∷ 22 ∷ 23 ∷ 24 ∷ 25 ∷ 26 ∷ 27 ∷ 28 ∷ 29 ∷ 30 ∷ 31 ∷ []
+
+pub record Cases : Type 0 where
+  -- A's fills, and what stays of a longer list
+  pub case-A : fillsOutcome A (pos 1) noise ≡ outcome (Done 9) (4 ∷ 2 ∷ 1 ∷ 2 ∷ 7 ∷ 2 ∷ 1 ∷ 1 ∷ 4 ∷ 30 ∷ 31 ∷ [])
+  -- refused: nothing is written
+  pub unknown-rule : fillsOutcome A (pos 4) noise ≡ outcome (Refused 10 0) noise
+  pub one-short : fillsOutcome A (pos 1) (1 ∷ 2 ∷ 3 ∷ 4 ∷ 5 ∷ 6 ∷ 7 ∷ 8 ∷ []) ≡ outcome (Refused 11 0) (1 ∷ 2 ∷ 3 ∷ 4 ∷ 5 ∷ 6 ∷ 7 ∷ 8 ∷ [])
+  -- counts 2 between the outlines, -1 in the hole
+  pub ring-counts : bottoms ring ≡ pos 2 ∷ pos 0 ∷ pos 2 ∷ negsuc 0 ∷ pos 2 ∷ negsuc 0 ∷ pos 2 ∷ pos 0 ∷ []
+  pub ring-even-odd : fills (ruleOf (pos 0)) (segments ring) ≡ 0 ∷ 0 ∷ 0 ∷ 2 ∷ 9 ∷ 2 ∷ 1 ∷ 0 ∷ []
+  pub ring-nonzero : fills (ruleOf (pos 1)) (segments ring) ≡ 2 ∷ 1 ∷ 2 ∷ 3 ∷ 11 ∷ 3 ∷ 3 ∷ 1 ∷ []
+  pub ring-positive : fills (ruleOf (pos 2)) (segments ring) ≡ 2 ∷ 1 ∷ 2 ∷ 1 ∷ 10 ∷ 1 ∷ 2 ∷ 1 ∷ []
+  pub ring-negative : fills (ruleOf (pos 3)) (segments ring) ≡ 0 ∷ 0 ∷ 0 ∷ 2 ∷ 9 ∷ 2 ∷ 1 ∷ 0 ∷ []
+  -- a segment is counted up to its b.x, which itself is left out
+  pub reaches : bottoms (segment (pos 0) (pos 0) (pos 3) (pos 0) (pos 1) (pos 0) ++ segment (pos 2) (pos 1) (pos 4) (pos 1) (pos 0) (pos 0)) ≡ pos 0 ∷ pos 1 ∷ []
+  pub ends-there : bottoms (segment (pos 0) (pos 0) (pos 2) (pos 0) (pos 1) (pos 0) ++ segment (pos 2) (pos 1) (pos 4) (pos 1) (pos 0) (pos 0)) ≡ pos 0 ∷ pos 0 ∷ []
+  -- a vertical one is not counted
+  pub vertical : bottoms (segment (pos 0) (pos 0) (pos 0) (pos 5) (pos 1) (pos 0) ++ segment (pos 0) (pos 6) (pos 1) (pos 6) (pos 0) (pos 0)) ≡ pos 0 ∷ pos 0 ∷ []
+  -- of two with one start the clockwise one is under the other, in either order
+  pub one-start : bottoms (segment (pos 0) (pos 0) (pos 2) (negsuc 0) (pos 1) (pos 0) ++ segment (pos 0) (pos 0) (pos 2) (pos 1) (pos 1) (pos 0)) ≡ pos 0 ∷ pos 1 ∷ []
+  pub other-order : bottoms (segment (pos 0) (pos 0) (pos 2) (pos 1) (pos 1) (pos 0) ++ segment (pos 0) (pos 0) (pos 2) (negsuc 0) (pos 1) (pos 0)) ≡ pos 1 ∷ pos 0 ∷ []
+  -- the start itself is on the other's line, which then is not under it
+  pub on-the-line : bottoms (segment (pos 0) (pos 0) (pos 2) (pos 0) (pos 1) (pos 0) ++ segment (pos 1) (pos 0) (pos 1) (pos 1) (pos 0) (pos 0)) ≡ pos 0 ∷ pos 0 ∷ []
+  -- -1 is odd, and -2 is not
+  pub odd-below : filled EvenOdd (negsuc 0) ≡ true
+  pub even-below : filled EvenOdd (negsuc 1) ≡ false
+
+pub cases : Cases
+unfolding eqZ within ltP eqP coordinate inRange cross between any sum written front segmentsOf count whole segments segmentAt total side parts inside sameEnds meetsWrongly endsInRange rises windingInRange bitsInRange fault faultAt meetingAt balance balances unbalancedAt wrongLength unknownChoice tooShort firstFrom first inOrder verdict fillsRun spans above clockwise met bottom top filled ruleOf fillOf fill fills fillsOutcome
+cases = record {
+  case-A = refl;
+  unknown-rule = refl;
+  one-short = refl;
+  ring-counts = refl;
+  ring-even-odd = refl;
+  ring-nonzero = refl;
+  ring-positive = refl;
+  ring-negative = refl;
+  reaches = refl;
+  ends-there = refl;
+  vertical = refl;
+  one-start = refl;
+  other-order = refl;
+  on-the-line = refl;
+  odd-below = refl;
+  even-below = refl;
+}
