@@ -43,13 +43,16 @@ returns-3 c =
     let e = f .before .before in
     sym (simp (sym (spanned (e .before)) ∙ not-false _ (e .if1 .left), sym (f .before .above .ensures) ∙ f .if2 .left, sym (c .before .same .ensures) ∙ not-true _ (c .if3 .taken)))
 
-returns-4 : tie.Need-returns-4
+-- what is left past the first three tests
+left : (c : tie.Else3) → met (c .before .before .before .before .before .before .before .before .args .i) (c .before .before .before .before .before .before .before .before .args .j) ≡ above (c .before .before .before .before .before .before .before .before .args .j) (c .before .before .before .before .before .before .before .before .args .i .b)
 unfolding met clockwise
-returns-4 c =
-    let g = c .before in
-    let f = g .before .before in
+left c =
+    let f = c .before .before in
     let e = f .before .before in
-    c .above2 .ensures ∙ sym (simp (sym (spanned (e .before)) ∙ not-false _ (e .if1 .left), sym (f .before .above .ensures) ∙ f .if2 .left, sym (g .before .same .ensures) ∙ not-false _ (g .if3 .left)))
+    simp (sym (spanned (e .before)) ∙ not-false _ (e .if1 .left), sym (f .before .above .ensures) ∙ f .if2 .left, sym (c .before .same .ensures) ∙ not-false _ (c .if3 .left))
+
+returns-4 : tie.Need-returns-4
+returns-4 c = c .above2 .ensures ∙ sym (left (c .before))
 
 pub met-spec : {M : Type 1} → statement M
 met-spec =
