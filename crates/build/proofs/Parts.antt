@@ -29,23 +29,18 @@ pub bits-abs : (bits : ℤ) → (pos 0 ≤ℤ bits) × (bits ≤ℤ pos 3) → n
 bits-abs bits b = abs-in {z = bits} (omega (ints, of-neg (pos 3), of-pos 3, of-pos 0, b .0)) (b .1)
 
 -- ---- a fill's two side bits and its line bits
+double : (b : Bool) → cond b 2 0 ≡ 2 * cond b 1 0
+double true = refl
+double false = refl
+
 top-part : (t b : Bool) (l : ℕ) → (cond t 1 0 + cond b 2 0 + 4 * l) % 2 ≡ cond t 1 0
-top-part true true l = omega arith
-top-part true false l = omega arith
-top-part false true l = omega arith
-top-part false false l = omega arith
+top-part t b l = omega (arith, bit-bound t 1, bit-bound b 1, double b)
 
 bottom-part : (t b : Bool) (l : ℕ) → (cond t 1 0 + cond b 2 0 + 4 * l) / 2 % 2 ≡ cond b 1 0
-bottom-part true true l = omega arith
-bottom-part true false l = omega arith
-bottom-part false true l = omega arith
-bottom-part false false l = omega arith
+bottom-part t b l = omega (arith, bit-bound t 1, bit-bound b 1, double b)
 
 line-part : (t b : Bool) (l : ℕ) → (cond t 1 0 + cond b 2 0 + 4 * l) / 4 ≡ l
-line-part true true l = omega arith
-line-part true false l = omega arith
-line-part false true l = omega arith
-line-part false false l = omega arith
+line-part t b l = omega (arith, bit-bound t 1, bit-bound b 1, double b)
 
 size : (t b : Bool) (l : ℕ) → l ≤ 3 → cond t 1 0 + cond b 2 0 + 4 * l < 16
 size t b l h = omega (arith, bit-bound t 1, bit-bound b 2)

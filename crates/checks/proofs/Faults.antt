@@ -59,7 +59,7 @@ balanced-at d i e =
     balanced false m h e = absurd (omega arith)
 
 -- ---- where 3 to 7 fit nowhere
-proper : (s : Segment) → endsInRange s ≡ true → rises s ≡ true → Proper s
+pub proper : (s : Segment) → endsInRange s ≡ true → rises s ≡ true → Proper s
 unfolding endsInRange rises
 proper s e o = record { near-a = both-l (inRange (s .a)) (inRange (s .b)) e; near-b = both-r (inRange (s .a)) (inRange (s .b)) e; rises = o }
 

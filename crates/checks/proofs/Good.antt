@@ -9,9 +9,9 @@ use lib.Dec.{ltb}
 use lib.ListN.{length, drop}
 use lib.IntN.{ℤ, pos, _-ℤ_}
 use borrow.Author.Tests.{ltb-true, ltb-false, not-false}
-use Rattle.integers.proofs.Booleans.{dec, clash, both-l, both-r, nor-r}
+use Rattle.integers.proofs.Booleans.{dec, clash, nor-r}
 use Rattle.geom.specs.declared.Point.{Point}
-use Rattle.geom.specs.Points.{within, ltP, eqP, inRange}
+use Rattle.geom.specs.Points.{within, ltP, eqP}
 use Rattle.geom.proofs.Points.{within-l, within-r, eqZ-true, eqP-true, not-less-trans}
 use Rattle.segm.specs.declared.Segment.{Segment}
 use Rattle.segm.specs.Lists.{_∈_, Pairs, any}
@@ -26,7 +26,7 @@ use Rattle.checks.specs.Drawing.{endsInRange, rises, bitsInRange, faultA
 use Rattle.checks.specs.Verdict.{Choice, Lent, Run, wrongLength, unknownChoice, tooShort, isAccepted, verdict}
 use Rattle.checks.specs.Runs.{clipRun}
 use Rattle.checks.specs.Accepted.{Good, inputOf, accepts}
-use Rattle.checks.proofs.Faults.{Faultless, faultless-at, meetingless, balanced-at}
+use Rattle.checks.proofs.Faults.{Faultless, faultless-at, proper, meetingless, balanced-at}
 use Rattle.checks.proofs.Balances.{winding-bound}
 use Rattle.checks.proofs.Places.{first-none}
 use Rattle.checks.proofs.Order.{Passed, passed, passes}
@@ -149,12 +149,8 @@ module _ (numbers : List ℤ) (rule invert boundary : ℤ) (e : accepts numbers 
 -- its segments, one by one
 module _ (d : Drawing) (g : Good d) (s : Segment) (m : s ∈ d) where
   pub good-proper : Proper s
-  unfolding endsInRange
-  good-proper = record {
-    near-a = both-l (inRange (s .a)) (inRange (s .b)) (g .near s m);
-    near-b = both-r (inRange (s .a)) (inRange (s .b)) (g .near s m);
-    rises = g .proper s m;
-  }
+  unfolding rises
+  good-proper = proper s (g .near s m) (g .proper s m)
 
 -- ---- in a good drawing two different places never have both ends equal
 module _ (d : Drawing) (g : Good d) where

@@ -3,14 +3,18 @@ use mathlib.Core.Path.{_≡_, refl, sym, _∙_, ap, ap₂}
 use mathlib.Core.List.{List, [], _∷_, _++_, map, map-append, append-assoc}
 use mathlib.Core.Logic.{_⊎_, inl, inr}
 use mathlib.Core.Bool.{Bool, true, false, _||_, true≢false}
-use Prim.Native.Nat.{ℕ, zero, suc, _<_, _≤_, _+_, _*_}
+use Prim.Native.Nat.{ℕ, zero, suc, _<_, _≤_, _+_, _*_, _^_}
+use native.Mathlib.Nat as N
 use native.Mathlib.Omega.{arith}
 use lib.ListN.{length, getD, take, drop, set, length-append, length-drop, length-map, length-take}
 use native.Mathlib.Numerals.{add-one}
 use lib.Seq.{take-suc, drop-cons, set-at}
 use lib.IntN.{ℤ, pos, natAbs, _+ℤ_, _-ℤ_, +ℤ-idl, +ℤ-idr, +ℤ-assoc}
+use mir.Syntax.{Width}
+use mir.Val.{hbits}
 use Rattle.integers.proofs.Booleans.{nor-l, nor-r, one-of}
 use Rattle.integers.proofs.Linear.{ints, of-+}
+use Rattle.integers.proofs.Machine.{Is, cast}
 use Rattle.integers.proofs.Order.{abs-+}
 use Rattle.integers.proofs.Ring.{_⊞_, _⊟_, _≐_, ring4}
 use Rattle.segm.specs.Lists.{_∈_, Pairs, any, sum, written}
@@ -130,6 +134,14 @@ module _ {A : Type 0} where
   unfolding sum
   sum-bound f k [] h = omega arith
   sum-bound f k (x ∷ l) h = omega (arith, abs-+ (f x) (sum f l), h x (inl refl), sum-bound f k l (λ y m. h y (inr m)))
+
+  -- a machine's sum over the first i places, with the next one added
+  pub sum-next : {w : Width} (f : A → ℤ) (l : List A) (z : A) (k i : ℕ) → ((x : A) → x ∈ l → natAbs (f x) ≤ k) → length l * k < 2 ^ hbits w → i < length l
+      → {x y : ℤ} → x ≡ sum f (take i l) → y ≡ f (getD l i z) → Is w (length l * k) (x +ℤ y) (sum f (take (i + 1) l))
+  sum-next f l z k i h t j ex ey = cast (record { is = ap₂ _+ℤ_ ex ey ∙ sym (sum-take f l z i j); bound = N.le-trans (sum-bound f k (take (i + 1) l) (λ x m. h x (in-take (i + 1) l x m))) (N.mul-le-mul shorter (N.le-refl k)) }) t
+    where
+      shorter : length (take (i + 1) l) ≤ length l
+      shorter = omega (arith, length-take (i + 1) l)
 
   pub sum-map : {B : Type 0} (f : B → ℤ) (g : A → B) (l : List A) → sum f (map g l) ≡ sum (λ x. f (g x)) l
   unfolding sum

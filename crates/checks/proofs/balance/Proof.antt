@@ -1,29 +1,28 @@
--- The sum so far is that of the shares of the segments passed, at most 2,000 each. Assumes nothing.
+-- The sum so far is that of the shares of the segments passed. Assumes nothing.
 use borrow.Author.Needs.{needs}
 use mathlib.Core.Path.{_≡_, refl, sym, ap, _∙_}
 use mathlib.Core.Bool.{true}
 use native.Mathlib.Omega.{arith}
-use Prim.Native.Nat.{_+_, _*_, _-_, _<_, _≤_}
+use Prim.Native.Nat.{_+_, _*_, _-_, _<_}
 use lib.ListN.{length, take}
 use lib.Seq.{take-all}
 use lib.IntN.{_+ℤ_}
 use mir.Syntax.{w32}
 use mir.Val.{toZ, ofZ}
-use Rattle.integers.proofs.Machine.{Val, Is, rd, read, at-most, same-as, add}
-use Rattle.segm.specs.declared.Segment.{Segment}
+use Rattle.integers.proofs.Machine.{Is, rd, got}
 use Rattle.segm.specs.Lists.{sum}
-use Rattle.segm.specs.Segments.{segments, nowhere, segmentAt}
-use Rattle.segm.proofs.Lists.{sum-take}
+use Rattle.segm.specs.Segments.{Drawing, segments, nowhere, segmentAt}
+use Rattle.segm.proofs.Lists.{sum-next}
 use Rattle.segm.proofs.Segments.{count-inside, count-past}
 use Rattle.checks.specs.Drawing.{windingInRange}
 use Rattle.checks.specs.Search.{share}
 use Rattle.checks.proofs.Faults.{winding-at}
-use Rattle.checks.proofs.Balances.{share-bound, balance-shares}
+use Rattle.checks.proofs.Balances.{shares-bound, balance-shares}
 use Rattle.checks.proofs.balance.Statement.{statement}
 use Rattle.checks.proofs.balance.Tie as tie
 
 abbrev Inv-loop : tie.InvT-loop
-Inv-loop s p n sum₀ i₀ sum′ i = (i ≤ n) × Val (2000 * i) (toZ w32 sum′) (sum (share p) (take i (segments s)))
+Inv-loop s p n sum₀ i₀ sum′ i = toZ w32 sum′ ≡ sum (share p) (take i (segments s))
 
 abbrev μ-loop : tie.MeasureT-loop
 μ-loop s p n sum₀ i₀ sum′ i = n - i
@@ -33,7 +32,7 @@ count-requires c κs = search needs
 
 loop-holds : tie.Need-loop-holds Inv-loop μ-loop
 unfolding sum
-loop-holds c = (omega arith, record { is = refl; bound = omega arith })
+loop-holds c = refl
 
 segment-at-requires : tie.Need-segment-at-requires Inv-loop μ-loop
 segment-at-requires c κs = search needs
@@ -59,11 +58,14 @@ module _ (c : tie.After-share Inv-loop μ-loop) where
   abbrev s : tie.Start Inv-loop μ-loop
   s = l .before .before
 
-  added : Val 2000 (toZ w32 (ofZ w32 (c .share .result))) (share (s .args .p) (c .before .segment-at .result))
-  added = record { is = read w32 (c .share .result) (c .share .ok) ∙ c .share .ensures; bound = share-bound (s .args .p) (c .before .segment-at .result) (known (c .before)) }
+  abbrev d : Drawing
+  d = segments (s .args .s .now)
 
-  next : Is w32 (2000 * l .loop .i + 2000) (toZ w32 (l .loop .sum) +ℤ toZ w32 (ofZ w32 (c .share .result))) (sum (share (s .args .p)) (take (l .loop .i) (segments (s .args .s .now))) +ℤ share (s .args .p) (c .before .segment-at .result))
-  next = add (l .loop .inv .1) added (omega (arith, inside (c .before .before), s .pre .few))
+  next : Is w32 (length d * 2000) (toZ w32 (l .loop .sum) +ℤ toZ w32 (ofZ w32 (c .share .result))) (sum (share (s .args .p)) (take (l .loop .i + 1) d))
+  unfolding segmentAt
+  next =
+      sum-next (share (s .args .p)) d nowhere 2000 (l .loop .i) (shares-bound d (s .pre) (s .args .p)) (omega (arith, s .pre .few)) (inside (c .before .before))
+      (l .loop .inv) (got w32 (c .share .result) (c .share .ok) (c .share .ensures) ∙ ap (share (s .args .p)) (c .before .segment-at .ensures))
 
 add-sum : tie.Need-add-sum Inv-loop μ-loop
 add-sum c = next c .fits
@@ -75,14 +77,7 @@ loop-less : tie.Need-loop-less Inv-loop μ-loop
 loop-less c = search needs
 
 loop-again : tie.Need-loop-again Inv-loop μ-loop
-unfolding segmentAt
-loop-again c =
-    let p = s c .args .p in
-    let d = segments (s c .args .s .now) in
-    let i = l c .loop .i in
-    let sums = ap (λ (t : Segment). sum (share p) (take i d) +ℤ share p t) (c .before .segment-at .ensures) ∙ sym (sum-take (share p) d nowhere i (inside (c .before .before))) in
-    let new = same-as (rd (next c)) sums in
-    (omega arith, at-most new (omega (arith, new .bound)))
+loop-again c = rd (next c) .is
 
 returns : tie.Need-returns Inv-loop μ-loop
 returns c =
@@ -90,7 +85,7 @@ returns c =
     let n = l .before in
     let d = segments (n .before .args .s .now) in
     let p = n .before .args .p in
-    l .loop .inv .1 .is ∙ ap (sum (share p)) (take-all (l .loop .i) d (count-past (n .before .args .s .now) (n .count .ensures) (c .loop-test .left))) ∙ balance-shares d p
+    l .loop .inv ∙ ap (sum (share p)) (take-all (l .loop .i) d (count-past (n .before .args .s .now) (n .count .ensures) (c .loop-test .left))) ∙ balance-shares d p
 
 pub balance-spec : {M : Type 1} → statement M
 balance-spec =

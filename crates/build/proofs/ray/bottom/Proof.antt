@@ -2,20 +2,19 @@
 use borrow.Author.Needs.{needs}
 use mathlib.Core.Path.{_≡_, refl, sym, ap, subst, _∙_}
 use native.Mathlib.Omega.{arith}
-use Prim.Native.Nat.{_-_, _<_, _≤_}
-use lib.ListN.{length, take, length-take}
+use Prim.Native.Nat.{_+_, _*_, _-_, _<_}
+use lib.ListN.{length, take}
 use lib.Seq.{take-all}
-use lib.Dec.{lit<}
 use lib.IntN.{_+ℤ_}
 use lib.Signed.{_<ℤ_}
 use mir.Syntax.{w32}
 use mir.Val.{toZ, ofZ}
-use Rattle.integers.proofs.Machine.{Val, Is, rd, got, add}
+use Rattle.integers.proofs.Machine.{Is, rd, got}
 use Rattle.integers.proofs.Order.{ltZ-true}
 use Rattle.segm.specs.declared.Segment.{Segment}
 use Rattle.segm.specs.Lists.{_∈_, sum}
 use Rattle.segm.specs.Segments.{Drawing, segments, nowhere, segmentAt}
-use Rattle.segm.proofs.Lists.{in-at, in-take, sum-take, sum-bound}
+use Rattle.segm.proofs.Lists.{in-at, sum-next}
 use Rattle.segm.proofs.Segments.{count-inside, count-past}
 use Rattle.checks.proofs.Good.{good-proper}
 use Rattle.build.proofs.Counts.{adds, bottom-adds, bottom-stops, adds-bound}
@@ -23,7 +22,7 @@ use Rattle.build.proofs.ray.bottom.Statement.{statement}
 use Rattle.build.proofs.ray.bottom.Tie as tie
 
 abbrev Inv-loop : tie.InvT-loop
-Inv-loop s i n sum₀ k₀ sum′ k = (k ≤ n) × (toZ w32 sum′ ≡ sum (adds i) (take k (segments s)))
+Inv-loop s i n sum₀ k₀ sum′ k = toZ w32 sum′ ≡ sum (adds i) (take k (segments s))
 
 abbrev μ-loop : tie.MeasureT-loop
 μ-loop s i n sum₀ k₀ sum′ k = n - k
@@ -33,7 +32,7 @@ count-requires c κs = search needs
 
 loop-holds : tie.Need-loop-holds Inv-loop μ-loop
 unfolding sum
-loop-holds c = (omega arith, refl)
+loop-holds c = refl
 
 segment-at-requires : tie.Need-segment-at-requires Inv-loop μ-loop
 segment-at-requires c κs = search needs
@@ -60,7 +59,7 @@ returns c =
     let s = l .before .before in
     let d = segments (s .args .s .now) in
     let right = ltZ-true (sym (c .before .starts-right .ensures) ∙ c .if1 .taken) in
-    l .loop .inv .1 ∙ bottom-stops d (s .pre .0) (s .args .i) (l .loop .k) (inside (t .before)) (subst (λ (j : Segment). s .args .i .a .x <ℤ j .a .x) (t .segment-at .ensures) right)
+    l .loop .inv ∙ bottom-stops d (s .pre .0) (s .args .i) (l .loop .k) (inside (t .before)) (subst (λ (j : Segment). s .args .i .a .x <ℤ j .a .x) (t .segment-at .ensures) right)
 
 adds-requires : tie.Need-adds-requires Inv-loop μ-loop
 adds-requires c κs =
@@ -82,17 +81,11 @@ module _ (c : tie.After-adds Inv-loop μ-loop) where
   abbrev d : Drawing
   d = segments (s .args .s .now)
 
-  so-far : Val 1023000 (toZ w32 (l .loop .sum)) (sum (adds (s .args .i)) (take (l .loop .k) d))
-  so-far =
-      let f = adds (s .args .i) in
-      let b = sum-bound f 1000 (take (l .loop .k) d) (λ j m. adds-bound d (s .pre .0) (s .args .i) j (in-take (l .loop .k) d j m)) in
-      record { is = l .loop .inv .1; bound = omega (arith, b, length-take (l .loop .k) d, inside (t .before), s .pre .0 .few) }
-
-  added : Val 1000 (toZ w32 (ofZ w32 (c .adds .result))) (adds (s .args .i) (t .segment-at .result))
-  added = record { is = got w32 (c .adds .result) (c .adds .ok) (c .adds .ensures); bound = adds-bound d (s .pre .0) (s .args .i) (t .segment-at .result) (member t) }
-
-  next : Is w32 1024000 (toZ w32 (l .loop .sum) +ℤ toZ w32 (ofZ w32 (c .adds .result))) (sum (adds (s .args .i)) (take (l .loop .k) d) +ℤ adds (s .args .i) (t .segment-at .result))
-  next = add so-far added (lit< tt)
+  next : Is w32 (length d * 1000) (toZ w32 (l .loop .sum) +ℤ toZ w32 (ofZ w32 (c .adds .result))) (sum (adds (s .args .i)) (take (l .loop .k + 1) d))
+  unfolding segmentAt
+  next =
+      sum-next (adds (s .args .i)) d nowhere 1000 (l .loop .k) (adds-bound d (s .pre .0) (s .args .i)) (omega (arith, s .pre .0 .few)) (inside (t .before))
+      (l .loop .inv) (got w32 (c .adds .result) (c .adds .ok) (c .adds .ensures) ∙ ap (adds (s .args .i)) (t .segment-at .ensures))
 
 add-sum : tie.Need-add-sum Inv-loop μ-loop
 add-sum c = next c .fits
@@ -104,11 +97,7 @@ loop-less : tie.Need-loop-less Inv-loop μ-loop
 loop-less c = search needs
 
 loop-again : tie.Need-loop-again Inv-loop μ-loop
-unfolding segmentAt
-loop-again c =
-    let f = adds (s c .args .i) in
-    let k = l c .loop .k in
-    (omega arith, rd (next c) .is ∙ ap (λ (j : Segment). sum f (take k (d c)) +ℤ f j) (t c .segment-at .ensures) ∙ sym (sum-take f (d c) nowhere k (inside (t c .before))))
+loop-again c = rd (next c) .is
 
 returns-2 : tie.Need-returns-2 Inv-loop μ-loop
 returns-2 c =
@@ -116,7 +105,7 @@ returns-2 c =
     let n = l .before in
     let d = segments (n .before .args .s .now) in
     let i = n .before .args .i in
-    l .loop .inv .1 ∙ ap (sum (adds i)) (take-all (l .loop .k) d (count-past (n .before .args .s .now) (n .count .ensures) (c .loop-test .left))) ∙ bottom-adds d i
+    l .loop .inv ∙ ap (sum (adds i)) (take-all (l .loop .k) d (count-past (n .before .args .s .now) (n .count .ensures) (c .loop-test .left))) ∙ bottom-adds d i
 
 pub bottom-spec : {M : Type 1} → statement M
 bottom-spec =

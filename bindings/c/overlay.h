@@ -1,0 +1,53 @@
+/* The string overlay for C, C++ and whatever reads C headers. Link with liboverlay.a, which
+   `rt staticlib overlay` puts into target/staticlib.
+
+   A drawing is a list of segments, six numbers each: ax, ay, bx, by, winding, line bits. Point a is
+   less than b, by x and then y, and the segments come in order of their a. The winding is positive
+   where the outline runs from a to b. Line bit 1 is a line drawn from a to b, bit 2 one from b to a.
+
+   Any numbers may be passed. What is refused, tried in this order; a place is that of a segment,
+   from 0, and 0 where none is named:
+      2  the length is no multiple of six, or there are over 1,024 segments
+     10  an unknown choice
+     11  a lent list is too short
+      3  a coordinate is not from -16,777,216 to 16,777,216 (place)
+      4  a is not less than b (place)
+      5  the winding is not from -1,000 to 1,000 (place)
+      6  the line bits are not from 0 to 3 (place)
+      7  a is less than the previous segment's a (place)
+      8  two segments meet wrongly (place: the lower one's)
+      9  the drawing does not balance (place: the lowest segment touching an unbalanced point)
+   3 to 7 are tried segment by segment, the lowest number first within one.
+
+   A list is passed as a pointer and its number of entries. No pointer may be NULL, not even for a list
+   of no entries: pass the address of anything. Lists of one call must not overlap. */
+
+#ifndef OVERLAY_H
+#define OVERLAY_H
+
+#include <stddef.h>
+#include <stdint.h>
+
+#ifdef __cplusplus
+extern "C" {
+#endif
+
+/* Number and place are 0 on success; on a refusal they say which and where, and the count is 0. */
+struct overlay_filled {
+    uint64_t number;
+    uint64_t place;
+    uint64_t count;
+};
+
+/* The fill of each of the n segments: 1 if its top is filled, plus 2 if its bottom is, plus 4 times its
+   line bits. The bottom is right of a to b, the top left. The rule is 0 even-odd, 1 nonzero, 2 positive
+   or 3 negative. The list `fills` needs n entries; those past n keep their values, and after a refusal
+   all do. The count is n. */
+struct overlay_filled overlay_fills(const int32_t *segments, size_t segments_len, int32_t rule,
+                                    uint8_t *fills, size_t fills_len);
+
+#ifdef __cplusplus
+}
+#endif
+
+#endif

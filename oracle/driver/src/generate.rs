@@ -1,0 +1,72 @@
+//! Random drawings that should be accepted.
+
+use crate::drawing::MOST_SEGMENTS;
+use crate::placement::{self, placed};
+use crate::plane::Plane;
+use crate::random::Random;
+use crate::shapes;
+
+/// Makes a shape of about so many segments.
+pub type Make = fn(&mut Random, usize) -> Plane;
+
+pub struct Generator {
+    pub name: &'static str,
+    make: Make,
+    size: fn(&mut Random) -> i32,
+    placements: usize,
+    /// How many of a thousand drawings.
+    pub share: usize,
+}
+
+const fn free(name: &'static str, make: Make, share: usize) -> Generator {
+    Generator { name, make, size: usual, placements: placement::NAMES.len(), share }
+}
+
+/// For a shape that has the full range already.
+const fn fixed(name: &'static str, make: Make, share: usize) -> Generator {
+    Generator { placements: 1, ..free(name, make, share) }
+}
+
+pub const GENERATORS: [Generator; 15] = [
+    free("grid", shapes::grid, 245),
+    free("lattice", shapes::lattice, 120),
+    free("fan", shapes::fan, 100),
+    free("wheel", shapes::wheel, 30),
+    free("stars", shapes::stars, 70),
+    free("touching", shapes::touching, 80),
+    free("dangling", shapes::dangling, 50),
+    free("row", shapes::row, 40),
+    free("nested", shapes::nested, 50),
+    free("strips", shapes::strips, 80),
+    fixed("extremes", shapes::extremes, 50),
+    fixed("needles", shapes::needles, 60),
+    Generator { size: |random| random.within(0, 3), ..free("tiny", shapes::grid, 20) },
+    Generator { size: |random| random.within(140, 300), ..free("heaped", shapes::heaped, 4) },
+    free("full", full, 1),
+];
+
+impl Generator {
+    /// A drawing's numbers and the place of its placement.
+    pub fn drawing(&self, random: &mut Random) -> (Vec<i32>, usize) {
+        let size = (self.size)(random) as usize;
+        let plane = (self.make)(random, size);
+        let placement = random.below(self.placements);
+        (placed(plane, placement, random).drawing(random), placement)
+    }
+}
+
+/// One in sixteen is larger.
+fn usual(random: &mut Random) -> i32 {
+    let most = if random.below(16) == 0 { 128 } else { 44 };
+    random.within(3, most)
+}
+
+/// As many segments as a drawing may have.
+fn full(random: &mut Random, _: usize) -> Plane {
+    let make: Make =
+        random.pick(&[shapes::lattice as Make, shapes::wheel, shapes::touching, shapes::row, shapes::nested]);
+    let mut plane = make(random, 2 * MOST_SEGMENTS);
+    random.shuffle(&mut plane.edges);
+    plane.edges.truncate(MOST_SEGMENTS);
+    plane
+}

@@ -1,0 +1,103 @@
+//! Which runs are turned down, written from document 01's prose alone: a check independent of ours.
+
+use crate::drawing::{cross, difference, read, Point, Segment, FARTHEST, MOST_SEGMENTS, MOST_WINDING, RULES, WIDTH};
+use std::collections::HashMap;
+
+#[derive(Debug, Clone, Copy, PartialEq, Eq)]
+pub struct Refusal {
+    pub number: u64,
+    pub place: u64,
+}
+
+/// 2, 10 and 11, in this order: those that need no look at the segments.
+pub fn refused_run(numbers: &[i32], rule: i32, fills: usize) -> Option<Refusal> {
+    let n = numbers.len() / WIDTH;
+    let number = if !is_length(numbers) {
+        2
+    } else if !RULES.contains(&rule) {
+        10
+    } else if fills < n {
+        11
+    } else {
+        return None;
+    };
+    Some(Refusal { number, place: 0 })
+}
+
+/// 3 to 9. Asked only where 2 does not fit.
+pub fn refused_drawing(numbers: &[i32]) -> Option<Refusal> {
+    if !is_length(numbers) {
+        return None;
+    }
+    let segments = read(numbers);
+    fault(&segments).or_else(|| wrong_meeting(&segments)).or_else(|| imbalance(&segments))
+}
+
+fn is_length(numbers: &[i32]) -> bool {
+    numbers.len().is_multiple_of(WIDTH) && numbers.len() / WIDTH <= MOST_SEGMENTS
+}
+
+/// 3 to 7 by place, the lowest number first within one.
+fn fault(segments: &[Segment]) -> Option<Refusal> {
+    segments.iter().enumerate().find_map(|(place, segment)| {
+        let previous = place.checked_sub(1).map(|before| segments[before]);
+        let number = fault_of(segment, previous)?;
+        Some(Refusal { number, place: place as u64 })
+    })
+}
+
+fn fault_of(s: &Segment, previous: Option<Segment>) -> Option<u64> {
+    let in_range = |coordinate: i32| (-FARTHEST..=FARTHEST).contains(&coordinate);
+    if ![s.a.0, s.a.1, s.b.0, s.b.1].into_iter().all(in_range) {
+        Some(3)
+    } else if s.a >= s.b {
+        Some(4)
+    } else if !(-MOST_WINDING..=MOST_WINDING).contains(&s.winding) {
+        Some(5)
+    } else if !(0..=3).contains(&s.bits) {
+        Some(6)
+    } else if previous.is_some_and(|before| s.a < before.a) {
+        Some(7)
+    } else {
+        None
+    }
+}
+
+/// 8 by lower, then upper place.
+fn wrong_meeting(segments: &[Segment]) -> Option<Refusal> {
+    (0..segments.len())
+        .find(|&lower| segments[lower + 1..].iter().any(|upper| meet_wrongly(&segments[lower], upper)))
+        .map(|lower| Refusal { number: 8, place: lower as u64 })
+}
+
+pub fn meet_wrongly(s: &Segment, t: &Segment) -> bool {
+    let crossing = on_opposite_sides(s, t) && on_opposite_sides(t, s);
+    let touching = lies_between(s, t.a) || lies_between(s, t.b) || lies_between(t, s.a) || lies_between(t, s.b);
+    let same = s.a == t.a && s.b == t.b;
+    crossing || touching || same
+}
+
+/// The ends of t lie strictly on opposite sides of s.
+fn on_opposite_sides(s: &Segment, t: &Segment) -> bool {
+    cross(s.a, s.b, t.a).signum() * cross(s.a, s.b, t.b).signum() < 0
+}
+
+/// The point lies on the segment strictly between its ends.
+fn lies_between(s: &Segment, point: Point) -> bool {
+    let (dx, dy) = difference(s.a, s.b);
+    let (px, py) = difference(s.a, point);
+    let along = dx * px + dy * py;
+    dx * py == px * dy && 0 < along && along < dx * dx + dy * dy
+}
+
+/// 9: the lowest segment touching a point where the windings that start and those that end differ.
+fn imbalance(segments: &[Segment]) -> Option<Refusal> {
+    let mut starting_less_ending = HashMap::<Point, i64>::new();
+    for s in segments {
+        *starting_less_ending.entry(s.a).or_default() += i64::from(s.winding);
+        *starting_less_ending.entry(s.b).or_default() -= i64::from(s.winding);
+    }
+    let touching = |s: &Segment| starting_less_ending[&s.a] != 0 || starting_less_ending[&s.b] != 0;
+    let place = segments.iter().position(touching)?;
+    Some(Refusal { number: 9, place: place as u64 })
+}

@@ -1,0 +1,72 @@
+//! Makes a drawing that shows a difference smaller.
+
+use crate::compare::{compare, Difference};
+use crate::drawing::{numbers, read, Point, Segment, WIDTH};
+use crate::random::Random;
+use std::collections::HashMap;
+
+/// How many smaller drawings are tried at most.
+const TRIES: usize = 1000;
+
+/// Leaves out segments and windings as long as some difference remains, not always the same one.
+pub fn shrunk(mut found: Difference, random: &Random) -> Difference {
+    let mut tries = TRIES;
+    loop {
+        let mut candidates = smaller(&found.numbers).take(tries).inspect(|_| tries -= 1);
+        let again = candidates.find_map(|numbers| compare(&numbers, &mut random.clone()).err());
+        drop(candidates);
+        match again {
+            Some(smaller) => found = smaller,
+            None => return found,
+        }
+    }
+}
+
+/// Runs of segments left out, the longest first; then cycles of windings taken away.
+fn smaller(drawing: &[i32]) -> impl Iterator<Item = Vec<i32>> + '_ {
+    let n = drawing.len() / WIDTH;
+    let lengths = (0..usize::BITS).map(move |times| n >> times).take_while(|&length| length > 0);
+    let runs = lengths.flat_map(move |length| (0..=n - length).step_by(length).map(move |from| (from, from + length)));
+    let without = |(from, to): (usize, usize)| [&drawing[..from * WIDTH], &drawing[to * WIDTH..]].concat();
+    runs.map(without).chain((0..n).filter_map(|place| without_cycle(read(drawing), place)))
+}
+
+/// Takes the winding of one segment away along a cycle through it, so that all points stay as they were.
+fn without_cycle(mut segments: Vec<Segment>, place: usize) -> Option<Vec<i32>> {
+    let Segment { a, b, winding, .. } = segments[place];
+    if winding == 0 {
+        return None;
+    }
+    segments[place].winding = 0;
+    let back = ways_back(&segments, b);
+    let mut point = a;
+    while point != b {
+        let &step = back.get(&point)?;
+        let segment = &mut segments[step];
+        // The cycle runs from b to a here, so it comes to this point.
+        let (from, sign) = if segment.b == point { (segment.a, 1) } else { (segment.b, -1) };
+        segment.winding -= sign * winding;
+        point = from;
+    }
+    Some(numbers(&segments))
+}
+
+/// For each point that wound segments join to the start, the segment by which it was reached.
+fn ways_back(segments: &[Segment], start: Point) -> HashMap<Point, usize> {
+    let mut ways = HashMap::new();
+    let mut reached = vec![start];
+    while let Some(point) = reached.pop() {
+        for (place, segment) in segments.iter().enumerate().filter(|(_, segment)| segment.winding != 0) {
+            let other = match point {
+                _ if point == segment.a => segment.b,
+                _ if point == segment.b => segment.a,
+                _ => continue,
+            };
+            if other != start && !ways.contains_key(&other) {
+                ways.insert(other, place);
+                reached.push(other);
+            }
+        }
+    }
+    ways
+}

@@ -1,0 +1,3 @@
+pub mod number;
+pub mod point;
+pub mod vector;

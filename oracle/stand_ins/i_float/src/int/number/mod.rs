@@ -1,0 +1,3 @@
+pub mod int;
+pub mod uint;
+pub mod wide_int;

@@ -1,0 +1,3 @@
+pub mod area;
+pub mod path;
+pub mod shape;

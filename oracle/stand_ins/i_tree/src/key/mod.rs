@@ -1,0 +1,3 @@
+pub mod exp;
+pub mod list;
+pub mod tree;
