@@ -74,6 +74,11 @@ pub struct Refusal {
 }
 
 impl Refusal {
+    /// The refusal's number.
+    pub fn number(self) -> u64 {
+        self.reason.number()
+    }
+
     /// The refusal of this number and place; none for 0, which is success.
     pub(crate) fn of(number: u64, place: u64) -> Option<Self> {
         if number == 0 {

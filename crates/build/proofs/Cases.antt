@@ -12,7 +12,7 @@ use Rattle.checks.specs.Drawing.{endsInRange, rises, windingInRange, bitsInRang
 use Rattle.checks.specs.Verdict.{wrongLength, unknownChoice, tooShort, firstFrom, first, inOrder, verdict}
 use Rattle.checks.specs.Runs.{fillsRun}
 use Rattle.checks.proofs.Cases.{segment, A}
-use Rattle.build.specs.declared.ray.Rule.the-variants.{EvenOdd, NonZero, Positive, Negative}
+use Rattle.build.specs.declared.ray.Rule.the-variants.{EvenOdd}
 use Rattle.build.specs.declared.ray.Filled.the-variants.{Done, Refused}
 use Rattle.build.specs.Fills.{spans, above, clockwise, met, bottom, top, filled, ruleOf, fillOf, fill, fills, outcome, fillsOutcome}
 

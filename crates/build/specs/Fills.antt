@@ -47,7 +47,8 @@ unfoldable pub top : Drawing → Segment → ℤ
 top d i = bottom d i +ℤ i .winding
 
 -- ---- the rules
--- even-odd and nonzero as in SVG 2 (fill-rule), positive and negative as in GLU 1.3 (winding rules). A negative count is odd where its size is
+-- the rule holds of a side's count: SVG 2's fill-rule evenodd (a negative count is odd where its size is) and nonzero,
+-- GLU 1.3's GLU_TESS_WINDING_POSITIVE and GLU_TESS_WINDING_NEGATIVE
 unfoldable pub filled : Rule → ℤ → Bool
 filled EvenOdd n = eqb (natAbs n % 2) 1
 filled NonZero n = not (eqZ n (pos 0))

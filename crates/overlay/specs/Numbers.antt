@@ -4,7 +4,7 @@ use Prim.Native.Nat.{ℕ}
 use lib.IntN.{ℤ}
 use Rattle.build.specs.declared.ray.Filled.{Filled}
 use Rattle.build.specs.declared.ray.Filled.the-variants.{Done, Refused}
-use Rattle.build.specs.Fills.{Outcome, fillsOutcome}
+use Rattle.build.specs.Fills.{fillsOutcome}
 use Rattle.overlay.specs.declared.Fills.{Fills}
 
 abbrev pub filledNumbers : Filled → Fills

@@ -6,7 +6,7 @@ use mathlib.Core.Bool.{Bool, true, false, _||_, true≢false}
 use Prim.Native.Nat.{ℕ, zero, suc, _<_, _≤_, _+_, _*_, _^_}
 use native.Mathlib.Nat as N
 use native.Mathlib.Omega.{arith}
-use lib.ListN.{length, getD, take, drop, set, length-append, length-drop, length-map, length-take}
+use lib.ListN.{length, getD, take, drop, set, length-append, length-map, length-take}
 use native.Mathlib.Numerals.{add-one}
 use lib.Seq.{take-suc, drop-cons, set-at}
 use lib.IntN.{ℤ, pos, natAbs, _+ℤ_, _-ℤ_, +ℤ-idl, +ℤ-idr, +ℤ-assoc}
@@ -172,10 +172,6 @@ module _ {A : Type 0} where
   written-more answer old k x e h =
       let d : length answer < length old = omega arith in
       ap (λ (l : List A). set (answer ++ l) k x) (drop-cons old (length answer) x d) ∙ set-at answer _ _ x k (sym e) ∙ sym (simp (append-assoc, length-append, add-one))
-
-  pub length-written : (answer old : List A) → length answer ≤ length old → length (written answer old) ≡ length old
-  unfolding written
-  length-written answer old h = simp (length-append, length-drop) (omega arith)
 
   -- the answer is l's entries through f: one place more of it
   pub written-map : {B : Type 0} (f : B → A) (l : List B) (z : B) (old : List A) (i : ℕ) → i < length l → length l ≤ length old

@@ -30,9 +30,7 @@ pub fn bench() -> bool {
     );
     for (name, make) in KINDS {
         for n in SIZES {
-            let numbers = drawing(make, n);
-            let [list, tree] = [Scan::List, Scan::Tree].map(|scan| theirs(&numbers, scan));
-            let ours = ours(&numbers);
+            let [ours, list, tree] = times(&drawing(make, n));
             let [to_list, to_tree] = [list, tree].map(|theirs| ours / theirs);
             println!("{name:<6} {n:>5} {ours:>9.1} µs {list:>9.1} µs {tree:>9.1} µs {to_list:>10.1} {to_tree:>10.1}");
         }
@@ -50,29 +48,31 @@ fn drawing(make: Make, n: usize) -> Vec<i32> {
     numbers
 }
 
-fn ours(numbers: &[i32]) -> f64 {
-    let mut list = vec![0; numbers.len() / WIDTH];
-    median(|| {
-        black_box(raw::fills(black_box(numbers), NON_ZERO, &mut list));
-    })
+/// Ours, and the Rust's with its list and with its tree.
+fn times(numbers: &[i32]) -> [f64; 3] {
+    let mut lent = vec![0; numbers.len() / WIDTH];
+    let [mut list, mut tree] = [Scan::List, Scan::Tree].map(|scan| Drawing::new(numbers, scan));
+    medians([
+        &mut || _ = black_box(raw::fills(black_box(numbers), NON_ZERO, &mut lent)),
+        &mut || _ = black_box(list.fills(black_box(NON_ZERO))),
+        &mut || _ = black_box(tree.fills(black_box(NON_ZERO))),
+    ])
 }
 
-fn theirs(numbers: &[i32], scan: Scan) -> f64 {
-    let mut drawing = Drawing::new(numbers, scan);
-    median(|| {
-        black_box(drawing.fills(black_box(NON_ZERO)));
-    })
-}
-
-/// In microseconds, over as many calls as half a second allows, at least eleven.
-fn median(mut call: impl FnMut()) -> f64 {
+/// In microseconds, over as many rounds as a second allows, at least eleven. The calls take turns, so that a
+/// change of the processor's speed meets all of them.
+fn medians<const N: usize>(mut calls: [&mut dyn FnMut(); N]) -> [f64; N] {
     let begin = Instant::now();
-    let mut times = Vec::new();
-    while times.len() < 11 || begin.elapsed() < Duration::from_millis(500) {
-        let start = Instant::now();
-        call();
-        times.push(start.elapsed());
+    let mut times = [const { Vec::new() }; N];
+    while times[0].len() < 11 || begin.elapsed() < Duration::from_secs(1) {
+        for (call, times) in calls.iter_mut().zip(&mut times) {
+            let start = Instant::now();
+            call();
+            times.push(start.elapsed());
+        }
     }
-    times.sort();
-    times[times.len() / 2].as_secs_f64() * 1e6
+    times.map(|mut times| {
+        times.sort();
+        times[times.len() / 2].as_secs_f64() * 1e6
+    })
 }

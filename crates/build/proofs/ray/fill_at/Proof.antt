@@ -7,7 +7,7 @@ use lib.IntN.{pos, _+ℤ_}
 use lib.Signed.{_≤ℤ_}
 use mir.Syntax.{w32}
 use mir.Val.{toZ, ofZ}
-use Rattle.integers.proofs.Machine.{Val, Is, read, got, par, ret, add}
+use Rattle.integers.proofs.Machine.{Val, Is, read, got, ret, add}
 use Rattle.segm.specs.declared.Segment.{Segment}
 use Rattle.segm.specs.Lists.{_∈_}
 use Rattle.segm.specs.Segments.{Drawing, segments, nowhere, segmentAt}

@@ -2,11 +2,9 @@
 use borrow.Author.Needs.{needs}
 use borrow.Author.Tests.{not-true, not-false}
 use mathlib.Core.Path.{_≡_, sym, ap, _∙_}
-use mathlib.Core.Bool.{true, false}
 use native.Mathlib.Omega.{arith}
 use mir.Syntax.{w32}
 use Rattle.integers.proofs.Machine.{read}
-use Rattle.geom.specs.Points.{eqP}
 use Rattle.build.specs.Fills.{spans, above, clockwise, met}
 use Rattle.build.proofs.ray.met.Statement.{statement}
 use Rattle.build.proofs.ray.met.Tie as tie
