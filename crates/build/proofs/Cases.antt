@@ -20,9 +20,9 @@ use Rattle.build.specs.Fills.{spans, above, clockwise, met, bottom, top,
 abbrev bottoms : List ℤ → List ℤ
 bottoms numbers = map (bottom (segments numbers)) (segments numbers)
 
--- a square run counter-clockwise twice over a hole run clockwise once: left, bottom, hole's four, top, right
-abbrev ring : List ℤ
-ring =
+-- a square run counter-clockwise twice, in it a hole run clockwise three times, and beside it a small square run once
+abbrev three : List ℤ
+three =
     segment (pos 0) (pos 0) (pos 0) (pos 9) (negsuc 1) (pos 0)
     ++ segment (pos 0) (pos 0) (pos 9) (pos 0) (pos 2) (pos 0)
     ++ segment (pos 0) (pos 9) (pos 9) (pos 9) (negsuc 1) (pos 0)
@@ -31,6 +31,10 @@ ring =
     ++ segment (pos 3) (pos 6) (pos 6) (pos 6) (pos 3) (pos 0)
     ++ segment (pos 6) (pos 3) (pos 6) (pos 6) (negsuc 2) (pos 0)
     ++ segment (pos 9) (pos 0) (pos 9) (pos 9) (pos 2) (pos 0)
+    ++ segment (pos 11) (pos 0) (pos 11) (pos 2) (negsuc 0) (pos 0)
+    ++ segment (pos 11) (pos 0) (pos 13) (pos 0) (pos 1) (pos 0)
+    ++ segment (pos 11) (pos 2) (pos 13) (pos 2) (negsuc 0) (pos 3)
+    ++ segment (pos 13) (pos 0) (pos 13) (pos 2) (pos 1) (pos 0)
 
 -- a lent list that held something
 abbrev noise : List ℕ
@@ -42,12 +46,12 @@ pub record Cases : Type 0 where
   -- refused: nothing is written
   pub unknown-rule : fillsOutcome A (pos 4) noise ≡ outcome (Refused 10 0) noise
   pub one-short : fillsOutcome A (pos 1) (1 ∷ 2 ∷ 3 ∷ 4 ∷ 5 ∷ 6 ∷ 7 ∷ 8 ∷ []) ≡ outcome (Refused 11 0) (1 ∷ 2 ∷ 3 ∷ 4 ∷ 5 ∷ 6 ∷ 7 ∷ 8 ∷ [])
-  -- counts 2 between the outlines, -1 in the hole
-  pub ring-counts : bottoms ring ≡ pos 2 ∷ pos 0 ∷ pos 2 ∷ negsuc 0 ∷ pos 2 ∷ negsuc 0 ∷ pos 2 ∷ pos 0 ∷ []
-  pub ring-even-odd : fills (ruleOf (pos 0)) (segments ring) ≡ 0 ∷ 0 ∷ 0 ∷ 2 ∷ 9 ∷ 2 ∷ 1 ∷ 0 ∷ []
-  pub ring-nonzero : fills (ruleOf (pos 1)) (segments ring) ≡ 2 ∷ 1 ∷ 2 ∷ 3 ∷ 11 ∷ 3 ∷ 3 ∷ 1 ∷ []
-  pub ring-positive : fills (ruleOf (pos 2)) (segments ring) ≡ 2 ∷ 1 ∷ 2 ∷ 1 ∷ 10 ∷ 1 ∷ 2 ∷ 1 ∷ []
-  pub ring-negative : fills (ruleOf (pos 3)) (segments ring) ≡ 0 ∷ 0 ∷ 0 ∷ 2 ∷ 9 ∷ 2 ∷ 1 ∷ 0 ∷ []
+  -- counts 2 in the square, -1 in its hole, 1 in the small one: no two rules fill the same
+  pub three-counts : bottoms three ≡ pos 2 ∷ pos 0 ∷ pos 2 ∷ negsuc 0 ∷ pos 2 ∷ negsuc 0 ∷ pos 2 ∷ pos 0 ∷ pos 1 ∷ pos 0 ∷ pos 1 ∷ pos 0 ∷ []
+  pub by-even-odd : fills (ruleOf (pos 0)) (segments three) ≡ 0 ∷ 0 ∷ 0 ∷ 2 ∷ 9 ∷ 2 ∷ 1 ∷ 0 ∷ 2 ∷ 1 ∷ 14 ∷ 1 ∷ []
+  pub by-nonzero : fills (ruleOf (pos 1)) (segments three) ≡ 2 ∷ 1 ∷ 2 ∷ 3 ∷ 11 ∷ 3 ∷ 3 ∷ 1 ∷ 2 ∷ 1 ∷ 14 ∷ 1 ∷ []
+  pub by-positive : fills (ruleOf (pos 2)) (segments three) ≡ 2 ∷ 1 ∷ 2 ∷ 1 ∷ 10 ∷ 1 ∷ 2 ∷ 1 ∷ 2 ∷ 1 ∷ 14 ∷ 1 ∷ []
+  pub by-negative : fills (ruleOf (pos 3)) (segments three) ≡ 0 ∷ 0 ∷ 0 ∷ 2 ∷ 9 ∷ 2 ∷ 1 ∷ 0 ∷ 0 ∷ 0 ∷ 12 ∷ 0 ∷ []
   -- a segment is counted up to its b.x, which itself is left out
   pub reaches : bottoms (segment (pos 0) (pos 0) (pos 3) (pos 0) (pos 1) (pos 0) ++ segment (pos 2) (pos 1) (pos 4) (pos 1) (pos 0) (pos 0)) ≡ pos 0 ∷ pos 1 ∷ []
   pub ends-there : bottoms (segment (pos 0) (pos 0) (pos 2) (pos 0) (pos 1) (pos 0) ++ segment (pos 2) (pos 1) (pos 4) (pos 1) (pos 0) (pos 0)) ≡ pos 0 ∷ pos 0 ∷ []
@@ -68,11 +72,11 @@ cases = record {
   case-A = refl;
   unknown-rule = refl;
   one-short = refl;
-  ring-counts = refl;
-  ring-even-odd = refl;
-  ring-nonzero = refl;
-  ring-positive = refl;
-  ring-negative = refl;
+  three-counts = refl;
+  by-even-odd = refl;
+  by-nonzero = refl;
+  by-positive = refl;
+  by-negative = refl;
   reaches = refl;
   ends-there = refl;
   vertical = refl;

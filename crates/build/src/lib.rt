@@ -4,4 +4,3 @@ mod ray;
 pub use ray::Filled;
 pub use ray::Rule;
 pub use ray::fills;
-pub use ray::rule_of;

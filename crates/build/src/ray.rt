@@ -30,7 +30,7 @@ pub enum Filled {
 }
 
 // The rule of a known choice.
-pub fn rule_of(choice: i32) -> Rule
+fn rule_of(choice: i32) -> Rule
     ensures { λ r. ⌜ r ≡ ruleOf choice ⌝ }
 {
     if choice == 0 {

@@ -1,5 +1,5 @@
 -- Segments by place, and what a sum of windings depends on.
-use mathlib.Core.Path.{_≡_, refl, _∙_, ap}
+use mathlib.Core.Path.{_≡_, refl, sym, _∙_, ap, subst}
 use mathlib.Core.List.{List, _++_}
 use mathlib.Core.Bool.{Bool, true, false}
 use Prim.Native.Nat.{ℕ, zero, suc, _+_, _*_, _<_, _≤_}
@@ -10,7 +10,7 @@ use lib.IntN.{ℤ, pos, natAbs, _+ℤ_}
 use Rattle.segm.specs.declared.Segment.{Segment}
 use Rattle.segm.specs.Lists.{_∈_, only}
 use Rattle.segm.specs.Segments.{Drawing, width, front, segmentsOf, count, segments, nowhere, segmentAt, total}
-use Rattle.segm.proofs.Lists.{sum-cong, sum-zero, sum-++, sum-split, sum-trade}
+use Rattle.segm.proofs.Lists.{in-at, sum-cong, sum-zero, sum-++, sum-split, sum-trade}
 
 length-segmentsOf : (n : ℕ) (l : List ℤ) → length (segmentsOf n l) ≡ n
 unfolding segmentsOf
@@ -47,6 +47,11 @@ number-at l i k = getD-drop (i * width) l k (pos 0)
 
 pub first-at : (l : List ℤ) (i : ℕ) → getD (drop (i * width) l) 0 (pos 0) ≡ getD l (i * width) (pos 0)
 first-at l i = number-at l i 0 ∙ ap (λ k. getD l k (pos 0)) (omega arith)
+
+-- what stands at a place is one of the drawing's
+pub segment-in : (d : Drawing) (i : ℕ) {s : Segment} → s ≡ segmentAt d i → i < length d → s ∈ d
+unfolding segmentAt
+segment-in d i e h = subst (λ (t : Segment). t ∈ d) (sym e) (in-at d nowhere i h)
 
 pub past : (d : Drawing) (i : ℕ) → length d ≤ i → segmentAt d i ≡ nowhere
 unfolding segmentAt

@@ -14,8 +14,8 @@ use Rattle.integers.proofs.Order.{ltZ-true}
 use Rattle.segm.specs.declared.Segment.{Segment}
 use Rattle.segm.specs.Lists.{_∈_, sum}
 use Rattle.segm.specs.Segments.{Drawing, segments, nowhere, segmentAt}
-use Rattle.segm.proofs.Lists.{in-at, sum-next}
-use Rattle.segm.proofs.Segments.{count-inside, count-past}
+use Rattle.segm.proofs.Lists.{sum-next}
+use Rattle.segm.proofs.Segments.{count-inside, count-past, segment-in}
 use Rattle.checks.proofs.Good.{good-proper}
 use Rattle.build.proofs.Counts.{adds, bottom-adds, bottom-stops, adds-bound}
 use Rattle.build.proofs.ray.bottom.Statement.{statement}
@@ -43,11 +43,9 @@ inside c = let n = c .before .before in count-inside (n .before .args .s .now) (
 
 -- and the segment there
 member : (c : tie.After-segment-at Inv-loop μ-loop) → c .segment-at .result ∈ segments (c .before .before .before .before .args .s .now)
-unfolding segmentAt
 member c =
     let l = c .before .before in
-    let d = segments (l .before .before .args .s .now) in
-    subst (λ (j : Segment). j ∈ d) (sym (c .segment-at .ensures)) (in-at d nowhere (l .loop .k) (inside (c .before)))
+    segment-in (segments (l .before .before .args .s .now)) (l .loop .k) (c .segment-at .ensures) (inside (c .before))
 
 starts-right-requires : tie.Need-starts-right-requires Inv-loop μ-loop
 starts-right-requires c κs = search needs

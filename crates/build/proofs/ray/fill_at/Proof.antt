@@ -10,8 +10,8 @@ use mir.Val.{toZ, ofZ}
 use Rattle.integers.proofs.Machine.{Val, Is, read, got, ret, add}
 use Rattle.segm.specs.declared.Segment.{Segment}
 use Rattle.segm.specs.Lists.{_∈_}
-use Rattle.segm.specs.Segments.{Drawing, segments, nowhere, segmentAt}
-use Rattle.segm.proofs.Lists.{in-at}
+use Rattle.segm.specs.Segments.{Drawing, segments}
+use Rattle.segm.proofs.Segments.{segment-in}
 use Rattle.checks.proofs.Good.{good-proper}
 use Rattle.build.specs.Fills.{bottom, top, fillOf, fill}
 use Rattle.build.proofs.Counts.{bottom-bound}
@@ -23,11 +23,7 @@ segment-at-requires c κs = search needs
 
 -- the segment at place i is one of the drawing's
 member : (c : tie.After-segment-at) → c .segment-at .result ∈ segments (c .before .args .s .now)
-unfolding segmentAt
-member c =
-    let s = c .before in
-    let d = segments (s .args .s .now) in
-    subst (λ (j : Segment). j ∈ d) (sym (c .segment-at .ensures)) (in-at d nowhere (s .args .i) (s .pre .1))
+member c = let s = c .before in segment-in (segments (s .args .s .now)) (s .args .i) (c .segment-at .ensures) (s .pre .1)
 
 bottom-requires : tie.Need-bottom-requires
 bottom-requires c κs = let s = c .before in (s .pre .0, good-proper (segments (s .args .s .now)) (s .pre .0) (c .segment-at .result) (member c))

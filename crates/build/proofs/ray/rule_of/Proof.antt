@@ -1,6 +1,7 @@
 -- Equal bits are equal numbers. Assumes nothing.
 use mathlib.Core.Path.{_≡_, sym, ap}
 use mathlib.Core.Bool.{true, false}
+use Prim.Native.Nat.{ℕ, _<_, _^_}
 use lib.IntN.{ℤ, pos}
 use mir.Syntax.{w32}
 use mir.Val.{SFits, ofZ}
@@ -13,23 +14,23 @@ use Rattle.build.proofs.ray.rule_of.Statement.{statement}
 use Rattle.build.proofs.ray.rule_of.Tie as tie
 
 -- a test for k, passed or failed
-module _ {z : ℤ} (k : ℤ) (f : SFits w32 z) (g : SFits w32 k) where
-  is : ofZ w32 z ≡ ofZ w32 k → eqZ z k ≡ true
-  is e = eq-eqZ (bits-eq {w = w32} f g e)
+module _ {z : ℤ} (f : SFits w32 z) (k : ℕ) where
+  is : k < 2 ^ 31 → ofZ w32 z ≡ k → eqZ z (pos k) ≡ true
+  is h e = eq-eqZ (bits-eq {w = w32} f (record { sfits = h }) e)
 
-  is-not : (ofZ w32 z ≡ ofZ w32 k → ⊥) → eqZ z k ≡ false
+  is-not : (ofZ w32 z ≡ k → ⊥) → eqZ z (pos k) ≡ false
   is-not h = ne-eqZ (λ e. h (ap (ofZ w32) e))
 
 returns : tie.Need-returns
 unfolding ruleOf
-returns c = let f = c .before .fits .choice in sym (simp (is (pos 0) f (record { sfits = lit< tt }) (c .if1 .taken)))
+returns c = let f = c .before .fits .choice in sym (simp (is f 0 (lit< tt) (c .if1 .taken)))
 
 returns-2 : tie.Need-returns-2
 unfolding ruleOf
 returns-2 c =
     let d = c .before in
     let f = d .before .fits .choice in
-    sym (simp (is-not (pos 0) f (record { sfits = lit< tt }) (d .if1 .left), is (pos 1) f (record { sfits = lit< tt }) (c .if2 .taken)))
+    sym (simp (is-not f 0 (d .if1 .left), is f 1 (lit< tt) (c .if2 .taken)))
 
 returns-3 : tie.Need-returns-3
 unfolding ruleOf
@@ -37,7 +38,7 @@ returns-3 c =
     let e = c .before in
     let d = e .before in
     let f = d .before .fits .choice in
-    sym (simp (is-not (pos 0) f (record { sfits = lit< tt }) (d .if1 .left), is-not (pos 1) f (record { sfits = lit< tt }) (e .if2 .left), is (pos 2) f (record { sfits = lit< tt }) (c .if3 .taken)))
+    sym (simp (is-not f 0 (d .if1 .left), is-not f 1 (e .if2 .left), is f 2 (lit< tt) (c .if3 .taken)))
 
 returns-4 : tie.Need-returns-4
 unfolding ruleOf
@@ -45,7 +46,7 @@ returns-4 c =
     let e = c .before in
     let d = e .before in
     let f = d .before .fits .choice in
-    sym (simp (is-not (pos 0) f (record { sfits = lit< tt }) (d .if1 .left), is-not (pos 1) f (record { sfits = lit< tt }) (e .if2 .left), is-not (pos 2) f (record { sfits = lit< tt }) (c .if3 .left)))
+    sym (simp (is-not f 0 (d .if1 .left), is-not f 1 (e .if2 .left), is-not f 2 (c .if3 .left)))
 
 pub rule-of-spec : {M : Type 1} → statement M
 rule-of-spec = tie.close (tie.spec returns returns-2 returns-3 returns-4)
