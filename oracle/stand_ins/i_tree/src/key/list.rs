@@ -1,27 +1,12 @@
 use super::exp::KeyExpCollection;
+use super::keys::Keys;
 use crate::{Expiration, ExpiredKey};
 use core::cmp::Ordering;
-use core::marker::PhantomData;
+
+pub enum AsTheyCame {}
 
 /// Keys in no order: the greatest is sought among all.
-pub struct KeyExpList<K, E, V> {
-    entries: Vec<(K, V)>,
-    time: PhantomData<E>,
-}
-
-impl<K, E, V> KeyExpList<K, E, V> {
-    pub fn new(capacity: usize) -> Self {
-        Self { entries: Vec::with_capacity(capacity), time: PhantomData }
-    }
-
-    pub fn clear(&mut self) {
-        self.entries.clear();
-    }
-
-    pub fn reserve_capacity(&mut self, capacity: usize) {
-        self.entries.reserve(capacity);
-    }
-}
+pub type KeyExpList<K, E, V> = Keys<K, E, V, AsTheyCame>;
 
 impl<K: ExpiredKey<E>, E: Expiration, V: Copy> KeyExpCollection<K, E, V> for KeyExpList<K, E, V> {
     fn insert(&mut self, key: K, value: V, _time: E) {
@@ -29,7 +14,7 @@ impl<K: ExpiredKey<E>, E: Expiration, V: Copy> KeyExpCollection<K, E, V> for Key
     }
 
     fn first_less_or_equal_by<F: Fn(K) -> Ordering>(&mut self, time: E, default: V, order: F) -> V {
-        self.entries.retain(|(key, _)| time < key.expiration());
+        self.drop_expired(time);
         let under = self.entries.iter().filter(|(key, _)| order(*key) == Ordering::Less);
         under.max_by(|(one, _), (other, _)| one.cmp(other)).map_or(default, |&(_, value)| value)
     }

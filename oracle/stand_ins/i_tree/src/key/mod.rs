@@ -1,3 +1,4 @@
 pub mod exp;
+mod keys;
 pub mod list;
 pub mod tree;
