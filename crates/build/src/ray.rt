@@ -30,7 +30,7 @@ pub enum Filled {
 }
 
 // The rule of a known choice.
-fn rule_of(choice: i32) -> Rule
+pub fn rule_of(choice: i32) -> Rule
     ensures { λ r. ⌜ r ≡ ruleOf choice ⌝ }
 {
     if choice == 0 {
@@ -154,7 +154,7 @@ fn fill_at(s: &[i32], rule: Rule, i: usize) -> u8
 }
 
 // Writes the fills of an accepted drawing.
-fn write_fills(s: &[i32], rule: Rule, out: &mut [u8])
+pub fn write_fills(s: &[i32], rule: Rule, out: &mut [u8])
     requires { ⌜ Good (segments (now s)) × (length (segments (now s)) ≤ length (now out)) ⌝ }
     ensures { λ r. ⌜ now (out .exit) ≡ written (fills rule (segments (now (s .entry)))) (now (out .entry)) ⌝ }
 {

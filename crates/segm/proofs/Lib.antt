@@ -1,2 +1,4 @@
 pub mod Lists
 pub mod Segments
+pub mod Laid
+pub mod Tallies

@@ -1,14 +1,14 @@
 -- Laws of lists, members, places and sums: each once, for any list and any summand.
 use mathlib.Core.Path.{_≡_, refl, sym, _∙_, ap, ap₂}
-use mathlib.Core.List.{List, [], _∷_, _++_, map, map-append, append-assoc}
+use mathlib.Core.List.{List, [], _∷_, _++_, map, map-append, append-assoc, append-nil}
 use mathlib.Core.Logic.{_⊎_, inl, inr}
 use mathlib.Core.Bool.{Bool, true, false, _||_, true≢false}
-use Prim.Native.Nat.{ℕ, zero, suc, _<_, _≤_, _+_, _*_, _^_}
+use Prim.Native.Nat.{ℕ, zero, suc, _<_, _≤_, _+_, _-_, _*_, _^_}
 use native.Mathlib.Nat as N
 use native.Mathlib.Omega.{arith}
-use lib.ListN.{length, getD, take, drop, set, length-append, length-map, length-take}
+use lib.ListN.{length, getD, take, drop, set, length-append, length-map, length-take, drop-of-length-le}
 use native.Mathlib.Numerals.{add-one}
-use lib.Seq.{take-suc, drop-cons, set-at}
+use lib.Seq.{take-suc, take-at, take-all, drop-at, drop-cons, drop-drop, set-at}
 use lib.IntN.{ℤ, pos, natAbs, _+ℤ_, _-ℤ_, +ℤ-idl, +ℤ-idr, +ℤ-assoc}
 use mir.Syntax.{Width}
 use mir.Val.{hbits}
@@ -172,6 +172,19 @@ module _ {A : Type 0} where
   written-more answer old k x e h =
       let d : length answer < length old = omega arith in
       ap (λ (l : List A). set (answer ++ l) k x) (drop-cons old (length answer) x d) ∙ set-at answer _ _ x k (sym e) ∙ sym (simp (append-assoc, length-append, add-one))
+
+  -- what is past the answer was lent, and more was written to its front
+  pub written-part : (answer more old l : List A) (i : ℕ) → l ≡ written answer old → i ≡ length answer
+      → take i l ++ (written more (take (length l - i) (drop i l)) ++ drop (length l - i) (drop i l)) ≡ written (answer ++ more) old
+  unfolding written
+  written-part answer more old l i e q =
+      let r = drop (length answer) old in
+      let front : take i l ≡ answer = ap (take i) e ∙ take-at answer r i (sym q) in
+      let back : drop i l ≡ r = ap (drop i) e ∙ drop-at answer r i (sym q) in
+      let n : length l - i ≡ length r = omega (arith, ap length e, length-append answer r) in
+      let past : drop (length more) r ≡ drop (length (answer ++ more)) old = drop-drop (length more) (length answer) old ∙ ap (λ k. drop k old) (sym (length-append answer more)) in
+      rw (front, back, n, take-all (length r) r (omega arith), drop-of-length-le r {i = length r} (omega arith), append-nil (more ++ drop (length more) r), past)
+      (sym (append-assoc answer more (drop (length (answer ++ more)) old)))
 
   -- the answer is l's entries through f: one place more of it
   pub written-map : {B : Type 0} (f : B → A) (l : List B) (z : B) (old : List A) (i : ℕ) → i < length l → length l ≤ length old

@@ -1,8 +1,9 @@
--- Lists: members, pairs of places, sums, and lists written to. Assumes nothing.
+-- Lists: members, pairs of places, sums, members that pass a test, and lists written to. Assumes nothing.
 use mathlib.Core.Path.{_≡_}
 use mathlib.Core.List.{List, [], _∷_, _++_}
 use mathlib.Core.Logic.{_⊎_}
 use mathlib.Core.Bool.{Bool, false, _||_, cond}
+use Prim.Native.Nat.{ℕ, zero, suc, _+_}
 use lib.ListN.{length, drop}
 use lib.IntN.{ℤ, pos, _+ℤ_}
 
@@ -26,9 +27,23 @@ module _ {A : Type 0} where
   sum f [] = pos 0
   sum f (x ∷ l) = f x +ℤ sum f l
 
+  unfoldable pub tally : (A → ℕ) → List A → ℕ
+  tally f [] = 0
+  tally f (x ∷ l) = f x + tally f l
+
+  -- the members that pass a test, in their order
+  unfoldable pub keep : (A → Bool) → List A → List A
+  keep P [] = []
+  keep P (x ∷ l) = cond (P x) (x ∷ keep P l) (keep P l)
+
   -- a lent list once an answer was written to its front: entries past the answer keep their old values
   unfoldable pub written : List A → List A → List A
   written answer old = answer ++ drop (length answer) old
+
+-- n numbers, from k up
+unfoldable pub upFrom : ℕ → ℕ → List ℕ
+upFrom k zero = []
+upFrom k (suc n) = k ∷ upFrom (suc k) n
 
 -- w if b, else 0
 abbrev pub only : Bool → ℤ → ℤ

@@ -1,6 +1,6 @@
--- A drawing: its segments, how they are read from a flat list of numbers, and sums of their windings.
+-- A drawing: its segments, how they are read from a flat list of numbers and laid into one, and sums of their windings.
 -- A segment is the code's own record, its numbers read as integers. The contracts of `segm` cite these. Assumes nothing.
-use mathlib.Core.List.{List, [], _∷_}
+use mathlib.Core.List.{List, [], _∷_, _++_}
 use mathlib.Core.Bool.{Bool}
 use Prim.Native.Nat.{ℕ, zero, suc, _/_, _%_}
 use lib.Dec.{eqb}
@@ -40,6 +40,15 @@ whole l = eqb (length l % width) 0
 
 unfoldable pub segments : List ℤ → Drawing
 segments l = segmentsOf (count l) l
+
+-- the numbers of a segment, in their order
+unfoldable pub numbersOf : Segment → List ℤ
+numbersOf s = s .a .x ∷ s .a .y ∷ s .b .x ∷ s .b .y ∷ s .winding ∷ s .bits ∷ []
+
+-- the numbers of segments, one after the other
+unfoldable pub laid : Drawing → List ℤ
+laid [] = []
+laid (s ∷ d) = numbersOf s ++ laid d
 
 -- at no place
 abbrev pub nowhere : Segment

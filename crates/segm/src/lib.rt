@@ -1,9 +1,12 @@
-// What a drawing is: segments, read from a flat list of numbers. Every function here is proved, and the crate assumes nothing of its own.
-// No function has a `requires`: any list of numbers can be read at any place.
+// What a drawing is: segments, read from a flat list of numbers and written to one. Every function here is proved, and the crate assumes nothing of its own.
+// Any list of numbers can be read at any place; writing asks for room.
 use geom::Point;
 ghost use mathlib.Core.Path.{_≡_};
+ghost use mathlib.Core.List.{_++_};
+ghost use Prim.Native.Nat.{_+_, _*_, _≤_};
+ghost use lib.ListN.{length, take, drop};
 ghost use Rattle.segm.specs.Lists.{only};
-ghost use Rattle.segm.specs.Segments.{count, whole, segments, segmentAt};
+ghost use Rattle.segm.specs.Segments.{width, count, whole, segments, segmentAt, numbersOf};
 
 // A segment from a to b, a being the lesser. The winding is positive when the outline runs from a to b. Of the line bits, 1 is a line drawn from a to b and 2 one from b to a.
 pub struct Segment {
@@ -15,6 +18,9 @@ pub struct Segment {
 
 // How many numbers a segment has.
 const WIDTH: usize = 6;
+
+// How many numbers the largest drawing has, of 1,024 segments.
+pub const MOST: usize = 1024 * WIDTH;
 
 // How many segments s holds.
 pub fn count(s: &[i32]) -> usize
@@ -58,6 +64,36 @@ pub fn segment_at(s: &[i32], i: usize) -> Segment
         winding: s[k + 4],
         bits: s[k + 5],
     }
+}
+
+// How many numbers n segments have.
+pub fn size(n: usize) -> usize
+    requires { ⌜ n ≤ 1024 ⌝ }
+    ensures { λ r. ⌜ r ≡ n * width ⌝ }
+{
+    n * WIDTH
+}
+
+// Writes t at place i.
+pub fn put(s: &mut [i32], i: usize, t: Segment)
+    requires { ⌜ i * width + width ≤ length (now s) ⌝ }
+    ensures { λ _. ⌜ now (s .exit) ≡ take (i * width) (now (s .entry)) ++ (numbersOf t ++ drop (i * width + width) (now (s .entry))) ⌝ }
+{
+    let k = i * WIDTH;
+    let a = t.a;
+    let b = t.b;
+    let ax = a.x;
+    let ay = a.y;
+    let bx = b.x;
+    let by = b.y;
+    let winding = t.winding;
+    let bits = t.bits;
+    s[k] = ax;
+    s[k + 1] = ay;
+    s[k + 2] = bx;
+    s[k + 3] = by;
+    s[k + 4] = winding;
+    s[k + 5] = bits;
 }
 
 // w if b, else 0.

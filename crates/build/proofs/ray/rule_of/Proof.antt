@@ -1,25 +1,10 @@
--- Equal bits are equal numbers. Assumes nothing.
-use mathlib.Core.Path.{_≡_, sym, ap}
-use mathlib.Core.Bool.{true, false}
-use Prim.Native.Nat.{ℕ, _<_, _^_}
-use lib.IntN.{ℤ, pos}
-use mir.Syntax.{w32}
-use mir.Val.{SFits, ofZ}
+-- The choice's tests decide the arm. Assumes nothing.
+use mathlib.Core.Path.{sym}
 use lib.Dec.{lit<}
-use Rattle.integers.proofs.Machine.{bits-eq}
-use Rattle.geom.specs.Points.{eqZ}
-use Rattle.geom.proofs.Points.{eq-eqZ, ne-eqZ}
 use Rattle.build.specs.Fills.{ruleOf}
+use Rattle.build.proofs.Choices.{is, is-not}
 use Rattle.build.proofs.ray.rule_of.Statement.{statement}
 use Rattle.build.proofs.ray.rule_of.Tie as tie
-
--- a test for k, passed or failed
-module _ {z : ℤ} (f : SFits w32 z) (k : ℕ) where
-  is : k < 2 ^ 31 → ofZ w32 z ≡ k → eqZ z (pos k) ≡ true
-  is h e = eq-eqZ (bits-eq {w = w32} f (record { sfits = h }) e)
-
-  is-not : (ofZ w32 z ≡ k → ⊥) → eqZ z (pos k) ≡ false
-  is-not h = ne-eqZ (λ e. h (ap (ofZ w32) e))
 
 returns : tie.Need-returns
 unfolding ruleOf

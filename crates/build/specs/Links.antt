@@ -1,0 +1,43 @@
+-- Kept links: which segments a clip run keeps. The contracts of `build` cite these. Assumes nothing.
+use mathlib.Core.List.{List, [], _∷_}
+use mathlib.Core.Bool.{Bool, not, _&&_, cond}
+use Prim.Native.Nat.{ℕ, _+_, _/_, _%_}
+use lib.Dec.{eqb, ltb}
+use lib.IntN.{ℤ, pos}
+use Rattle.geom.specs.Points.{eqZ}
+use Rattle.segm.specs.Lists.{keep}
+use Rattle.segm.specs.Segments.{Drawing}
+use Rattle.build.specs.declared.ray.Rule.{Rule}
+use Rattle.build.specs.declared.links.Filter.{Filter}
+use Rattle.build.specs.declared.links.Filter.the-variants.{InsideIncluded, InsideExcluded, OutsideIncluded, OutsideExcluded}
+use Rattle.build.specs.Fills.{fill}
+
+-- how many of the two side bits of a fill are set
+unfoldable pub sidesSet : ℕ → ℕ
+sidesSet f = f % 2 + f / 2 % 2
+
+-- by that number: inside included 1 or 2; inside excluded 2; outside included 0; outside excluded 0 or 1
+unfoldable pub keepsSides : Filter → ℕ → Bool
+keepsSides InsideIncluded n = ltb 0 n
+keepsSides InsideExcluded n = eqb n 2
+keepsSides OutsideIncluded n = eqb n 0
+keepsSides OutsideExcluded n = ltb n 2
+
+-- a segment of this fill is kept: it has line bits, and its sides pass
+unfoldable pub keeps : Filter → ℕ → Bool
+keeps filter f = not (eqb (f / 4) 0) && keepsSides filter (sidesSet f)
+
+-- invert: 0 inside, 1 outside; boundary: 0 excluded, 1 included
+unfoldable pub filterOf : (invert boundary : ℤ) → Filter
+filterOf invert boundary =
+    cond (eqZ invert (pos 0)) (cond (eqZ boundary (pos 0)) InsideExcluded InsideIncluded) (cond (eqZ boundary (pos 0)) OutsideExcluded OutsideIncluded)
+
+-- order stays
+unfoldable pub keptLinks : Rule → Filter → Drawing → Drawing
+keptLinks rule filter d = keep (λ s. keeps filter (fill rule d s)) d
+
+-- the same, each segment by its entry in a list of fills
+unfoldable pub keptBy : Filter → Drawing → List ℕ → Drawing
+keptBy filter [] fills = []
+keptBy filter (s ∷ d) [] = []
+keptBy filter (s ∷ d) (f ∷ fills) = cond (keeps filter f) (s ∷ keptBy filter d fills) (keptBy filter d fills)

@@ -1,0 +1,88 @@
+// Kept links: the segments that a clip run keeps.
+use super::ray::Rule;
+use super::ray::write_fills;
+ghost use mathlib.Core.Path.{_≡_};
+ghost use Prim.Native.Nat.{_*_, _≤_};
+ghost use lib.ListN.{length};
+ghost use Rattle.segm.specs.Lists.{written};
+ghost use Rattle.segm.specs.Segments.{width, segments, laid};
+ghost use Rattle.checks.specs.Accepted.{Good};
+ghost use Rattle.build.specs.Links.{keepsSides, keeps, filterOf, keptBy, keptLinks};
+
+// The four filters of a clip run: which side of the outline, and whether lines on the outline count as inside.
+pub enum Filter {
+    InsideIncluded,
+    InsideExcluded,
+    OutsideIncluded,
+    OutsideExcluded,
+}
+
+// The filter of known choices.
+pub fn filter_of(invert: i32, boundary: i32) -> Filter
+    ensures { λ r. ⌜ r ≡ filterOf invert boundary ⌝ }
+{
+    if invert == 0 {
+        if boundary == 0 {
+            return Filter::InsideExcluded;
+        }
+        return Filter::InsideIncluded;
+    }
+    if boundary == 0 {
+        return Filter::OutsideExcluded;
+    }
+    Filter::OutsideIncluded
+}
+
+// Whether a line with this many sides filled is kept.
+fn keeps_sides(filter: Filter, ones: u32) -> bool
+    ensures { λ r. ⌜ r ≡ keepsSides filter ones ⌝ }
+{
+    match filter {
+        Filter::InsideIncluded => 0 < ones,
+        Filter::InsideExcluded => ones == 2,
+        Filter::OutsideIncluded => ones == 0,
+        Filter::OutsideExcluded => ones < 2,
+    }
+}
+
+// Whether a segment of this fill is kept.
+fn keeps(filter: Filter, fill: u8) -> bool
+    ensures { λ r. ⌜ r ≡ keeps filter fill ⌝ }
+{
+    (fill / 4 != 0) & keeps_sides(filter, u8::count_ones(fill & 3))
+}
+
+// Writes the segments whose entry in fills is kept, and tells how many they are.
+fn write_links(s: &[i32], fills: &[u8], filter: Filter, links: &mut [i32]) -> usize
+    requires { ⌜ (length (segments (now s)) ≤ length (now fills)) × (length (segments (now s)) * width ≤ length (now links)) ⌝ }
+    ensures { λ r. ⌜ (now (links .exit) ≡ written (laid (keptBy filter (segments (now (s .entry))) (now (fills .entry)))) (now (links .entry)))
+        × (r ≡ length (keptBy filter (segments (now (s .entry))) (now (fills .entry)))) ⌝ }
+{
+    let n = segm::count(s);
+    let mut m: usize = 0;
+    let mut i: usize = 0;
+    while i < n {
+        if keeps(filter, fills[i]) {
+            segm::put(links, m, segm::segment_at(s, i));
+            m += 1;
+        }
+        i += 1;
+    }
+    m
+}
+
+// Writes the links that a clip run keeps of an accepted drawing, and tells how many they are. The list `fills` is working memory.
+pub fn kept_links(
+    s: &[i32],
+    rule: Rule,
+    filter: Filter,
+    fills: &mut [u8],
+    links: &mut [i32],
+) -> usize
+    requires { ⌜ Good (segments (now s)) × (length (segments (now s)) ≤ length (now fills)) × (length (segments (now s)) * width ≤ length (now links)) ⌝ }
+    ensures { λ r. ⌜ (now (links .exit) ≡ written (laid (keptLinks rule filter (segments (now (s .entry))))) (now (links .entry)))
+        × (r ≡ length (keptLinks rule filter (segments (now (s .entry))))) ⌝ }
+{
+    write_fills(s, rule, fills);
+    write_links(s, fills, filter, links)
+}

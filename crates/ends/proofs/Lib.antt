@@ -1,0 +1,5 @@
+pub mod Ends
+pub mod Merging
+pub mod Ordered
+pub mod Parts
+pub mod Unique

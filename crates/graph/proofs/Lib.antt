@@ -1,0 +1,5 @@
+pub mod Flat
+pub mod Merged
+pub mod Node
+pub mod Numbering
+pub mod Parts

@@ -1,0 +1,42 @@
+-- Points and their links: the list of a node, and what a flat list of nodes says. The contracts of `graph` cite these. Assumes nothing.
+use mathlib.Core.Path.{_≡_}
+use mathlib.Core.List.{List, _++_, map}
+use mathlib.Core.Bool.{false, cond}
+use Prim.Native.Nat.{ℕ, suc, _+_, _-_, _*_, _<_, _≤_}
+use lib.Dec.{ltb}
+use lib.ListN.{length, getD, take, drop}
+use Rattle.geom.specs.declared.Point.{Point}
+use Rattle.geom.specs.Points.{ltP, eqP}
+use Rattle.segm.specs.Lists.{_∈_, Pairs, keep, upFrom}
+use Rattle.segm.specs.Segments.{Drawing, segmentAt}
+use Rattle.ends.specs.Ends.{endPoint}
+
+-- the list of a node: the links starting at p in link order, then those ending there in link order
+unfoldable pub node : Drawing → Point → List ℕ
+node links p = let all = upFrom 0 (length links) in keep (λ k. eqP (segmentAt links k .a) p) all ++ keep (λ k. eqP (segmentAt links k .b) p) all
+
+-- of m links: the link of end e, and the link's other end
+unfoldable pub linkOf : ℕ → ℕ → ℕ
+linkOf m e = cond (ltb e m) e (e - m)
+
+unfoldable pub otherEnd : ℕ → ℕ → ℕ
+otherEnd m e = cond (ltb e m) (m + e) (e - m)
+
+-- the part of a flat list from its entry at `starts v` up to that at `starts (v + 1)`
+unfoldable pub part : List ℕ → List ℕ → ℕ → List ℕ
+part flat starts v = take (getD starts (suc v) 0 - getD starts v 0) (drop (getD starts v 0) flat)
+
+-- each start not less than those before it
+abbrev pub Rising : Drawing → Type 0
+Rising links = Pairs (λ s t. ltP (t .a) (s .a) ≡ false) links
+
+-- nodes as one flat list of ends with starts: each end of a link knows the number of its node; the part of that node are the ends at its point,
+-- and their links are the node's list
+pub record Nodes (links : Drawing) (flat starts nodes : List ℕ) : Type 0 where
+  pub all-ends : length flat ≡ 2 * length links
+  pub each-end : 2 * length links ≤ length nodes
+  pub known : (e : ℕ) → e < 2 * length links → suc (getD nodes e 0) < length starts
+  pub rising : (e : ℕ) → e < 2 * length links → getD starts (getD nodes e 0) 0 ≤ getD starts (suc (getD nodes e 0)) 0
+  pub inside : (e : ℕ) → e < 2 * length links → getD starts (suc (getD nodes e 0)) 0 ≤ 2 * length links
+  pub ends : (e f : ℕ) → e < 2 * length links → f ∈ part flat starts (getD nodes e 0) → (f < 2 * length links) × (endPoint links f ≡ endPoint links e)
+  pub list : (e : ℕ) → e < 2 * length links → map (linkOf (length links)) (part flat starts (getD nodes e 0)) ≡ node links (endPoint links e)

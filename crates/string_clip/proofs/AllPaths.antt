@@ -1,0 +1,192 @@
+-- All paths: those written, those to come, and the links passed, which have no line bit.
+use mathlib.Core.Path.{_≡_, refl, sym, _∙_, ap, ap₂, subst}
+use mathlib.Core.List.{List, [], _∷_, _++_, map, map-append, flatten, append-nil, append-assoc}
+use mathlib.Core.Option.{Option, none, some}
+use mathlib.Core.Bool.{Bool, true, false}
+use Prim.Native.Nat.{ℕ, zero, suc, _+_, _*_, _-_, _%_, _<_, _≤_}
+use native.Mathlib.Omega.{arith}
+use native.Mathlib.Decide.{decLe}
+use lib.ListN.{length, getD, take, drop, set, length-append, length-map}
+use lib.Seq.{append-snoc, getD-set-other}
+use lib.IntN.{ℤ}
+use Rattle.integers.proofs.Booleans.{clash}
+use Rattle.geom.specs.declared.Point.{Point}
+use Rattle.segm.specs.Lists.{written}
+use Rattle.segm.specs.Segments.{Drawing}
+use Rattle.segm.proofs.Lists.{written-more, written-part}
+use Rattle.string_clip.specs.Walk.{has, lineBits, Move, move, isLeft, taken, takenAll, bitsLeft, begins, over, goesOn, andThen, follow, pathFrom, walkFrom, walk}
+use Rattle.string_clip.specs.Paths.{pathPoints}
+use Rattle.string_clip.specs.Run.{coordinates}
+use Rattle.string_clip.specs.Flat.{pathAt, linksPaths}
+use Rattle.string_clip.proofs.Unroll.{goesOn-left, path-fewer, walk-on}
+use Rattle.string_clip.proofs.ReadBack.{length-coordinates}
+use Rattle.string_clip.proofs.Points.{coordinates-++}
+use Rattle.string_clip.proofs.Flat.{length-taken}
+use Rattle.string_clip.proofs.Begins.{none-set, first-set, begins-at, begins-nowhere}
+
+flatten-++ : {A : Type 0} (l m : List (List A)) → flatten (l ++ m) ≡ flatten l ++ flatten m
+unfolding flatten
+flatten-++ [] m = refl
+flatten-++ (x ∷ l) m = ap (x ++_) (flatten-++ l m) ∙ sym (append-assoc x (flatten l) (flatten m))
+
+-- the first bit of link k
+first-left : (bits : List ℕ) (k : ℕ) → (getD bits k 0 % 4 ≡ 0 → ⊥) → isLeft bits (move k (has true (getD bits k 0))) ≡ true
+unfolding isLeft
+first-left bits k h = first-set (getD bits k 0) h
+
+-- ---- links without line bits stay so
+taken-other : (bits : List ℕ) (m : Move) (j : ℕ) → isLeft bits m ≡ true → getD bits j 0 % 4 ≡ 0 → getD (taken bits m) j 0 % 4 ≡ 0
+unfolding taken isLeft
+taken-other bits m j e h =
+    let apart : j ≡ m .place → ⊥ = λ q. clash e (none-set (getD bits (m .place) 0) (m .forth) (subst (λ i. getD bits i 0 % 4 ≡ 0) q h)) in
+    ap (_% 4) (getD-set-other bits (m .place) j _ 0 apart) ∙ h
+
+module _ (links : Drawing) where
+  follow-passed : (fuel : ℕ) (out : Bool) (p : Point) (bits : List ℕ) (j : ℕ) → getD bits j 0 % 4 ≡ 0 → getD (takenAll bits (follow fuel links out p bits)) j 0 % 4 ≡ 0
+  unfolding follow takenAll
+  follow-passed zero out p bits j h = h
+  follow-passed (suc fuel) out p bits j h = go (goesOn links out p bits) refl (follow-passed fuel out)
+    where
+      go : (o : Option Move) → goesOn links out p bits ≡ o
+          → ((q : Point) (rest : List ℕ) (i : ℕ) → getD rest i 0 % 4 ≡ 0 → getD (takenAll rest (follow fuel links out q rest)) i 0 % 4 ≡ 0)
+          → getD (takenAll bits (andThen o (λ m. m ∷ follow fuel links out (over links out m .end) (taken bits m)))) j 0 % 4 ≡ 0
+      go none e ih = h
+      go (some m) e ih = ih (over links out m .end) (taken bits m) j (taken-other bits m j (goesOn-left links out p bits m e) h)
+
+  follow-length : (fuel : ℕ) (out : Bool) (p : Point) (bits : List ℕ) → length (takenAll bits (follow fuel links out p bits)) ≡ length bits
+  unfolding follow takenAll
+  follow-length zero out p bits = refl
+  follow-length (suc fuel) out p bits = go (goesOn links out p bits) (follow-length fuel out)
+    where
+      go : (o : Option Move) → ((q : Point) (rest : List ℕ) → length (takenAll rest (follow fuel links out q rest)) ≡ length rest)
+          → length (takenAll bits (andThen o (λ m. m ∷ follow fuel links out (over links out m .end) (taken bits m)))) ≡ length bits
+      go none ih = refl
+      go (some m) ih = ih (over links out m .end) (taken bits m) ∙ length-taken bits m
+
+  path-passed : (bits : List ℕ) (m : Move) (j : ℕ) → isLeft bits m ≡ true → getD bits j 0 % 4 ≡ 0 → getD (takenAll bits (pathFrom links bits m)) j 0 % 4 ≡ 0
+  unfolding pathFrom takenAll
+  path-passed bits m j e h = follow-passed (bitsLeft (taken bits m)) (m .forth) (over links (m .forth) m .end) (taken bits m) j (taken-other bits m j e h)
+
+  path-keeps : (bits : List ℕ) (m : Move) → length (takenAll bits (pathFrom links bits m)) ≡ length bits
+  unfolding pathFrom takenAll
+  path-keeps bits m = follow-length (bitsLeft (taken bits m)) (m .forth) (over links (m .forth) m .end) (taken bits m) ∙ length-taken bits m
+
+  -- ---- the loop
+  -- the paths from these bits on
+  abbrev pathsFrom : List ℕ → List (List Point)
+  pathsFrom bits = map (pathPoints links) (walkFrom (bitsLeft bits) links bits)
+
+  pub record Walked (points₀ : List ℤ) (lengths₀ bits : List ℕ) (points : List ℤ) (lengths : List ℕ) (paths at k : ℕ) : Type 0 where
+    pub done : List (List Point)
+    pub paths-are : paths ≡ length done
+    pub at-is : at ≡ length (flatten done)
+    pub points-are : points ≡ written (coordinates (flatten done)) points₀
+    pub lengths-are : lengths ≡ written (map length done) lengths₀
+    pub all : done ++ pathsFrom bits ≡ linksPaths links
+    pub passed : (j : ℕ) → j < k → getD bits j 0 % 4 ≡ 0
+    pub as-many : length bits ≡ length links
+
+  pub none-yet : (points₀ : List ℤ) (lengths₀ bits : List ℕ) → bits ≡ lineBits links → length bits ≡ length links → Walked points₀ lengths₀ bits points₀ lengths₀ 0 0 0
+  unfolding written coordinates flatten walk
+  none-yet points₀ lengths₀ bits e q = record {
+    done = [];
+    paths-are = refl;
+    at-is = refl;
+    points-are = refl;
+    lengths-are = refl;
+    all = ap pathsFrom e;
+    passed = λ j h. absurd (omega arith);
+    as-many = q;
+  }
+
+  module _ (points₀ : List ℤ) (lengths₀ bits : List ℕ) (points : List ℤ) (lengths : List ℕ) (paths at k : ℕ) (w : Walked points₀ lengths₀ bits points lengths paths at k) where
+    -- a link without line bits
+    pub pass : getD bits k 0 % 4 ≡ 0 → Walked points₀ lengths₀ bits points lengths paths at (k + 1)
+    pass h = record {
+      done = w .done;
+      paths-are = w .paths-are;
+      at-is = w .at-is;
+      points-are = w .points-are;
+      lengths-are = w .lengths-are;
+      all = w .all;
+      passed = λ j l. go j (decLe k j) l;
+      as-many = w .as-many;
+    }
+      where
+        go : (j : ℕ) → Dec (k ≤ j) → j < k + 1 → getD bits j 0 % 4 ≡ 0
+        go j (yes p) l = let e : k ≡ j = omega arith in subst (λ i. getD bits i 0 % 4 ≡ 0) e h
+        go j (no p) l = w .passed j (omega arith)
+
+    -- a link with one begins a path
+    module _ (inside : k < length links) (line : getD bits k 0 % 4 ≡ 0 → ⊥) where
+      abbrev path : List Move
+      path = pathAt links bits k
+
+      abbrev found : List Point
+      found = pathPoints links path
+
+      abbrev after : List ℕ
+      after = takenAll bits path
+
+      begin : begins links bits ≡ some (move k (has true (getD bits k 0)))
+      begin = begins-at bits links k inside (w .passed) line
+
+      next : pathsFrom bits ≡ found ∷ pathsFrom after
+      next =
+          ap (map (pathPoints links)) (
+          walk-on links bits
+          ∙ ap (λ (o : Option Move). andThen o (λ m. pathFrom links bits m ∷ walkFrom (bitsLeft (takenAll bits (pathFrom links bits m))) links (takenAll bits (pathFrom links bits m)))) begin
+          )
+
+      pub fewer : bitsLeft after < bitsLeft bits
+      fewer = path-fewer links bits (move k (has true (getD bits k 0))) begin
+
+      all-is : linksPaths links ≡ w .done ++ (found ∷ pathsFrom after)
+      all-is = sym (w .all) ∙ ap (w .done ++_) next
+
+      pub points-fit : at + length found ≤ length (flatten (linksPaths links))
+      unfolding flatten
+      points-fit = omega (
+        arith,
+        w .at-is,
+        ap (λ (l : List (List Point)). length (flatten l)) all-is,
+        ap length (flatten-++ (w .done) (found ∷ pathsFrom after)),
+        length-append (flatten (w .done)) (found ++ flatten (pathsFrom after)),
+        length-append found (flatten (pathsFrom after)),
+      )
+
+      pub paths-fit : paths < length (linksPaths links)
+      paths-fit = omega (arith, w .paths-are, ap length all-is, length-append (w .done) (found ∷ pathsFrom after))
+
+      -- its points come after the others, and its length
+      pub more : (part : List ℤ) → part ≡ written (coordinates found) (take (length points - 2 * at) (drop (2 * at) points)) → paths < length lengths₀
+          → Walked points₀ lengths₀ after (take (2 * at) points ++ (part ++ drop (length points - 2 * at) (drop (2 * at) points))) (set lengths paths (length found)) (paths + 1) (at + length found) k
+      unfolding flatten
+      more part e room =
+          let one : flatten (w .done ++ (found ∷ [])) ≡ flatten (w .done) ++ found = flatten-++ (w .done) (found ∷ []) ∙ ap (flatten (w .done) ++_) (append-nil found) in
+          record {
+            done = w .done ++ (found ∷ []);
+            paths-are = omega (arith, w .paths-are, length-append (w .done) (found ∷ []));
+            at-is = omega (arith, w .at-is, ap length one, length-append (flatten (w .done)) found);
+            points-are =
+                ap (λ (l : List ℤ). take (2 * at) points ++ (l ++ drop (length points - 2 * at) (drop (2 * at) points))) e
+                ∙ written-part (coordinates (flatten (w .done))) (coordinates found) points₀ points (2 * at) (w .points-are) (omega (arith, w .at-is, length-coordinates (flatten (w .done))))
+                ∙ ap (λ (l : List ℤ). written l points₀) (sym (ap coordinates one ∙ coordinates-++ (flatten (w .done)) found));
+            lengths-are =
+                ap (λ (l : List ℕ). set l paths (length found)) (w .lengths-are)
+                ∙ written-more (map length (w .done)) lengths₀ paths (length found) (w .paths-are ∙ sym (length-map (w .done) length)) room
+                ∙ ap (λ (l : List ℕ). written l lengths₀) (sym (map-append length (w .done) (found ∷ [])));
+            all = append-snoc (w .done) found (pathsFrom after) ∙ sym all-is;
+            passed = λ j h. path-passed bits (move k (has true (getD bits k 0))) j (first-left bits k line) (w .passed j h);
+            as-many = path-keeps bits (move k (has true (getD bits k 0))) ∙ w .as-many;
+          }
+
+    -- past the last link every path is written
+    pub whole : length links ≤ k → w .done ≡ linksPaths links
+    whole h =
+        let none-left : pathsFrom bits ≡ [] =
+        ap (map (pathPoints links)) (
+        walk-on links bits
+        ∙ ap (λ (o : Option Move). andThen o (λ m. pathFrom links bits m ∷ walkFrom (bitsLeft (takenAll bits (pathFrom links bits m))) links (takenAll bits (pathFrom links bits m)))) (begins-nowhere bits links (λ j l. w .passed j (omega arith)))
+        ) in
+        sym (append-nil (w .done)) ∙ ap (w .done ++_) (sym none-left) ∙ w .all

@@ -1,0 +1,66 @@
+-- One path: its moves over flat lists, its points and the bits that it leaves.
+use mathlib.Core.Path.{_≡_, refl, sym, _∙_, ap, ap₂, subst}
+use mathlib.Core.List.{List, _∷_, map}
+use mathlib.Core.Bool.{Bool, true}
+use Prim.Native.Nat.{ℕ, _%_, _*_, _<_, _≤_}
+use native.Mathlib.Omega.{arith}
+use lib.ListN.{length, getD, take, drop}
+use lib.Seq.{take-at}
+use Rattle.segm.specs.Lists.{_∈_, written}
+use Rattle.segm.specs.Segments.{Drawing}
+use Rattle.string_clip.specs.Walk.{has, Move, move, isLeft, taken, takenAll, bitsLeft, pathFrom}
+use Rattle.string_clip.specs.Paths.{pathPoints}
+use Rattle.string_clip.specs.Flat.{moveOf, Graph, graph, followEnds, Sound, endsPoints, pathAt, Walking}
+use Rattle.string_clip.proofs.Unroll.{left-taken}
+use Rattle.string_clip.proofs.Flat.{length-taken, bits-few, follow-below}
+use Rattle.string_clip.proofs.FlatIsWalk.{first-move, nodes-sound, path-is, points-are}
+use Rattle.string_clip.proofs.Begins.{first-set}
+
+-- what was written is taken
+pub take-written : {A : Type 0} (answer old : List A) (n : ℕ) → n ≡ length answer → take n (written answer old) ≡ answer
+unfolding written
+take-written answer old n e = take-at answer (drop (length answer) old) n (sym e)
+
+module _ (links : Drawing) (flat starts nodes bits : List ℕ) (w : Walking links flat starts nodes bits) (k : ℕ) (inside : k < length bits) where
+  abbrev g : Graph
+  g = graph flat starts nodes
+
+  place : k < length links
+  place = omega (arith, w .as-many)
+
+  first : (out : Bool) → moveOf (length bits) out k ≡ move k out
+  first out = first-move (length bits) out k inside
+
+  -- its first move can be made
+  pub can-begin : (out : Bool) → out ≡ has true (getD bits k 0) → (getD bits k 0 % 4 ≡ 0 → ⊥) → isLeft bits (moveOf (length bits) out k) ≡ true
+  unfolding isLeft
+  can-begin out e h = ap (isLeft bits) (first out ∙ ap (move k) e) ∙ first-set (getD bits k 0) h
+
+  module _ (out : Bool) (rest : List ℕ) (r : rest ≡ taken bits (moveOf (length bits) out k)) where
+    abbrev ends : List ℕ
+    ends = followEnds (bitsLeft rest) g out k rest
+
+    pub as-many-rest : length rest ≡ length bits
+    as-many-rest = ap length r ∙ length-taken bits (moveOf (length bits) out k)
+
+    pub sound-rest : Sound (length rest) g
+    sound-rest = subst (λ m. Sound m g) (sym (as-many-rest ∙ w .as-many)) (nodes-sound links (w .kept .proper) flat starts nodes (w .nodes-are) (w .kept .few))
+
+    pub fewer-rest : isLeft bits (moveOf (length bits) out k) ≡ true → bitsLeft rest < 2 * length bits
+    fewer-rest h = omega (arith, ap bitsLeft r, left-taken bits (moveOf (length bits) out k) h, bits-few bits)
+
+    moves : out ≡ has true (getD bits k 0) → map (moveOf (length links) out) (k ∷ ends) ≡ pathAt links bits k
+    moves e =
+        path-is links (w .kept .proper) flat starts nodes (w .nodes-are) out k bits rest (w .kept .few) (w .as-many) place (r ∙ ap (taken bits) (first out))
+        ∙ ap (λ (o : Bool). pathFrom links bits (move k o)) e
+
+    pub points-of : out ≡ has true (getD bits k 0) → endsPoints links out (k ∷ ends) ≡ pathPoints links (pathAt links bits k)
+    points-of e =
+        let below : (f : ℕ) → f ∈ ends → f < 2 * length links = λ f i. omega (arith, as-many-rest, w .as-many, follow-below g out (bitsLeft rest) k rest sound-rest (omega (arith, as-many-rest)) f i) in
+        points-are links out k ends place below ∙ ap (pathPoints links) (moves e)
+
+    pub bits-of : out ≡ has true (getD bits k 0) → takenAll rest (map (moveOf (length rest) out) ends) ≡ takenAll bits (pathAt links bits k)
+    unfolding takenAll
+    bits-of e =
+        ap₂ (λ (b : List ℕ) m. takenAll b (map (moveOf m out) ends)) (r ∙ ap (λ m. taken bits (moveOf m out k)) (w .as-many)) (as-many-rest ∙ w .as-many)
+        ∙ ap (takenAll bits) (moves e)

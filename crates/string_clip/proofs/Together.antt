@@ -1,0 +1,205 @@
+-- Inside and outside together: two accepted runs with one drawing, rule and boundary, over their outputs as read from the lent lists.
+use mathlib.Core.Path.{_≡_, refl, sym, _∙_, ap, ap₂, subst}
+use mathlib.Core.List.{List, [], _∷_, map, flatten}
+use mathlib.Core.Logic.{inl, inr, _↔_}
+use mathlib.Core.Bool.{Bool, true, false, not, cond}
+use Prim.Native.Nat.{ℕ, _+_, _*_, _<_, _≤_}
+use native.Mathlib.Omega.{arith}
+use lib.ListN.{length, length-map}
+use lib.IntN.{ℤ, pos}
+use borrow.Author.Tests.{le-ltb}
+use Rattle.integers.proofs.Booleans.{neither, nor-l, nor-r}
+use Rattle.geom.specs.Points.{within}
+use Rattle.segm.specs.Lists.{_∈_, any, tally}
+use Rattle.segm.specs.Segments.{Drawing, count, segments}
+use Rattle.segm.proofs.Tallies.{cases, tally-cong, tally-+, tally-one, tally-in, tally-some}
+use Rattle.segm.proofs.Segments.{length-segments}
+use Rattle.checks.specs.declared.Verdict.the-variants.{Accepted}
+use Rattle.checks.specs.Verdict.{unknownChoice, tooShort, verdict}
+use Rattle.checks.specs.Runs.{ruleChoice, flagChoice, lent, clipRun}
+use Rattle.checks.specs.Accepted.{Good, accepts}
+use Rattle.checks.proofs.Order.{passed}
+use Rattle.checks.proofs.Good.{distinct, verdict-good, verdict-room, accepted-input, accepted-run}
+use Rattle.build.specs.declared.ray.Rule.{Rule}
+use Rattle.build.specs.declared.links.Filter.{Filter}
+use Rattle.build.specs.Fills.{ruleOf, fill}
+use Rattle.build.specs.Links.{keeps, filterOf}
+use Rattle.string_clip.specs.Walk.{Step, one}
+use Rattle.string_clip.specs.Paths.{clipPaths, stepsOf, travelOf}
+use Rattle.string_clip.specs.Run.{totals, coordinates, Outcome, answered, clipOutcome, output}
+use Rattle.string_clip.specs.Claim.{Direction, drawn, travelled, ownSteps, ownTravel, same, count as times, OneOf, rayKeeps, InsideAndOutside, Room, Tells, Together}
+use Rattle.string_clip.proofs.ReadBack.{read-back, length-coordinates, length-written, written-past}
+use Rattle.string_clip.proofs.Own.{same-true, same-refl, in-drawn, drawn-apart, once-among, run-tally, keeps-drawn}
+use Rattle.string_clip.proofs.Found.{travel-either, clip-fits}
+
+-- ---- one run
+run-tells : (d : Drawing) → Good d → (rule : Rule) (filter : Filter) (points : List ℤ) (lengths : List ℕ) → 8 * length d ≤ length points → 2 * length d ≤ length lengths
+    → Tells d points lengths (answered Accepted (clipPaths rule filter d) points lengths)
+unfolding totals
+run-tells d g rule filter points lengths h k =
+    let paths = clipPaths rule filter d in
+    let back : paths ≡ output (answered Accepted paths points lengths) = sym (read-back paths points lengths) in
+    let fits = clip-fits d g rule filter in
+    let f = length-coordinates (flatten paths) in
+    let m : length (map length paths) ≡ length paths = length-map paths length in
+    record {
+      paths = ap length back;
+      points-told = ap (λ z. length (flatten z)) back;
+      steps = ap (λ z. length (stepsOf z)) back;
+      travel = ap (λ z. tally travelOf (stepsOf z)) back;
+      few-points = fits .0;
+      few-paths = fits .1;
+      as-long = (length-written (coordinates (flatten paths)) points (omega (arith, fits .0)), length-written (map length paths) lengths (omega (arith, fits .1)));
+      past = (written-past (coordinates (flatten paths)) points (2 * length (flatten paths)) f, written-past (map length paths) lengths (length paths) m);
+    }
+
+-- ---- two runs
+set-both : (b c : Bool) → 0 < cond b (one c) 0 → (b ≡ true) × (c ≡ true)
+set-both true true h = (refl, refl)
+set-both true false h = absurd (omega arith)
+set-both false c h = absurd (omega arith)
+
+one-side : (b : Bool) (n : ℕ) → cond b n 0 + cond (not b) n 0 ≡ n
+one-side true n = omega arith
+one-side false n = omega arith
+
+counted : (σ : Step) (l : List Step) → σ ∈ l → 0 < times σ l
+unfolding times
+counted σ l m = omega (arith, tally-in (λ τ. one (same σ τ)) σ l m, ap one (same-refl σ))
+
+count-some : (σ : Step) (l : List Step) → 0 < times σ l → σ ∈ l
+unfolding times
+count-some σ l h = let r = tally-some (λ τ. one (same σ τ)) l h in subst (λ τ. τ ∈ l) (sym (same-true σ (r .0) (set-both true (same σ (r .0)) (r .2) .1))) (r .1)
+
+module _ (d : Drawing) (g : Good d) (rule : Rule) (boundary : ℤ) where
+  -- a direction's segment is kept, by its fill
+  abbrev keptBy : ℤ → Direction → Bool
+  keptBy invert δ = keeps (filterOf invert boundary) (fill rule d (δ .segment))
+
+  abbrev stepsBy : ℤ → List Step
+  stepsBy invert = stepsOf (clipPaths rule (filterOf invert boundary) d)
+
+  by-ray : (δ : Direction) → δ ∈ drawn d → (keptBy (pos 0) δ ≡ rayKeeps rule boundary d (δ .segment)) × (keptBy (pos 1) δ ≡ not (rayKeeps rule boundary d (δ .segment)))
+  by-ray δ m = keeps-drawn rule boundary d (δ .forth) (δ .segment) (in-drawn d δ m .1)
+
+  tally-by : (invert : ℤ) (f : Step → ℕ) → tally f (stepsBy invert) ≡ tally (λ δ. cond (keptBy invert δ) (f (travelled δ)) 0) (drawn d)
+  tally-by invert f = run-tally rule (filterOf invert boundary) d (g .proper) f
+
+  count-by : (invert : ℤ) (δ : Direction) → δ ∈ drawn d → times (travelled δ) (stepsBy invert) ≡ one (keptBy invert δ)
+  unfolding times
+  count-by invert δ m = tally-by invert (λ τ. one (same (travelled δ) τ)) ∙ once-among (keptBy invert) (drawn d) (drawn-apart d (g .proper) (distinct d g)) δ m
+
+  once-in : (δ : Direction) → δ ∈ drawn d → OneOf (times (travelled δ) (stepsBy (pos 0))) (times (travelled δ) (stepsBy (pos 1)))
+  once-in δ m = go (rayKeeps rule boundary d (δ .segment)) (by-ray δ m .0) (by-ray δ m .1)
+    where
+      go : (b : Bool) → keptBy (pos 0) δ ≡ b → keptBy (pos 1) δ ≡ not b → OneOf (times (travelled δ) (stepsBy (pos 0))) (times (travelled δ) (stepsBy (pos 1)))
+      go true e f = inl (count-by (pos 0) δ m ∙ ap one e, count-by (pos 1) δ m ∙ ap one f)
+      go false e f = inr (count-by (pos 0) δ m ∙ ap one e, count-by (pos 1) δ m ∙ ap one f)
+
+  drawn-step : (invert : ℤ) (σ : Step) → σ ∈ stepsBy invert → (δ : Direction) × (δ ∈ drawn d) × (σ ≡ travelled δ)
+  unfolding times
+  drawn-step invert σ m =
+      let f : Direction → ℕ = λ δ. cond (keptBy invert δ) (one (same σ (travelled δ))) 0 in
+      let r = tally-some f (drawn d) (omega (arith, counted σ (stepsBy invert) m, tally-by invert (λ τ. one (same σ τ)))) in
+      (r .0, r .1, same-true σ (travelled (r .0)) (set-both (keptBy invert (r .0)) (same σ (travelled (r .0))) (r .2) .1))
+
+  inside-by-ray : (δ : Direction) → δ ∈ drawn d → (travelled δ ∈ stepsBy (pos 0)) ↔ (rayKeeps rule boundary d (δ .segment) ≡ true)
+  inside-by-ray δ m =
+      let e = count-by (pos 0) δ m ∙ ap one (by-ray δ m .0) in (
+        λ i. set-both true (rayKeeps rule boundary d (δ .segment)) (omega (arith, counted (travelled δ) (stepsBy (pos 0)) i, e)) .1,
+        λ h. count-some (travelled δ) (stepsBy (pos 0)) (omega (arith, e, ap one h)),
+      )
+
+  both-tally : (f : Step → ℕ) → tally f (stepsBy (pos 0)) + tally f (stepsBy (pos 1)) ≡ tally (λ δ. f (travelled δ)) (drawn d)
+  both-tally f =
+      let by : ℤ → Direction → ℕ = λ invert δ. cond (keptBy invert δ) (f (travelled δ)) 0 in
+      ap₂ _+_ (tally-by (pos 0) f) (tally-by (pos 1) f) ∙ sym (tally-+ (by (pos 0)) (by (pos 1)) (drawn d))
+      ∙ tally-cong (drawn d) (λ δ m. rw (by-ray δ m .0, by-ray δ m .1) (one-side (rayKeeps rule boundary d (δ .segment)) (f (travelled δ))))
+
+  sum-steps : length (stepsBy (pos 0)) + length (stepsBy (pos 1)) ≡ ownSteps d
+  unfolding ownSteps
+  sum-steps = omega (arith, both-tally (λ σ. 1), tally-one (stepsBy (pos 0)), tally-one (stepsBy (pos 1)), tally-one (drawn d))
+
+  sum-travel : tally travelOf (stepsBy (pos 0)) + tally travelOf (stepsBy (pos 1)) ≡ ownTravel d
+  unfolding ownTravel travelled
+  sum-travel = both-tally travelOf ∙ tally-cong (drawn d) (λ δ m. travel-either (δ .forth) (δ .segment))
+
+  module _ (xs₀ xs₁ : List ℤ) (ns₀ ns₁ : List ℕ) where
+    both-good : InsideAndOutside d rule boundary (answered Accepted (clipPaths rule (filterOf (pos 0) boundary) d) xs₀ ns₀) (answered Accepted (clipPaths rule (filterOf (pos 1) boundary) d) xs₁ ns₁)
+    unfolding totals
+    both-good =
+        let back₀ = read-back (clipPaths rule (filterOf (pos 0) boundary) d) xs₀ ns₀ in
+        let back₁ = read-back (clipPaths rule (filterOf (pos 1) boundary) d) xs₁ ns₁ in
+        record {
+          once = rw (back₀, back₁) once-in;
+          no-other = rw (back₀, back₁) (λ σ. cases (drawn-step (pos 0) σ) (drawn-step (pos 1) σ));
+          by-the-ray = rw back₀ inside-by-ray;
+          all-steps = sum-steps;
+          all-travel = sum-travel;
+        }
+
+-- ---- by verdicts
+module _ (numbers : List ℤ) (rule invert boundary : ℤ) (xs : List ℤ) (ns : List ℕ) (e : verdict (clipRun numbers rule invert boundary (length xs) (length ns)) ≡ Accepted) where
+  accepted-drawing : Good (segments numbers)
+  unfolding clipRun
+  accepted-drawing = verdict-good _ e
+
+  accepted-outcome : clipOutcome numbers rule invert boundary xs ns ≡ answered Accepted (clipPaths (ruleOf rule) (filterOf invert boundary) (segments numbers)) xs ns
+  unfolding clipOutcome
+  accepted-outcome = rw e
+
+  accepted-tells : Tells (segments numbers) xs ns (clipOutcome numbers rule invert boundary xs ns)
+  unfolding clipRun
+  accepted-tells =
+      let d = segments numbers in
+      let h : 8 * length d ≤ length xs = omega (arith, length-segments numbers, verdict-room _ e (lent (length xs) 8) (inl refl)) in
+      let k : 2 * length d ≤ length ns = omega (arith, length-segments numbers, verdict-room _ e (lent (length ns) 2) (inr (inl refl))) in
+      rw accepted-outcome (run-tells d accepted-drawing (ruleOf rule) (filterOf invert boundary) xs ns h k)
+
+module _ (numbers : List ℤ) (rule boundary : ℤ) (xs₀ xs₁ : List ℤ) (ns₀ ns₁ : List ℕ) where
+  abbrev inside : Outcome
+  inside = clipOutcome numbers rule (pos 0) boundary xs₀ ns₀
+
+  abbrev outside : Outcome
+  outside = clipOutcome numbers rule (pos 1) boundary xs₁ ns₁
+
+  pub both-accepted : verdict (clipRun numbers rule (pos 0) boundary (length xs₀) (length ns₀)) ≡ Accepted → verdict (clipRun numbers rule (pos 1) boundary (length xs₁) (length ns₁)) ≡ Accepted
+      → InsideAndOutside (segments numbers) (ruleOf rule) boundary inside outside × Tells (segments numbers) xs₀ ns₀ inside × Tells (segments numbers) xs₁ ns₁ outside
+  both-accepted e₀ e₁ = (
+    rw (accepted-outcome numbers rule (pos 0) boundary xs₀ ns₀ e₀, accepted-outcome numbers rule (pos 1) boundary xs₁ ns₁ e₁)
+        (both-good (segments numbers) (accepted-drawing numbers rule (pos 0) boundary xs₀ ns₀ e₀) (ruleOf rule) boundary xs₀ xs₁ ns₀ ns₁),
+    accepted-tells numbers rule (pos 0) boundary xs₀ ns₀ e₀,
+    accepted-tells numbers rule (pos 1) boundary xs₁ ns₁ e₁,
+  )
+
+-- ---- the theorem
+room-long : (numbers xs : List ℤ) (ns : List ℕ) → Room numbers xs ns → any (tooShort (count numbers)) (lent (length xs) 8 ∷ lent (length ns) 2 ∷ []) ≡ false
+unfolding any tooShort
+room-long numbers xs ns r = neither
+    (le-ltb (length xs) (8 * count numbers) (omega (arith, length-segments numbers, r .points-fit)))
+    (neither (le-ltb (length ns) (2 * count numbers) (omega (arith, length-segments numbers, r .lengths-fit))) refl)
+
+module _ (numbers : List ℤ) (rule boundary : ℤ) (e : accepts numbers rule (pos 0) boundary ≡ true) where
+  -- inside and outside are both known
+  choices-known : (invert : ℤ) → unknownChoice (flagChoice invert) ≡ false → any unknownChoice (ruleChoice rule ∷ flagChoice invert ∷ flagChoice boundary ∷ []) ≡ false
+  unfolding clipRun any
+  choices-known invert h =
+      let known = passed _ (accepted-input numbers rule (pos 0) boundary e) .known in
+      neither (nor-l (unknownChoice (ruleChoice rule)) _ known) (neither h (nor-r (unknownChoice (flagChoice (pos 0))) _ (nor-r (unknownChoice (ruleChoice rule)) _ known)))
+
+  room-accepted : (invert : ℤ) → unknownChoice (flagChoice invert) ≡ false → (xs : List ℤ) (ns : List ℕ) → Room numbers xs ns → verdict (clipRun numbers rule invert boundary (length xs) (length ns)) ≡ Accepted
+  unfolding clipRun
+  room-accepted invert h xs ns r = accepted-run numbers rule (pos 0) boundary e _ _ (choices-known invert h) (room-long numbers xs ns r)
+
+pub insideAndOutside : (numbers : List ℤ) (rule boundary : ℤ) → accepts numbers rule (pos 0) boundary ≡ true → (xs₀ xs₁ : List ℤ) (ns₀ ns₁ : List ℕ) → Room numbers xs₀ ns₀ → Room numbers xs₁ ns₁
+    → InsideAndOutside (segments numbers) (ruleOf rule) boundary (clipOutcome numbers rule (pos 0) boundary xs₀ ns₀) (clipOutcome numbers rule (pos 1) boundary xs₁ ns₁)
+    × Tells (segments numbers) xs₀ ns₀ (clipOutcome numbers rule (pos 0) boundary xs₀ ns₀)
+    × Tells (segments numbers) xs₁ ns₁ (clipOutcome numbers rule (pos 1) boundary xs₁ ns₁)
+unfolding unknownChoice within
+insideAndOutside numbers rule boundary e xs₀ xs₁ ns₀ ns₁ r₀ r₁ =
+    both-accepted numbers rule boundary xs₀ xs₁ ns₀ ns₁ (room-accepted numbers rule boundary e (pos 0) refl xs₀ ns₀ r₀) (room-accepted numbers rule boundary e (pos 1) refl xs₁ ns₁ r₁)
+
+-- two runs that are as defined
+pub both-runs : (numbers : List ℤ) (rule boundary : ℤ) (inside : Outcome) (xs₀ : List ℤ) (ns₀ : List ℕ) (outside : Outcome) (xs₁ : List ℤ) (ns₁ : List ℕ)
+    → inside ≡ clipOutcome numbers rule (pos 0) boundary xs₀ ns₀ → outside ≡ clipOutcome numbers rule (pos 1) boundary xs₁ ns₁ → Together numbers rule boundary inside xs₀ ns₀ outside xs₁ ns₁
+both-runs numbers rule boundary inside xs₀ ns₀ outside xs₁ ns₁ p q = record { inside-is = p; outside-is = q; claim = λ e r₀ r₁. rw (p, q) (insideAndOutside numbers rule boundary e xs₀ xs₁ ns₀ ns₁ r₀ r₁) }

@@ -1,0 +1,95 @@
+-- The walk without its fuel: as much fuel as bits are left is always enough, so each loop goes on by one turn. What the program's loops are compared with.
+use mathlib.Core.Path.{_≡_, refl, sym, _∙_, ap}
+use mathlib.Core.List.{List, [], _∷_, map}
+use mathlib.Core.Option.{Option, none, some}
+use mathlib.Core.Bool.{Bool, true}
+use Prim.Native.Nat.{ℕ, zero, suc, _<_, _≤_}
+use native.Mathlib.Omega.{arith}
+use lib.ListN.{getD, set}
+use Rattle.integers.proofs.Booleans.{clash}
+use Rattle.geom.specs.declared.Point.{Point}
+use Rattle.segm.specs.Lists.{tally}
+use Rattle.segm.specs.Segments.{Drawing, nowhere, segmentAt}
+use Rattle.graph.specs.Nodes.{node}
+use Rattle.string_clip.specs.Walk.{has, clear, Move, move, isLeft, taken, takenAll, bitsLeft, begins, over, fitting, goesOn, andThen, follow, pathFrom, walkFrom}
+use Rattle.string_clip.proofs.Moves.{has-zero, ones, spend-value, first-some, begins-some}
+
+left-set : (bits : List ℕ) (k : ℕ) (forth : Bool) → has forth (getD bits k 0) ≡ true → bitsLeft bits ≡ suc (bitsLeft (set bits k (clear forth (getD bits k 0))))
+unfolding bitsLeft tally
+left-set [] zero forth e = absurd (clash e (has-zero forth))
+left-set [] (suc k) forth e = absurd (clash e (has-zero forth))
+left-set (b ∷ bits) zero forth e = omega (arith, spend-value ones forth nowhere b e)
+left-set (b ∷ bits) (suc k) forth e = omega (arith, left-set bits k forth e)
+
+-- a move takes one bit
+pub left-taken : (bits : List ℕ) (m : Move) → isLeft bits m ≡ true → bitsLeft bits ≡ suc (bitsLeft (taken bits m))
+unfolding isLeft taken
+left-taken bits m e = left-set bits (m .place) (m .forth) e
+
+module _ (links : Drawing) where
+  pub goesOn-left : (out : Bool) (p : Point) (bits : List ℕ) (m : Move) → goesOn links out p bits ≡ some m → isLeft bits m ≡ true
+  unfolding goesOn
+  goesOn-left out p bits m e = first-some bits (map (λ k. move k (fitting out p (segmentAt links k))) (node links p)) m e .1
+
+  follow-none : (fuel : ℕ) (out : Bool) (p : Point) (bits : List ℕ) → goesOn links out p bits ≡ none → follow fuel links out p bits ≡ []
+  unfolding follow
+  follow-none zero out p bits e = refl
+  follow-none (suc fuel) out p bits e = rw e
+
+  -- the loop of a path
+  pub follow-on : (out : Bool) (p : Point) (bits : List ℕ) → follow (bitsLeft bits) links out p bits
+      ≡ andThen (goesOn links out p bits) (λ m. m ∷ follow (bitsLeft (taken bits m)) links out (over links out m .end) (taken bits m))
+  unfolding follow
+  follow-on out p bits = go (goesOn links out p bits) refl
+    where
+      go : (o : Option Move) → goesOn links out p bits ≡ o → follow (bitsLeft bits) links out p bits ≡ andThen o (λ m. m ∷ follow (bitsLeft (taken bits m)) links out (over links out m .end) (taken bits m))
+      go none e = follow-none (bitsLeft bits) out p bits e
+      go (some m) e = rw (left-taken bits m (goesOn-left out p bits m e), e)
+
+  follow-fewer : (fuel : ℕ) (out : Bool) (p : Point) (bits : List ℕ) → bitsLeft (takenAll bits (follow fuel links out p bits)) ≤ bitsLeft bits
+  unfolding follow takenAll
+  follow-fewer zero out p bits = omega arith
+  follow-fewer (suc fuel) out p bits = go (goesOn links out p bits) refl (follow-fewer fuel out)
+    where
+      go : (o : Option Move) → goesOn links out p bits ≡ o → ((q : Point) (bits′ : List ℕ) → bitsLeft (takenAll bits′ (follow fuel links out q bits′)) ≤ bitsLeft bits′)
+          → bitsLeft (takenAll bits (andThen o (λ m. m ∷ follow fuel links out (over links out m .end) (taken bits m)))) ≤ bitsLeft bits
+      go none e ih = omega arith
+      go (some m) e ih = omega (arith, ih (over links out m .end) (taken bits m), left-taken bits m (goesOn-left out p bits m e))
+
+  pub path-fewer : (bits : List ℕ) (m : Move) → begins links bits ≡ some m → bitsLeft (takenAll bits (pathFrom links bits m)) < bitsLeft bits
+  unfolding pathFrom takenAll
+  path-fewer bits m e = omega (arith, left-taken bits m (begins-some links bits m e .left), follow-fewer (bitsLeft (taken bits m)) (m .forth) (over links (m .forth) m .end) (taken bits m))
+
+  -- one turn of the loop of paths
+  abbrev pub turn : ℕ → List ℕ → Move → List (List Move)
+  turn fuel bits m = pathFrom links bits m ∷ walkFrom fuel links (takenAll bits (pathFrom links bits m))
+
+  walk-empty : (fuel : ℕ) (bits : List ℕ) → bitsLeft bits ≤ 0 → [] ≡ walkFrom fuel links bits
+  unfolding walkFrom
+  walk-empty zero bits h = refl
+  walk-empty (suc fuel) bits h = go (begins links bits) refl
+    where
+      go : (o : Option Move) → begins links bits ≡ o → [] ≡ andThen o (turn fuel bits)
+      go none e = refl
+      go (some m) e = absurd (omega (arith, path-fewer bits m e))
+
+  -- more fuel than bits changes nothing
+  walk-fuel : (j k : ℕ) (bits : List ℕ) → bitsLeft bits ≤ j → bitsLeft bits ≤ k → walkFrom j links bits ≡ walkFrom k links bits
+  unfolding walkFrom
+  walk-fuel zero k bits h l = walk-empty k bits h
+  walk-fuel (suc j) zero bits h l = sym (walk-empty (suc j) bits l)
+  walk-fuel (suc j) (suc k) bits h l = go (begins links bits) refl (walk-fuel j k)
+    where
+      go : (o : Option Move) → begins links bits ≡ o → ((bits′ : List ℕ) → bitsLeft bits′ ≤ j → bitsLeft bits′ ≤ k → walkFrom j links bits′ ≡ walkFrom k links bits′) → andThen o (turn j bits) ≡ andThen o (turn k bits)
+      go none e ih = refl
+      go (some m) e ih = ap (pathFrom links bits m ∷_) (ih (takenAll bits (pathFrom links bits m)) (omega (arith, path-fewer bits m e)) (omega (arith, path-fewer bits m e)))
+
+  -- the loop of paths
+  pub walk-on : (bits : List ℕ) → walkFrom (bitsLeft bits) links bits
+      ≡ andThen (begins links bits) (λ m. pathFrom links bits m ∷ walkFrom (bitsLeft (takenAll bits (pathFrom links bits m))) links (takenAll bits (pathFrom links bits m)))
+  unfolding walkFrom
+  walk-on bits = walk-fuel (bitsLeft bits) (suc (bitsLeft bits)) bits (omega arith) (omega arith) ∙ go (begins links bits) refl
+    where
+      go : (o : Option Move) → begins links bits ≡ o → andThen o (turn (bitsLeft bits) bits) ≡ andThen o (λ m. turn (bitsLeft (takenAll bits (pathFrom links bits m))) bits m)
+      go none e = refl
+      go (some m) e = ap (pathFrom links bits m ∷_) (walk-fuel (bitsLeft bits) (bitsLeft (takenAll bits (pathFrom links bits m))) (takenAll bits (pathFrom links bits m)) (omega (arith, path-fewer bits m e)) (omega arith))

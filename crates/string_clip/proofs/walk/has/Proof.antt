@@ -1,0 +1,16 @@
+use mathlib.Core.Path.{_≡_, sym, ap, _∙_}
+use mathlib.Core.Bool.{Bool}
+use Rattle.string_clip.specs.Walk.{has}
+use Rattle.string_clip.proofs.walk.has.Statement.{statement}
+use Rattle.string_clip.proofs.walk.has.Tie as tie
+
+returns : tie.Need-returns
+unfolding has
+returns c = let a = c .before .args in sym (ap (λ (b : Bool). has b (a .bits)) (c .if1 .taken))
+
+returns-2 : tie.Need-returns-2
+unfolding has
+returns-2 c = let a = c .before .args in sym (ap (λ (b : Bool). has b (a .bits)) (c .if1 .left))
+
+pub has-spec : {M : Type 1} → statement M
+has-spec = tie.close (tie.spec returns returns-2)

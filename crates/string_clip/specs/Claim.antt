@@ -1,0 +1,103 @@
+-- Inside and outside together: the one claim about two clip runs with one drawing, rule and boundary, over their outputs as read from the lent lists. Assumes nothing.
+use mathlib.Core.Path.{_≡_}
+use mathlib.Core.List.{List, [], _∷_, flatten}
+use mathlib.Core.Logic.{_⊎_, _↔_}
+use mathlib.Core.Bool.{Bool, true, false, _&&_, _||_, cond}
+use Prim.Native.Nat.{ℕ, _+_, _*_, _≤_}
+use lib.ListN.{length, drop}
+use lib.IntN.{ℤ, pos, natAbs}
+use Rattle.geom.specs.Points.{eqZ, eqP}
+use Rattle.segm.specs.declared.Segment.{Segment}
+use Rattle.segm.specs.Lists.{_∈_, tally}
+use Rattle.segm.specs.Segments.{Drawing, segments}
+use Rattle.checks.specs.Accepted.{accepts}
+use Rattle.build.specs.declared.ray.Rule.{Rule}
+use Rattle.build.specs.Fills.{bottom, top, filled, ruleOf}
+use Rattle.string_clip.specs.Walk.{has, Step, asDrawn, one}
+use Rattle.string_clip.specs.Paths.{stepsOf, travelOf}
+use Rattle.string_clip.specs.Run.{Outcome, clipOutcome, told, output}
+
+-- ---- the drawing's own
+-- a drawn line direction: one line bit set in one segment
+pub record Direction : Type 0 where
+  pub segment : Segment
+  pub forth : Bool
+
+abbrev pub along : Segment → Bool → Direction
+along s forth = record { segment = s; forth = forth }
+
+-- x before l if b
+abbrev pub putIf : {A : Type 0} → Bool → A → List A → List A
+putIf b x l = cond b (x ∷ l) l
+
+unfoldable pub drawn : Drawing → List Direction
+drawn [] = []
+drawn (s ∷ d) = putIf (has true (natAbs (s .bits))) (along s true) (putIf (has false (natAbs (s .bits))) (along s false) (drawn d))
+
+-- travelled as drawn, it is the step from a to b for bit 1 and from b to a for bit 2
+unfoldable pub travelled : Direction → Step
+travelled δ = asDrawn (δ .forth) (δ .segment)
+
+-- the number of line bits set in all segments
+unfoldable pub ownSteps : Drawing → ℕ
+ownSteps d = length (drawn d)
+
+-- the sum of |dx| + |dy| of the segment over each such bit
+unfoldable pub ownTravel : Drawing → ℕ
+ownTravel d = tally (λ (δ : Direction). travelOf (asDrawn true (δ .segment))) (drawn d)
+
+-- ---- counting
+-- how often a step stands in a list
+unfoldable pub same : Step → Step → Bool
+same σ τ = eqP (σ .start) (τ .start) && eqP (σ .end) (τ .end)
+
+unfoldable pub count : Step → List Step → ℕ
+count σ l = tally (λ τ. one (same σ τ)) l
+
+-- one of two counts is 1 and the other 0
+abbrev pub OneOf : ℕ → ℕ → Type 0
+OneOf m n = ((m ≡ 1) × (n ≡ 0)) ⊎ ((m ≡ 0) × (n ≡ 1))
+
+-- ---- the ray
+-- both sides (boundary excluded), or at least one (included)
+unfoldable pub enough : ℤ → Bool → Bool → Bool
+enough boundary t b = cond (eqZ boundary (pos 0)) (t && b) (t || b)
+
+unfoldable pub rayKeeps : Rule → ℤ → Drawing → Segment → Bool
+rayKeeps rule boundary d s = enough boundary (filled rule (top d s)) (filled rule (bottom d s))
+
+-- ---- the claim
+pub record InsideAndOutside (d : Drawing) (rule : Rule) (boundary : ℤ) (inside outside : Outcome) : Type 0 where
+  -- every drawn line direction is a step of exactly one of the two outputs, once in it, travelled as drawn
+  pub once : (δ : Direction) → δ ∈ drawn d → OneOf (count (travelled δ) (stepsOf (output inside))) (count (travelled δ) (stepsOf (output outside)))
+  -- the two outputs hold no other step
+  pub no-other : (σ : Step) → (σ ∈ stepsOf (output inside)) ⊎ (σ ∈ stepsOf (output outside)) → (δ : Direction) × (δ ∈ drawn d) × (σ ≡ travelled δ)
+  -- it is in the inside output exactly when the ray fills at least one side of its segment (boundary included) or both (excluded)
+  pub by-the-ray : (δ : Direction) → δ ∈ drawn d → (travelled δ ∈ stepsOf (output inside)) ↔ (rayKeeps rule boundary d (δ .segment) ≡ true)
+  -- reported steps and travel add up to the drawing's own
+  pub all-steps : told (inside .answer) .steps + told (outside .answer) .steps ≡ ownSteps d
+  pub all-travel : told (inside .answer) .travel + told (outside .answer) .travel ≡ ownTravel d
+
+-- no list that is lent for n segments is too short
+pub record Room (numbers points : List ℤ) (lengths : List ℕ) : Type 0 where
+  pub points-fit : 8 * length (segments numbers) ≤ length points
+  pub lengths-fit : 2 * length (segments numbers) ≤ length lengths
+
+-- a run's own numbers are what its output holds; its lists are as long as they were, and past the answer as they were
+pub record Tells (d : Drawing) (points : List ℤ) (lengths : List ℕ) (o : Outcome) : Type 0 where
+  pub paths : told (o .answer) .paths ≡ length (output o)
+  pub points-told : told (o .answer) .points ≡ length (flatten (output o))
+  pub steps : told (o .answer) .steps ≡ length (stepsOf (output o))
+  pub travel : told (o .answer) .travel ≡ tally travelOf (stepsOf (output o))
+  pub few-points : 2 * told (o .answer) .points ≤ 8 * length d
+  pub few-paths : told (o .answer) .paths ≤ 2 * length d
+  pub as-long : (length (o .points) ≡ length points) × (length (o .lengths) ≡ length lengths)
+  pub past : (drop (2 * told (o .answer) .points) (o .points) ≡ drop (2 * told (o .answer) .points) points) × (drop (told (o .answer) .paths) (o .lengths) ≡ drop (told (o .answer) .paths) lengths)
+
+-- ---- two runs of code, over their lists before and after
+-- each answers and writes what its definition says; if the drawing is accepted and no list is too short, the claim holds of the two, and each tells what its output holds
+pub record Together (numbers : List ℤ) (rule boundary : ℤ) (inside : Outcome) (xs₀ : List ℤ) (ns₀ : List ℕ) (outside : Outcome) (xs₁ : List ℤ) (ns₁ : List ℕ) : Type 0 where
+  pub inside-is : inside ≡ clipOutcome numbers rule (pos 0) boundary xs₀ ns₀
+  pub outside-is : outside ≡ clipOutcome numbers rule (pos 1) boundary xs₁ ns₁
+  pub claim : accepts numbers rule (pos 0) boundary ≡ true → Room numbers xs₀ ns₀ → Room numbers xs₁ ns₁
+      → InsideAndOutside (segments numbers) (ruleOf rule) boundary inside outside × Tells (segments numbers) xs₀ ns₀ inside × Tells (segments numbers) xs₁ ns₁ outside

@@ -1,0 +1,121 @@
+-- The walk over flat lists, as the code goes: a move is named by the end of a link that it leaves. Assumes nothing.
+use mathlib.Core.Path.{_≡_}
+use mathlib.Core.List.{List, [], _∷_, map, flatten}
+use mathlib.Core.Bool.{Bool, true, cond, Bool·beq}
+use Prim.Native.Nat.{ℕ, zero, suc, _+_, _*_, _<_, _≤_}
+use lib.Dec.{ltb}
+use lib.ListN.{length, getD}
+use lib.IntN.{pos}
+use Rattle.geom.specs.declared.Point.{Point}
+use Rattle.segm.specs.Lists.{_∈_}
+use Rattle.segm.specs.Segments.{Drawing}
+use Rattle.ends.specs.Ends.{endPoint}
+use Rattle.graph.specs.Nodes.{linkOf, otherEnd, part, Nodes}
+use Rattle.string_clip.specs.declared.run.Written.{Written}
+use Rattle.string_clip.specs.declared.walk.Link.{Link}
+use Rattle.string_clip.specs.declared.walk.Next.{Next}
+use Rattle.string_clip.specs.declared.walk.Next.the-variants.{Stop, Leave}
+use Rattle.string_clip.specs.Walk.{has, clear, Move, move, isLeft, taken, takenAll, bitsLeft, pathFrom, walk}
+use Rattle.string_clip.specs.Paths.{finished, pathPoints, Kept}
+
+-- of m links: the move that leaves end e, outward or backward
+unfoldable pub moveOf : ℕ → Bool → ℕ → Move
+moveOf m out e = move (linkOf m e) (Bool·beq out (ltb e m))
+
+-- ---- a link by value
+unfoldable pub linkAt : List ℕ → List ℕ → ℕ → Link
+linkAt nodes bits k = record { a = getD nodes k 0; b = getD nodes (length bits + k) 0; bits = getD bits k 0 }
+
+-- one line bit cleared
+unfoldable pub visited : Link → Bool → Link
+visited l forth = record { a = l .a; b = l .b; bits = clear forth (l .bits) }
+
+-- the node of the end that is not at the walk's point
+unfoldable pub farNode : Link → Bool → ℕ
+farNode l atStart = cond atStart (l .b) (l .a)
+
+-- ---- the next move
+-- the first of these ends whose line bit is left
+unfoldable pub firstEnd : ℕ → Bool → List ℕ → List ℕ → Next
+firstEnd m out bits [] = Stop
+firstEnd m out bits (e ∷ es) = cond (isLeft bits (moveOf m out e)) (Leave e) (firstEnd m out bits es)
+
+-- the lists of the nodes
+pub record Graph : Type 0 where
+  pub flat : List ℕ
+  pub starts : List ℕ
+  pub nodes : List ℕ
+
+abbrev pub graph : List ℕ → List ℕ → List ℕ → Graph
+graph flat starts nodes = record { flat = flat; starts = starts; nodes = nodes }
+
+-- having left end e, at the node of the link's other end
+unfoldable pub nextEnd : Graph → Bool → List ℕ → ℕ → Next
+nextEnd g out bits e = firstEnd (length bits) out bits (part (g .flat) (g .starts) (getD (g .nodes) (otherEnd (length bits) e) 0))
+
+-- the bits that are left after the next move
+abbrev pub takenBy : Bool → List ℕ → Next → List ℕ
+takenBy out bits Stop = bits
+takenBy out bits (Leave e) = taken bits (moveOf (length bits) out e)
+
+abbrev pub onward : {A : Type 0} → Next → (ℕ → List A) → List A
+onward Stop f = []
+onward (Leave e) f = f e
+
+-- ---- the moves on from the end e that was left
+unfoldable pub followEnds : ℕ → Graph → Bool → ℕ → List ℕ → List ℕ
+followEnds zero g out e bits = []
+followEnds (suc fuel) g out e bits = onward (nextEnd g out bits e) (λ f. f ∷ followEnds fuel g out f (taken bits (moveOf (length bits) out f)))
+
+-- from the next move on, and the bits that are left after the last
+unfoldable pub movesOn : Graph → Bool → List ℕ → Next → List ℕ
+movesOn g out bits Stop = []
+movesOn g out bits (Leave e) = e ∷ followEnds (bitsLeft bits) g out e bits
+
+unfoldable pub bitsAfter : Graph → Bool → List ℕ → Next → List ℕ
+bitsAfter g out bits Stop = bits
+bitsAfter g out bits (Leave e) = takenAll bits (map (moveOf (length bits) out) (followEnds (bitsLeft bits) g out e bits))
+
+-- ---- what the lists of m links hold: ends, and nodes whose parts are ends
+pub record NodeAt (m : ℕ) (flat starts : List ℕ) (v : ℕ) : Type 0 where
+  pub known : suc v < length starts
+  pub rising : getD starts v 0 ≤ getD starts (suc v) 0
+  pub inside : getD starts (suc v) 0 ≤ length flat
+  pub ends : (f : ℕ) → f ∈ part flat starts v → f < 2 * m
+
+pub record Sound (m : ℕ) (g : Graph) : Type 0 where
+  pub few : m ≤ 1024
+  pub each-end : 2 * m ≤ length (g .nodes)
+  pub at-node : (e : ℕ) → e < 2 * m → NodeAt m (g .flat) (g .starts) (getD (g .nodes) e 0)
+
+-- ---- points
+-- at no place of a list of points
+abbrev pub origin : Point
+origin = record { x = pos 0; y = pos 0 }
+
+-- the points that the moves which leave these ends come through
+unfoldable pub throughEnds : Drawing → List ℕ → List Point
+throughEnds links [] = []
+throughEnds links (e ∷ es) = endPoint links e ∷ map (λ f. endPoint links (otherEnd (length links) f)) (e ∷ es)
+
+unfoldable pub endsPoints : Drawing → Bool → List ℕ → List Point
+endsPoints links out es = finished out (throughEnds links es)
+
+-- ---- a path
+-- the path that begins with link k
+abbrev pub pathAt : Drawing → List ℕ → ℕ → List Move
+pathAt links bits k = pathFrom links bits (move k (has true (getD bits k 0)))
+
+-- what a walk over links needs of its lists
+pub record Walking (links : Drawing) (flat starts nodes bits : List ℕ) : Type 0 where
+  pub kept : Kept links
+  pub nodes-are : Nodes links flat starts nodes
+  pub as-many : length bits ≡ length links
+
+-- ---- all paths
+-- of the links that a run keeps
+abbrev pub linksPaths : Drawing → List (List Point)
+linksPaths links = map (pathPoints links) (walk links)
+
+abbrev pub writtenOf : List (List Point) → Written
+writtenOf paths = record { paths = length paths; points = length (flatten paths) }

@@ -1,0 +1,5 @@
+pub mod Walk
+pub mod Paths
+pub mod Run
+pub mod Claim
+pub mod Flat

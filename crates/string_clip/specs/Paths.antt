@@ -1,0 +1,67 @@
+-- Paths as points, their steps and travel. Assumes nothing.
+use mathlib.Core.Path.{_≡_}
+use mathlib.Core.List.{List, [], _∷_, _++_, map, reverse}
+use mathlib.Core.Bool.{Bool, true, false}
+use Prim.Native.Nat.{ℕ, _+_, _≤_}
+use lib.ListN.{length}
+use lib.IntN.{pos, natAbs, _-ℤ_}
+use lib.Signed.{_≤ℤ_}
+use Rattle.geom.specs.declared.Point.{Point}
+use Rattle.geom.specs.Points.{ltP}
+use Rattle.segm.specs.declared.Segment.{Segment}
+use Rattle.segm.specs.Lists.{_∈_}
+use Rattle.segm.specs.Segments.{Drawing}
+use Rattle.graph.specs.Nodes.{Rising}
+use Rattle.checks.specs.Drawing.{endsInRange}
+use Rattle.build.specs.declared.ray.Rule.{Rule}
+use Rattle.build.specs.declared.links.Filter.{Filter}
+use Rattle.build.specs.Links.{keptLinks}
+use Rattle.string_clip.specs.Walk.{has, one, Step, step, Move, over, walk}
+
+-- the points that moves come through, the first included
+unfoldable pub through : Drawing → Bool → List Move → List Point
+through links out [] = []
+through links out (m ∷ l) = over links out m .start ∷ map (λ n. over links out n .end) (m ∷ l)
+
+-- a backward path is reversed when finished
+unfoldable pub finished : Bool → List Point → List Point
+finished true points = points
+finished false points = reverse points
+
+-- the points of a path: it goes outward if its first move takes bit 1
+unfoldable pub pathPoints : Drawing → List Move → List Point
+pathPoints links [] = []
+pathPoints links (m ∷ l) = finished (m .forth) (through links (m .forth) (m ∷ l))
+
+-- the paths of a clip run
+unfoldable pub clipPaths : Rule → Filter → Drawing → List (List Point)
+clipPaths rule filter d = let links = keptLinks rule filter d in map (pathPoints links) (walk links)
+
+-- ---- steps: two neighbouring points of one path, from the earlier to the later
+unfoldable pub stepsFrom : Point → List Point → List Step
+stepsFrom p [] = []
+stepsFrom p (q ∷ l) = step p q ∷ stepsFrom q l
+
+unfoldable pub stepsOfPath : List Point → List Step
+stepsOfPath [] = []
+stepsOfPath (p ∷ l) = stepsFrom p l
+
+unfoldable pub stepsOf : List (List Point) → List Step
+stepsOf [] = []
+stepsOf (path ∷ paths) = stepsOfPath path ++ stepsOf paths
+
+-- the travel of a step: |dx| + |dy|
+unfoldable pub travelOf : Step → ℕ
+travelOf σ = natAbs (σ .end .x -ℤ σ .start .x) + natAbs (σ .end .y -ℤ σ .start .y)
+
+-- how many line bits are set in a segment
+abbrev pub linesOf : Segment → ℕ
+linesOf s = one (has true (natAbs (s .bits))) + one (has false (natAbs (s .bits)))
+
+-- ---- what the links of an accepted drawing have, whichever are kept
+pub record Kept (links : Drawing) : Type 0 where
+  pub few : length links ≤ 1024
+  pub near : (s : Segment) → s ∈ links → endsInRange s ≡ true
+  pub proper : (s : Segment) → s ∈ links → ltP (s .a) (s .b) ≡ true
+  pub bits : (s : Segment) → s ∈ links → (pos 0 ≤ℤ s .bits) × (s .bits ≤ℤ pos 3)
+  pub rising : Rising links
