@@ -20,7 +20,11 @@
    3 to 7 are tried segment by segment, the lowest number first within one.
 
    A list is passed as a pointer and its number of entries. No pointer may be NULL, not even for a list
-   of no entries: pass the address of anything. Lists of one call must not overlap. */
+   of no entries: pass the address of anything. Lists of one call must not overlap. Entries past the
+   answer keep their values, and after a refusal all do. In what is returned, number and place are 0 on
+   success; on a refusal they say which and where, and all counts are 0.
+
+   The rule is 0 even-odd, 1 nonzero, 2 positive or 3 negative. */
 
 #ifndef OVERLAY_H
 #define OVERLAY_H
@@ -32,7 +36,6 @@
 extern "C" {
 #endif
 
-/* Number and place are 0 on success; on a refusal they say which and where, and the count is 0. */
 struct overlay_filled {
     uint64_t number;
     uint64_t place;
@@ -40,11 +43,28 @@ struct overlay_filled {
 };
 
 /* The fill of each of the n segments: 1 if its top is filled, plus 2 if its bottom is, plus 4 times its
-   line bits. The bottom is right of a to b, the top left. The rule is 0 even-odd, 1 nonzero, 2 positive
-   or 3 negative. The list `fills` needs n entries; those past n keep their values, and after a refusal
-   all do. The count is n. */
+   line bits. The bottom is right of a to b, the top left. The list `fills` needs n entries. The count
+   is n. */
 struct overlay_filled overlay_fills(const int32_t *segments, size_t segments_len, int32_t rule,
                                     uint8_t *fills, size_t fills_len);
+
+/* A step is two neighbouring points of one path; travel is the sum of |dx| + |dy| over the steps. */
+struct overlay_clipped {
+    uint64_t number;
+    uint64_t place;
+    uint64_t paths;
+    uint64_t points;
+    uint64_t steps;
+    uint64_t travel;
+};
+
+/* The lines inside (invert 0) or outside (invert 1), joined into paths that run as the lines were drawn.
+   A line with dough on one side only counts as inside if boundary is 1, as outside if it is 0.
+   `points` gets x and y of each point, path by path, and `lengths` how many points each path has. For n
+   segments they need 8n and 2n entries. */
+struct overlay_clipped overlay_clip(const int32_t *segments, size_t segments_len, int32_t rule,
+                                    int32_t invert, int32_t boundary, int32_t *points,
+                                    size_t points_len, uint32_t *lengths, size_t lengths_len);
 
 #ifdef __cplusplus
 }

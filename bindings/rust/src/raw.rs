@@ -9,9 +9,21 @@ pub struct Filled {
     pub count: u64,
 }
 
+/// What [`overlay_clip`] returns. Number and place are 0 on success, all others are 0 on a refusal.
+#[repr(C)]
+#[derive(Debug, Clone, Copy, PartialEq, Eq)]
+pub struct Clipped {
+    pub number: u64,
+    pub place: u64,
+    pub paths: u64,
+    pub points: u64,
+    pub steps: u64,
+    pub travel: u64,
+}
+
+// Each reads and writes at most as many entries as the lengths say. Lists of one call must not overlap,
+// and no pointer may be null, also where the length is 0.
 extern "C" {
-    /// Reads `segments_len` numbers and writes at most `fills_len` fills. The two lists must not overlap,
-    /// and neither pointer may be null, also where the length is 0.
     pub fn overlay_fills(
         segments: *const i32,
         segments_len: usize,
@@ -19,10 +31,47 @@ extern "C" {
         fills: *mut u8,
         fills_len: usize,
     ) -> Filled;
+
+    pub fn overlay_clip(
+        segments: *const i32,
+        segments_len: usize,
+        rule: i32,
+        invert: i32,
+        boundary: i32,
+        points: *mut i32,
+        points_len: usize,
+        lengths: *mut u32,
+        lengths_len: usize,
+    ) -> Clipped;
 }
 
 /// [`overlay_fills`] on slices.
 pub fn fills(segments: &[i32], rule: i32, fills: &mut [u8]) -> Filled {
     // SAFETY: both pointers are valid for their lengths, and the borrows keep the lists apart.
     unsafe { overlay_fills(segments.as_ptr(), segments.len(), rule, fills.as_mut_ptr(), fills.len()) }
+}
+
+/// [`overlay_clip`] on slices.
+pub fn clip(
+    segments: &[i32],
+    rule: i32,
+    invert: i32,
+    boundary: i32,
+    points: &mut [i32],
+    lengths: &mut [u32],
+) -> Clipped {
+    // SAFETY: all pointers are valid for their lengths, and the borrows keep the lists apart.
+    unsafe {
+        overlay_clip(
+            segments.as_ptr(),
+            segments.len(),
+            rule,
+            invert,
+            boundary,
+            points.as_mut_ptr(),
+            points.len(),
+            lengths.as_mut_ptr(),
+            lengths.len(),
+        )
+    }
 }

@@ -79,14 +79,14 @@ impl Refusal {
         self.reason.number()
     }
 
-    /// The refusal of this number and place; none for 0, which is success.
-    pub(crate) fn of(number: u64, place: u64) -> Option<Self> {
+    /// The refusal of this number and place; 0 is success.
+    pub(crate) fn check(number: u64, place: u64) -> Result<(), Self> {
         if number == 0 {
-            return None;
+            return Ok(());
         }
         let reason = Reason::ALL.into_iter().find(|reason| reason.number() == number);
         let reason = reason.expect("the library returns no other number");
-        Some(Self { reason, place: place as usize })
+        Err(Self { reason, place: place as usize })
     }
 }
 

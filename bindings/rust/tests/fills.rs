@@ -1,10 +1,7 @@
-use jumperclay::{fills, fills_into, raw, Reason, Refusal, Rule};
+mod common;
 
-/// Document 01's case A.
-const A: [i32; 54] = [
-    -5, 5, 0, 5, 0, 1, 0, 0, 0, 5, -1, 0, 0, 0, 10, 0, 1, 0, 0, 5, 0, 10, -1, 0, 0, 5, 10, 5, 0, 1, 0, 10, 10, 10, -1,
-    0, 10, 0, 10, 5, 1, 0, 10, 5, 10, 10, 1, 0, 10, 5, 15, 5, 0, 1,
-];
+use common::A;
+use jumperclay::{fills, fills_into, raw, Reason, Refusal, Rule};
 
 fn refused(drawing: &[i32], reason: Reason, place: usize, sentence: &str) {
     let refusal = fills(drawing, Rule::NonZero).unwrap_err();

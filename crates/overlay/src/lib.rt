@@ -1,8 +1,9 @@
 // The functions that C and Rust call, and nothing else: numbers and slices in, a struct of numbers out. Every function here is proved, and the crate assumes
 // nothing of its own. No function has a `requires`.
 use build::Filled;
+use string_clip::Clipped;
 ghost use mathlib.Core.Path.{_≡_};
-ghost use Rattle.overlay.specs.Numbers.{fillsNumbers, returned};
+ghost use Rattle.overlay.specs.Numbers.{fillsNumbers, returned, clipNumbers, returnedClip};
 
 // A refusal's number and place, or 0 and 0 and how many fills were written.
 #[repr(C)]
@@ -27,6 +28,49 @@ pub extern "C" fn overlay_fills(segments: &[i32], rule: i32, fills: &mut [u8]) -
             number: number as u64,
             place: place as u64,
             count: 0,
+        },
+    }
+}
+
+// A refusal's number and place, or 0 and 0 and what a clip run found.
+#[repr(C)]
+pub struct Clip {
+    pub number: u64,
+    pub place: u64,
+    pub paths: u64,
+    pub points: u64,
+    pub steps: u64,
+    pub travel: u64,
+}
+
+// The cut lines inside or outside, as x, y pairs and one length a path.
+#[no_mangle]
+pub extern "C" fn overlay_clip(
+    segments: &[i32],
+    rule: i32,
+    invert: i32,
+    boundary: i32,
+    points: &mut [i32],
+    lengths: &mut [u32],
+) -> Clip
+    ensures { λ r. ⌜ returnedClip r (now (points .exit)) (now (lengths .exit)) ≡ clipNumbers (now (segments .entry)) rule invert boundary (now (points .entry)) (now (lengths .entry)) ⌝ }
+{
+    match string_clip::clip(segments, rule, invert, boundary, points, lengths) {
+        Clipped::Done(found) => Clip {
+            number: 0,
+            place: 0,
+            paths: found.paths as u64,
+            points: found.points as u64,
+            steps: found.steps as u64,
+            travel: found.travel,
+        },
+        Clipped::Refused(number, place) => Clip {
+            number: number as u64,
+            place: place as u64,
+            paths: 0,
+            points: 0,
+            steps: 0,
+            travel: 0,
         },
     }
 }

@@ -1,8 +1,10 @@
-//! How long the fills take, ours and the Rust's, on the same drawings. Not a test.
+//! How long the runs take, ours and the Rust's, on the same drawings. Not a test.
 
-use crate::drawing::{MOST_SEGMENTS, WIDTH};
+use crate::drawing::{numbers, read, Segment, MOST_SEGMENTS, WIDTH};
 use crate::generate::Make;
-use crate::prose::refused_drawing;
+use crate::lines::{self, Draw};
+use crate::output::EACH;
+use crate::prose::{Checked, Refusal};
 use crate::random::Random;
 use crate::shapes;
 use i_overlay::{Drawing, Scan};
@@ -13,61 +15,125 @@ use std::time::{Duration, Instant};
 const SIZES: [usize; 3] = [64, 256, MOST_SEGMENTS];
 const NON_ZERO: i32 = 1;
 
-type Kind = (&'static str, Make);
-
 /// Few segments open at once, half of all open at once, and half of all at one point.
-const KINDS: [Kind; 3] = [("wide", |_, n| shapes::squares(n / 4, 1)), ("tall", shapes::heaped), ("fan", shapes::wheel)];
+const KINDS: [(&str, Make); 3] =
+    [("wide", |_, n| shapes::squares(n / 4, 1)), ("tall", shapes::heaped), ("fan", shapes::wheel)];
+
+/// What is timed, on drawings with these lines.
+struct Run {
+    name: &'static str,
+    draw: Draw,
+    ours: fn(&[i32], &mut Lists),
+    theirs: fn(&mut Drawing),
+}
+
+/// The fills without lines, so that the Rust makes no links; the clip inside, boundary included, with lines on most
+/// segments.
+const RUNS: [Run; 2] = [
+    Run {
+        name: "fills",
+        draw: |_, _| (),
+        ours: |numbers, lists| _ = black_box(raw::fills(numbers, NON_ZERO, &mut lists.fills)),
+        theirs: |drawing| _ = black_box(drawing.fills(NON_ZERO)),
+    },
+    Run {
+        name: "clip",
+        draw: lines::mixed,
+        ours: |numbers, lists| {
+            _ = black_box(raw::clip(numbers, NON_ZERO, 0, 1, &mut lists.points, &mut lists.lengths));
+        },
+        theirs: |drawing| _ = black_box(drawing.clip(NON_ZERO, false, true)),
+    },
+];
+
+/// What is lent, for as many segments as a drawing may have.
+struct Lists {
+    fills: Vec<u8>,
+    points: Vec<i32>,
+    lengths: Vec<u32>,
+}
 
 const NOTE: &str = "\
-Medians of one call. Ours checks the drawing first, the Rust does not. The Rust's sweep is unchanged but its scans
-are stand-ins: the list looks at all that is open, the tree halves. No list is cleared between calls.";
+Medians of one call in microseconds. Ours checks the drawing first, the Rust does not. The checks are timed by a call
+that they refuse at the last place of the last check; \"without\" is ours less that. The Rust's files are unchanged but
+its scans are stand-ins: the list looks at all that is open, the tree halves. No list is cleared between calls.";
+
+const COLUMNS: [&str; 8] = [
+    "ours, all checks",
+    "ours, without",
+    "Rust, list",
+    "Rust, tree",
+    "all/list",
+    "all/tree",
+    "without/list",
+    "without/tree",
+];
 
 pub fn bench() -> bool {
-    println!("{NOTE}\n");
-    println!(
-        "{:<6} {:>5} {:>12} {:>12} {:>12} {:>10} {:>10}",
-        "kind", "n", "ours", "Rust, list", "Rust, tree", "ours/list", "ours/tree"
-    );
-    for (name, make) in KINDS {
-        for n in SIZES {
-            let [ours, list, tree] = times(&drawing(make, n));
-            let [to_list, to_tree] = [list, tree].map(|theirs| ours / theirs);
-            println!("{name:<6} {n:>5} {ours:>9.1} µs {list:>9.1} µs {tree:>9.1} µs {to_list:>10.1} {to_tree:>10.1}");
+    println!("{NOTE}");
+    for run in RUNS {
+        println!("\n{:<6}{:>6}  {}", run.name, "n", COLUMNS.join("  "));
+        for (kind, make) in KINDS {
+            for n in SIZES {
+                let [all, checks, list, tree] = times(&run, &drawing(make, run.draw, n));
+                let without = all - checks;
+                let cells = [all, without, list, tree, all / list, all / tree, without / list, without / tree];
+                let cells = COLUMNS.iter().zip(cells).map(|(name, cell)| format!("{cell:>0$.1}", name.len() + 2));
+                println!("{kind:<6}{n:>6}{}", cells.collect::<String>());
+            }
         }
     }
     true
 }
 
-/// A drawing of exactly n segments without lines, so that the Rust makes no links.
-fn drawing(make: Make, n: usize) -> Vec<i32> {
+/// A drawing of exactly n segments.
+fn drawing(make: Make, draw: Draw, n: usize) -> Vec<i32> {
     let mut random = Random::new(&[n as u64]);
-    let mut numbers = make(&mut random, n).drawing(&mut random);
-    numbers.chunks_exact_mut(WIDTH).for_each(|segment| segment[5] = 0);
+    let numbers = make(&mut random, n).drawing(draw, &mut random);
     assert_eq!(numbers.len(), n * WIDTH);
-    assert!(refused_drawing(&numbers).is_none());
+    assert_eq!(Checked::new(&numbers).refused, None);
     numbers
 }
 
-/// Ours, and the Rust's with its list and with its tree.
-fn times(numbers: &[i32]) -> [f64; 3] {
-    let mut lent = vec![0; numbers.len() / WIDTH];
+/// The same drawing with no windings and its last segment moved to the right of all and wound: every check is made at
+/// every place, and the last place is refused by the last check.
+fn refused_last(drawing: &[i32]) -> Vec<i32> {
+    let mut segments = read(drawing);
+    let right = 1 + segments.iter().map(|segment| segment.b.0).max().expect("there are segments");
+    segments.iter_mut().for_each(|segment| segment.winding = 0);
+    *segments.last_mut().expect("there are segments") =
+        Segment { a: (right, 0), b: (right + 1, 0), winding: 1, bits: 0 };
+    let refused = numbers(&segments);
+    assert_eq!(Checked::new(&refused).refused, Some(Refusal { number: 9, place: segments.len() as u64 - 1 }));
+    refused
+}
+
+/// Ours, ours refused by the last check, and the Rust's with its list and with its tree.
+fn times(run: &Run, numbers: &[i32]) -> [f64; 4] {
+    let mut lists = Lists {
+        fills: vec![0; MOST_SEGMENTS],
+        points: vec![0; EACH[0] * MOST_SEGMENTS],
+        lengths: vec![0; EACH[1] * MOST_SEGMENTS],
+    };
+    let refused = refused_last(numbers);
     let [mut list, mut tree] = [Scan::List, Scan::Tree].map(|scan| Drawing::new(numbers, scan));
-    medians([
-        &mut || _ = black_box(raw::fills(black_box(numbers), NON_ZERO, &mut lent)),
-        &mut || _ = black_box(list.fills(black_box(NON_ZERO))),
-        &mut || _ = black_box(tree.fills(black_box(NON_ZERO))),
-    ])
+    medians(|call| match call {
+        0 => (run.ours)(black_box(numbers), &mut lists),
+        1 => (run.ours)(black_box(&refused), &mut lists),
+        2 => (run.theirs)(&mut list),
+        _ => (run.theirs)(&mut tree),
+    })
 }
 
 /// In microseconds, over as many rounds as a second allows, at least eleven. The calls take turns, so that a
 /// change of the processor's speed meets all of them.
-fn medians<const N: usize>(mut calls: [&mut dyn FnMut(); N]) -> [f64; N] {
+fn medians<const N: usize>(mut call: impl FnMut(usize)) -> [f64; N] {
     let begin = Instant::now();
     let mut times = [const { Vec::new() }; N];
     while times[0].len() < 11 || begin.elapsed() < Duration::from_secs(1) {
-        for (call, times) in calls.iter_mut().zip(&mut times) {
+        for (place, times) in times.iter_mut().enumerate() {
             let start = Instant::now();
-            call();
+            call(place);
             times.push(start.elapsed());
         }
     }

@@ -1,8 +1,9 @@
 //! The comparison over many drawings, in blocks with seeds of their own, on two threads.
 
-use crate::compare::{compare, Difference};
+use crate::case::Difference;
+use crate::compare::{compare, SMALL};
 use crate::damage::damaged;
-use crate::generate::{Generator, GENERATORS};
+use crate::generate::{Generator, JOINED, SCATTERED};
 use crate::placement;
 use crate::random::Random;
 use crate::shrink::shrunk;
@@ -53,7 +54,7 @@ pub fn check(seed: u64, drawings: usize) -> bool {
 }
 
 fn is_enough(tally: &Tally, drawings: usize) -> bool {
-    println!("\n{} drawings accepted", tally.accepted());
+    println!("{} drawings accepted", tally.accepted());
     let missing = tally.missing();
     if !missing.is_empty() {
         println!("TOO LITTLE: never occurred: {}", missing.join(", "));
@@ -81,7 +82,7 @@ fn work(seed: u64, blocks: usize, next: &AtomicUsize, stop: &AtomicBool) -> (Tal
 }
 
 fn check_block(seed: u64, block: usize, tally: &mut Tally) -> Result<(), String> {
-    for (kind, generator) in GENERATORS.iter().enumerate() {
+    for (kind, generator) in SCATTERED.iter().chain(&JOINED).enumerate() {
         for place in 0..generator.share {
             let mut random = Random::new(&[seed, block as u64, kind as u64, place as u64]);
             let before = random.clone();
@@ -97,11 +98,22 @@ fn check_block(seed: u64, block: usize, tally: &mut Tally) -> Result<(), String>
 fn check_one(generator: &Generator, random: &mut Random, tally: &mut Tally) -> Result<(), Difference> {
     let (numbers, placement) = generator.drawing(random);
     tally.add_placement(placement::NAMES[placement]);
-    tally.add(generator.name, &numbers, compare(&numbers, random)?);
+    check_drawing(generator, &numbers, random, tally)?;
     let copies = if numbers.len() > 1000 { 1 } else { COPIES };
     for _ in 0..copies {
         let copy = damaged(&numbers, random);
-        tally.add(generator.name, &copy, compare(&copy, random)?);
+        check_drawing(generator, &copy, random, tally)?;
     }
+    Ok(())
+}
+
+fn check_drawing(
+    generator: &Generator,
+    numbers: &[i32],
+    random: &mut Random,
+    tally: &mut Tally,
+) -> Result<(), Difference> {
+    let refused = compare(numbers, SMALL, random, tally)?;
+    tally.add_drawing(generator.name, numbers, refused);
     Ok(())
 }

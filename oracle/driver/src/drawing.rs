@@ -1,13 +1,12 @@
 //! A drawing's segments, six numbers each.
 
+use crate::choices::Choices;
 use std::fmt::Write;
 
 pub const WIDTH: usize = 6;
 pub const MOST_SEGMENTS: usize = 1024;
 pub const FARTHEST: i32 = 16_777_216;
 pub const MOST_WINDING: i32 = 1000;
-pub const RULES: [i32; 4] = [0, 1, 2, 3];
-pub const UNKNOWN_RULES: [i32; 4] = [-1, 4, i32::MIN, i32::MAX];
 
 /// Points compare by x, then y, as pairs do.
 pub type Point = (i32, i32);
@@ -41,9 +40,14 @@ pub fn difference(from: Point, to: Point) -> (i128, i128) {
     (to.0 as i128 - from.0 as i128, to.1 as i128 - from.1 as i128)
 }
 
-/// The comma text of a clip run by this rule, inside, with the boundary.
-pub fn comma_text(numbers: &[i32], rule: i32) -> String {
-    let mut text = format!("{rule},0,1\n");
+/// |dx| + |dy|.
+pub fn distance(p: Point, q: Point) -> u64 {
+    u64::from(p.0.abs_diff(q.0)) + u64::from(p.1.abs_diff(q.1))
+}
+
+/// The comma text of a clip run.
+pub fn comma_text(numbers: &[i32], choices: Choices) -> String {
+    let mut text = commas(&choices.list()) + "\n";
     for segment in numbers.chunks(WIDTH) {
         writeln!(text, "{}", commas(segment)).expect("a string takes all");
     }

@@ -1,6 +1,7 @@
 //! Random drawings that should be accepted.
 
 use crate::drawing::MOST_SEGMENTS;
+use crate::lines::{both_ways, joined, scattered, Draw};
 use crate::placement::{self, placed};
 use crate::plane::Plane;
 use crate::random::Random;
@@ -14,12 +15,13 @@ pub struct Generator {
     make: Make,
     size: fn(&mut Random) -> i32,
     placements: usize,
+    draw: Draw,
     /// How many of a thousand drawings.
     pub share: usize,
 }
 
 const fn free(name: &'static str, make: Make, share: usize) -> Generator {
-    Generator { name, make, size: usual, placements: placement::NAMES.len(), share }
+    Generator { name, make, size: usual, placements: placement::NAMES.len(), draw: scattered, share }
 }
 
 /// For a shape that has the full range already.
@@ -27,10 +29,11 @@ const fn fixed(name: &'static str, make: Make, share: usize) -> Generator {
     Generator { placements: 1, ..free(name, make, share) }
 }
 
-pub const GENERATORS: [Generator; 15] = [
-    free("grid", shapes::grid, 245),
-    free("lattice", shapes::lattice, 120),
-    free("fan", shapes::fan, 100),
+/// Lines here and there.
+pub const SCATTERED: [Generator; 15] = [
+    free("grid", shapes::grid, 144),
+    free("lattice", shapes::lattice, 70),
+    free("fan", shapes::fan, 50),
     free("wheel", shapes::wheel, 30),
     free("stars", shapes::stars, 70),
     free("touching", shapes::touching, 80),
@@ -45,13 +48,20 @@ pub const GENERATORS: [Generator; 15] = [
     free("full", full, 1),
 ];
 
+/// Lines that go on from segment to segment.
+pub const JOINED: [Generator; 3] = [
+    Generator { draw: joined, ..free("strings", any, 100) },
+    Generator { draw: joined, size: |random| random.within(1, 10), ..free("short strings", any, 100) },
+    Generator { draw: both_ways, size: long, ..fixed("long strings", shapes::zigzag, 1) },
+];
+
 impl Generator {
     /// A drawing's numbers and the place of its placement.
     pub fn drawing(&self, random: &mut Random) -> (Vec<i32>, usize) {
         let size = (self.size)(random) as usize;
         let plane = (self.make)(random, size);
         let placement = random.below(self.placements);
-        (placed(plane, placement, random).drawing(random), placement)
+        (placed(plane, placement, random).drawing(self.draw, random), placement)
     }
 }
 
@@ -59,6 +69,28 @@ impl Generator {
 fn usual(random: &mut Random) -> i32 {
     let most = if random.below(16) == 0 { 128 } else { 44 };
     random.within(3, most)
+}
+
+/// Long enough that a zigzag's travel needs more than 32 bits. One in sixteen has as many segments as may be.
+fn long(random: &mut Random) -> i32 {
+    match random.below(16) {
+        0 => MOST_SEGMENTS as i32,
+        _ => random.within(200, 240),
+    }
+}
+
+/// Shapes with many points of many edges.
+fn any(random: &mut Random, size: usize) -> Plane {
+    let make: Make = random.pick(&[
+        shapes::grid as Make,
+        shapes::lattice,
+        shapes::fan,
+        shapes::wheel,
+        shapes::touching,
+        shapes::dangling,
+        shapes::nested,
+    ]);
+    make(random, size)
 }
 
 /// As many segments as a drawing may have.

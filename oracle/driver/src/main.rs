@@ -1,12 +1,21 @@
-//! Compares overlay_fills with the unchanged Rust, with a ray and with a check written from prose.
+//! Compares overlay_fills and overlay_clip with the unchanged Rust, and with a check, a ray and a walk written from prose.
 
 #[cfg(feature = "rust")]
 mod bench;
+mod case;
 mod check;
+mod choices;
+mod claim;
+mod clip;
 mod compare;
 mod damage;
 mod drawing;
+mod fills;
 mod generate;
+mod lent;
+mod lines;
+mod marks;
+mod output;
 mod placement;
 mod plane;
 mod prose;
@@ -17,17 +26,20 @@ mod shrink;
 #[cfg(feature = "rust")]
 mod store;
 mod stored;
+mod table;
 mod tally;
 mod theirs;
+mod walk;
 mod windings;
 
 use std::env;
+use std::path::Path;
 use std::process::ExitCode;
 
 const USAGE: &str = "\
 driver check [--seed S] [--drawings N]   replay, then compare N drawings and damaged copies of them
-driver replay                            compare with the stored answers
-driver store                             make the stored answers (needs the Rust)
+driver replay [FOLDER]                   compare with the stored answers, in crates/replay if not said
+driver store [FOLDER]                    make the stored answers (needs the Rust)
 driver bench                             time ours and the Rust (needs the Rust)";
 
 fn main() -> ExitCode {
@@ -49,11 +61,13 @@ fn run(words: &[&str]) -> Option<bool> {
         ["check", options @ ..] => {
             let (seed, drawings) = options_of(options)?;
             println!("{}, seed {seed}", theirs::NOTE);
-            let replayed = stored::replay();
+            let replayed = stored::replay(&stored::folder());
             Some(check::check(seed, drawings) && replayed)
         }
-        ["replay"] => Some(stored::replay()),
-        ["store" | "bench"] => Some(with_rust(words[0])),
+        ["replay"] => Some(stored::replay(&stored::folder())),
+        ["replay", folder] => Some(stored::replay(Path::new(folder))),
+        ["bench" | "store"] => Some(with_rust(words[0], &stored::folder())),
+        ["store", folder] => Some(with_rust("store", Path::new(folder))),
         _ => None,
     }
 }
@@ -71,15 +85,15 @@ fn options_of(options: &[&str]) -> Option<(u64, usize)> {
 }
 
 #[cfg(feature = "rust")]
-fn with_rust(command: &str) -> bool {
+fn with_rust(command: &str, folder: &Path) -> bool {
     match command {
-        "store" => store::store(1),
+        "store" => store::store(1, folder),
         _ => bench::bench(),
     }
 }
 
 #[cfg(not(feature = "rust"))]
-fn with_rust(command: &str) -> bool {
+fn with_rust(command: &str, _: &Path) -> bool {
     println!("{command} needs the Rust: {}", theirs::NOTE);
     false
 }

@@ -1,6 +1,7 @@
 //! Segments in the plane that do not meet wrongly, most of them before they have windings and bits.
 
 use crate::drawing::{numbers, Point, Segment};
+use crate::lines::Draw;
 use crate::prose::meet_wrongly;
 use crate::random::Random;
 use crate::windings;
@@ -43,19 +44,14 @@ impl Plane {
         self.edges.iter().flat_map(|edge| [edge.a, edge.b])
     }
 
-    /// The edges in order of a, those of one a in any order, with line bits, and with balanced windings where none
+    /// The edges in order of a, those of one a in any order, with these lines, and with balanced windings where none
     /// are wound yet.
-    pub fn drawing(mut self, random: &mut Random) -> Vec<i32> {
+    pub fn drawing(mut self, draw: Draw, random: &mut Random) -> Vec<i32> {
         random.shuffle(&mut self.edges);
         if self.edges.iter().all(|edge| edge.winding == 0) {
             windings::balance(&mut self.edges, random);
         }
-        let lines = random.pick(&[0, 20, 50, 100]);
-        for segment in &mut self.edges {
-            if random.chance(lines) {
-                segment.bits = random.within(1, 3);
-            }
-        }
+        draw(&mut self.edges, random);
         self.edges.sort_by_key(|segment| segment.a);
         numbers(&self.edges)
     }

@@ -1,6 +1,6 @@
 //! Which runs are turned down, written from document 01's prose alone: a check independent of ours.
 
-use crate::drawing::{cross, difference, read, Point, Segment, FARTHEST, MOST_SEGMENTS, MOST_WINDING, RULES, WIDTH};
+use crate::drawing::{cross, difference, read, Point, Segment, FARTHEST, MOST_SEGMENTS, MOST_WINDING, WIDTH};
 use std::collections::HashMap;
 
 #[derive(Debug, Clone, Copy, PartialEq, Eq)]
@@ -9,32 +9,39 @@ pub struct Refusal {
     pub place: u64,
 }
 
-/// 2, 10 and 11, in this order: those that need no look at the segments.
-pub fn refused_run(numbers: &[i32], rule: i32, fills: usize) -> Option<Refusal> {
-    let n = numbers.len() / WIDTH;
-    let number = if !is_length(numbers) {
-        2
-    } else if !RULES.contains(&rule) {
-        10
-    } else if fills < n {
-        11
-    } else {
-        return None;
-    };
-    Some(Refusal { number, place: 0 })
+/// A drawing looked at once for all its runs.
+pub struct Checked {
+    n: usize,
+    /// By 2, or by the first of 3 to 9 that fits.
+    pub refused: Option<Refusal>,
 }
 
-/// 3 to 9. Asked only where 2 does not fit.
-pub fn refused_drawing(numbers: &[i32]) -> Option<Refusal> {
-    if !is_length(numbers) {
-        return None;
+impl Checked {
+    pub fn new(numbers: &[i32]) -> Self {
+        let n = numbers.len() / WIDTH;
+        let is_length = numbers.len().is_multiple_of(WIDTH) && n <= MOST_SEGMENTS;
+        let refused = if is_length { of_segments(&read(numbers)) } else { Some(Refusal { number: 2, place: 0 }) };
+        Self { n, refused }
     }
-    let segments = read(numbers);
-    fault(&segments).or_else(|| wrong_meeting(&segments)).or_else(|| imbalance(&segments))
+
+    /// The first refusal in the order 2, 10, 11 and 3 to 9. Each choice comes with the greatest known one, each length
+    /// of a lent list with the entries needed for a segment.
+    pub fn run(&self, choices: &[(i32, i32)], lists: &[(usize, usize)]) -> Option<Refusal> {
+        let number = if self.refused.is_some_and(|refusal| refusal.number == 2) {
+            2
+        } else if choices.iter().any(|&(choice, most)| !(0..=most).contains(&choice)) {
+            10
+        } else if lists.iter().any(|&(lent, each)| lent < each * self.n) {
+            11
+        } else {
+            return self.refused;
+        };
+        Some(Refusal { number, place: 0 })
+    }
 }
 
-fn is_length(numbers: &[i32]) -> bool {
-    numbers.len().is_multiple_of(WIDTH) && numbers.len() / WIDTH <= MOST_SEGMENTS
+fn of_segments(segments: &[Segment]) -> Option<Refusal> {
+    fault(segments).or_else(|| wrong_meeting(segments)).or_else(|| imbalance(segments))
 }
 
 /// 3 to 7 by place, the lowest number first within one.

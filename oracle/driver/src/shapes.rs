@@ -213,6 +213,22 @@ pub fn extremes(random: &mut Random, size: usize) -> Plane {
     plane
 }
 
+/// To and fro over the full range, some of the ends on one side joined: little of so many edges is longer.
+pub fn zigzag(random: &mut Random, size: usize) -> Plane {
+    let joined = random.pick(&[0, 50]);
+    let rise = random.within(1, 2 * FARTHEST / (size as i32 + 1));
+    let end = |k: usize| (if k.is_multiple_of(2) { -FARTHEST } else { FARTHEST }, k as i32 * rise - FARTHEST);
+    let mut plane = Plane::default();
+    for k in 0..size {
+        plane.add(end(k), end(k + 1));
+        if random.chance(joined) {
+            plane.add(end(k), end(k + 2));
+        }
+    }
+    plane.edges.truncate(size);
+    plane
+}
+
 /// Segments between points next to one long line.
 pub fn needles(random: &mut Random, size: usize) -> Plane {
     let [from, to] = [(); 2].map(|()| random.within(1 - FARTHEST, FARTHEST - 1) as i64);

@@ -1,19 +1,23 @@
 //! Makes a drawing that shows a difference smaller.
 
-use crate::compare::{compare, Difference};
+use crate::case::Difference;
+use crate::compare::compare;
 use crate::drawing::{numbers, read, Point, Segment, WIDTH};
 use crate::random::Random;
+use crate::tally::Tally;
 use std::collections::HashMap;
 
 /// How many smaller drawings are tried at most.
 const TRIES: usize = 1000;
 
-/// Leaves out segments and windings as long as some difference remains, not always the same one.
+/// Leaves out segments, windings and lines as long as some difference remains, not always the same one. Every rule is
+/// tried, however large the drawing.
 pub fn shrunk(mut found: Difference, random: &Random) -> Difference {
     let mut tries = TRIES;
     loop {
         let mut candidates = smaller(&found.numbers).take(tries).inspect(|_| tries -= 1);
-        let again = candidates.find_map(|numbers| compare(&numbers, &mut random.clone()).err());
+        let again = candidates
+            .find_map(|numbers| compare(&numbers, usize::MAX, &mut random.clone(), &mut Tally::default()).err());
         drop(candidates);
         match again {
             Some(smaller) => found = smaller,
@@ -22,13 +26,15 @@ pub fn shrunk(mut found: Difference, random: &Random) -> Difference {
     }
 }
 
-/// Runs of segments left out, the longest first; then cycles of windings taken away.
+/// Runs of segments left out, the longest first; then cycles of windings taken away; then lines.
 fn smaller(drawing: &[i32]) -> impl Iterator<Item = Vec<i32>> + '_ {
     let n = drawing.len() / WIDTH;
     let lengths = (0..usize::BITS).map(move |times| n >> times).take_while(|&length| length > 0);
     let runs = lengths.flat_map(move |length| (0..=n - length).step_by(length).map(move |from| (from, from + length)));
     let without = |(from, to): (usize, usize)| [&drawing[..from * WIDTH], &drawing[to * WIDTH..]].concat();
-    runs.map(without).chain((0..n).filter_map(|place| without_cycle(read(drawing), place)))
+    let unwound = (0..n).filter_map(|place| without_cycle(read(drawing), place));
+    let unlined = (0..n).flat_map(|place| [1, 2].map(|bit| (place, bit)));
+    runs.map(without).chain(unwound).chain(unlined.filter_map(|(place, bit)| without_line(read(drawing), place, bit)))
 }
 
 /// Takes the winding of one segment away along a cycle through it, so that all points stay as they were.
@@ -49,6 +55,13 @@ fn without_cycle(mut segments: Vec<Segment>, place: usize) -> Option<Vec<i32>> {
         point = from;
     }
     Some(numbers(&segments))
+}
+
+/// Takes one line bit away.
+fn without_line(mut segments: Vec<Segment>, place: usize, bit: i32) -> Option<Vec<i32>> {
+    let set = segments[place].bits & bit != 0;
+    segments[place].bits &= !bit;
+    set.then(|| numbers(&segments))
 }
 
 /// For each point that wound segments join to the start, the segment by which it was reached.

@@ -1,34 +1,34 @@
 //! The stored answers: a drawing a line in one file, its answer in the same line of another.
-//! `f,rule,ax,ay,bx,by,winding,bits,...` has the answer `number,place,count,fill,...`.
+//! `f,rule,ax,ay,bx,by,winding,bits,...` has the answer `number,place,count,fill,...`, and
+//! `c,rule,invert,boundary,ax,...` has `number,place,paths,points,steps,travel,length,...,x,y,...`.
 
-use crate::drawing::commas;
+use crate::drawing::{commas, MOST_SEGMENTS};
+use crate::output::{Output, EACH};
 use jumperclay::raw;
-use std::path::PathBuf;
+use std::path::{Path, PathBuf};
 use std::{fs, io};
 
-/// How long a list the replay lends.
-pub const LENT: usize = 1024;
-
+/// Where the program that replays them has them.
 pub fn folder() -> PathBuf {
     PathBuf::from(env!("CARGO_MANIFEST_DIR")).join("../../crates/replay")
 }
 
-fn read() -> io::Result<(String, String)> {
-    Ok((fs::read_to_string(folder().join("stdin"))?, fs::read_to_string(folder().join("stdout"))?))
+fn read(folder: &Path) -> io::Result<(String, String)> {
+    Ok((fs::read_to_string(folder.join("stdin"))?, fs::read_to_string(folder.join("stdout"))?))
 }
 
-pub fn answer(number: u64, place: u64, fills: &[u8]) -> String {
+pub fn fills_answer(number: u64, place: u64, fills: &[u8]) -> String {
     let head = [number, place, fills.len() as u64];
     let all: Vec<u64> = head.into_iter().chain(fills.iter().map(|&fill| fill.into())).collect();
     commas(&all)
 }
 
-/// Runs every stored drawing through overlay_fills. False where an answer differs or none is stored.
-pub fn replay() -> bool {
-    let (questions, answers) = match read() {
+/// Runs every stored drawing. False where an answer differs or none is stored.
+pub fn replay(folder: &Path) -> bool {
+    let (questions, answers) = match read(folder) {
         Ok(files) => files,
         Err(error) => {
-            println!("the stored answers are not in crates/replay: {error}");
+            println!("the stored answers are not in {}: {error}", folder.display());
             return false;
         }
     };
@@ -45,10 +45,19 @@ pub fn replay() -> bool {
 
 /// None where the question cannot be read, or more is counted than was lent.
 fn ours(question: &str) -> Option<String> {
-    let numbers: Result<Vec<i32>, _> = question.strip_prefix("f,")?.split(',').map(str::parse).collect();
-    let numbers = numbers.ok()?;
-    let (&rule, segments) = numbers.split_first()?;
-    let mut list = [0; LENT];
-    let filled = raw::fills(segments, rule, &mut list);
-    Some(answer(filled.number, filled.place, list.get(..filled.count as usize)?))
+    let (run, numbers) = question.split_once(',')?;
+    let numbers: Result<Vec<i32>, _> = numbers.split(',').map(str::parse).collect();
+    match (run, &numbers.ok()?[..]) {
+        ("f", &[rule, ref segments @ ..]) => {
+            let mut list = [0; MOST_SEGMENTS];
+            let filled = raw::fills(segments, rule, &mut list);
+            Some(fills_answer(filled.number, filled.place, list.get(..filled.count as usize)?))
+        }
+        ("c", &[rule, invert, boundary, ref segments @ ..]) => {
+            let (mut points, mut lengths) = (vec![0; EACH[0] * MOST_SEGMENTS], vec![0; EACH[1] * MOST_SEGMENTS]);
+            let counts = raw::clip(segments, rule, invert, boundary, &mut points, &mut lengths);
+            Output { counts, points, lengths }.line()
+        }
+        _ => None,
+    }
 }

@@ -1,86 +1,92 @@
-//! How many drawings of each kind there were.
+//! How many drawings, calls and runs of each kind there were.
 
+use crate::choices::Choices;
 use crate::drawing::WIDTH;
+use crate::marks;
 use crate::prose::Refusal;
-use std::collections::BTreeMap;
+use crate::table::Table;
+
+/// An exported function, by its column.
+#[derive(Clone, Copy)]
+pub enum Function {
+    Fills,
+    Clip,
+}
 
 #[derive(Default)]
 pub struct Tally {
-    /// Accepted and refused drawings of each generator.
-    generators: BTreeMap<&'static str, [usize; 2]>,
-    placements: BTreeMap<&'static str, usize>,
-    sizes: BTreeMap<usize, usize>,
-    refusals: BTreeMap<u64, usize>,
+    generators: Table<&'static str, 2>,
+    placements: Table<&'static str, 1>,
+    sizes: Table<usize, 1>,
+    /// By the refusal due, 0 for none.
+    calls: Table<u64, 2>,
+    /// The clip runs of accepted drawings.
+    clips: Table<&'static str, 4>,
+    marks: Table<&'static str, 1>,
 }
 
-/// Numbers of segments that must occur.
+/// What must occur: numbers of segments, refusals by each function, filters by each rule.
 const SIZES: [usize; 3] = [0, 1, 1024];
+const REFUSALS: [u64; 10] = [2, 3, 4, 5, 6, 7, 8, 9, 10, 11];
+const FILTERS: [[&str; 2]; 2] = [["inside excluded", "inside included"], ["outside excluded", "outside included"]];
 
 impl Tally {
-    pub fn add(&mut self, generator: &'static str, numbers: &[i32], refused: Option<Refusal>) {
-        let column = usize::from(refused.is_some());
-        self.generators.entry(generator).or_default()[column] += 1;
-        match refused {
-            Some(refusal) => *self.refusals.entry(refusal.number).or_default() += 1,
-            None => {
-                *self.sizes.entry(numbers.len() / WIDTH).or_default() += 1;
-                // Each accepted drawing is also run by an unknown rule and, but for n = 0, with a short list.
-                *self.refusals.entry(10).or_default() += 1;
-                if !numbers.is_empty() {
-                    *self.refusals.entry(11).or_default() += 1;
-                }
-            }
+    pub fn add_drawing(&mut self, generator: &'static str, numbers: &[i32], refused: Option<Refusal>) {
+        self.generators.add(generator, usize::from(refused.is_some()));
+        let n = numbers.len() / WIDTH;
+        if refused.is_none() && SIZES.contains(&n) {
+            self.sizes.add(n, 0);
         }
     }
 
     pub fn add_placement(&mut self, name: &'static str) {
-        *self.placements.entry(name).or_default() += 1;
+        self.placements.add(name, 0);
+    }
+
+    pub fn add_call(&mut self, function: Function, due: u64) {
+        self.calls.add(due, function as usize);
+    }
+
+    /// A clip run of an accepted drawing and which marks it has.
+    pub fn add_clip(&mut self, choices: Choices, marks: [bool; marks::NAMES.len()]) {
+        let [rule, invert, boundary] = choices.list().map(|choice| choice as usize);
+        self.clips.add(FILTERS[invert][boundary], rule);
+        for (name, _) in marks::NAMES.into_iter().zip(marks).filter(|&(_, mark)| mark) {
+            self.marks.add(name, 0);
+        }
     }
 
     pub fn merge(&mut self, other: Self) {
-        for (name, [accepted, refused]) in other.generators {
-            let sums = self.generators.entry(name).or_default();
-            sums[0] += accepted;
-            sums[1] += refused;
-        }
-        merge(&mut self.placements, other.placements);
-        merge(&mut self.sizes, other.sizes);
-        merge(&mut self.refusals, other.refusals);
+        self.generators.merge(other.generators);
+        self.placements.merge(other.placements);
+        self.sizes.merge(other.sizes);
+        self.calls.merge(other.calls);
+        self.clips.merge(other.clips);
+        self.marks.merge(other.marks);
     }
 
     pub fn accepted(&self) -> usize {
-        self.generators.values().map(|counts| counts[0]).sum()
+        self.generators.sum(0)
     }
 
-    /// What should have occurred and did not: the refusals of a fills run, the sizes of drawings.
+    /// What should have occurred and did not.
     pub fn missing(&self) -> Vec<String> {
-        let refusals = (2..=11).filter(|number| !self.refusals.contains_key(number));
-        let sizes = SIZES.iter().filter(|size| !self.sizes.contains_key(size));
-        refusals.map(|number| format!("refusal {number}")).chain(sizes.map(|size| format!("n = {size}"))).collect()
+        let refusals = REFUSALS.iter().filter(|number| !self.calls.is_full(number));
+        let sizes = SIZES.iter().filter(|size| !self.sizes.is_full(size));
+        let filters = FILTERS.iter().flatten().filter(|name| !self.clips.is_full(name));
+        let marks = marks::NAMES.iter().filter(|name| !self.marks.is_full(name));
+        let named = filters.chain(marks).map(|name| name.to_string());
+        let numbered =
+            refusals.map(|number| format!("refusal {number}")).chain(sizes.map(|size| format!("n = {size}")));
+        numbered.chain(named).collect()
     }
 
     pub fn print(&self) {
-        println!("{:<30} {:>9} {:>9}", "generator", "accepted", "refused");
-        for (name, [accepted, refused]) in &self.generators {
-            println!("{name:<30} {accepted:>9} {refused:>9}");
-        }
-        println!("\n{:<30} {:>9}", "placement", "drawings");
-        for (name, count) in &self.placements {
-            println!("{name:<30} {count:>9}");
-        }
-        println!("\n{:<30} {:>9}", "segments", "accepted");
-        for size in SIZES {
-            println!("{:<30} {:>9}", size, self.sizes.get(&size).unwrap_or(&0));
-        }
-        println!("\n{:<30} {:>9}", "refusal", "drawings");
-        for (number, count) in &self.refusals {
-            println!("{number:<30} {count:>9}");
-        }
-    }
-}
-
-fn merge<K: Ord>(sums: &mut BTreeMap<K, usize>, other: BTreeMap<K, usize>) {
-    for (key, count) in other {
-        *sums.entry(key).or_default() += count;
+        self.generators.print("generator", ["accepted", "refused"]);
+        self.placements.print("placement", ["drawings"]);
+        self.sizes.print("segments", ["accepted"]);
+        self.calls.print("calls by the refusal due", ["overlay_fills", "overlay_clip"]);
+        self.clips.print("clip runs by rule", ["0", "1", "2", "3"]);
+        self.marks.print("clip runs with", ["runs"]);
     }
 }

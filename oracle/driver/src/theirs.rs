@@ -1,5 +1,9 @@
 //! The unchanged Rust's answers, where its source is at hand.
 
+use std::borrow::Borrow;
+use std::fmt::Debug;
+use std::panic::{catch_unwind, AssertUnwindSafe};
+
 #[cfg(feature = "rust")]
 pub use here::Theirs;
 #[cfg(not(feature = "rust"))]
@@ -7,13 +11,36 @@ pub use missing::Theirs;
 
 /// Says what the driver compares with.
 pub const NOTE: &str = if cfg!(feature = "rust") {
-    "compared with the unchanged Rust of i_overlay 9.1.0, the ray and the prose check"
+    "compared with the unchanged Rust of i_overlay 9.1.0, and with the ray, the walk and the check written from prose"
 } else {
-    "the Rust of i_overlay is NOT here: compared with the stored answers, the ray and the prose check only"
+    "the Rust of i_overlay is NOT here: compared with the stored answers, and with what is written from prose, only"
 };
+
+/// Answers of the Rust, each with the name of its maker.
+type Answers<A> = Vec<(&'static str, A)>;
+
+/// Err, where some answer of the Rust is another than the one due by the prose, with both.
+pub fn agree<T: PartialEq + Debug, A: Borrow<[T]>>(
+    due: &[T],
+    answers: impl FnOnce() -> Answers<A>,
+) -> Result<(), [String; 2]> {
+    let wrong = catch_unwind(AssertUnwindSafe(|| {
+        let mut answers = answers().into_iter();
+        answers
+            .find(|(_, answer)| answer.borrow() != due)
+            .map(|(name, answer)| format!("{:?} by {name}", answer.borrow()))
+    }));
+    match wrong.unwrap_or_else(|_| Some("a panic of the Rust".to_string())) {
+        None => Ok(()),
+        Some(got) => Err([format!("{due:?} by the prose"), got]),
+    }
+}
 
 #[cfg(feature = "rust")]
 mod here {
+    use super::Answers;
+    use crate::choices::Choices;
+    use crate::drawing::Point;
     use i_overlay::{Drawing, Scan};
 
     /// A drawing given to the Rust, once for each of the sweep's collections.
@@ -27,15 +54,24 @@ mod here {
             Self { drawings: drawings.map(|(name, scan)| (name, Drawing::new(numbers, scan))) }
         }
 
-        /// Each answer with the name of its maker.
-        pub fn fills(&mut self, rule: i32) -> Vec<(&'static str, &[u8])> {
+        pub fn fills(&mut self, rule: i32) -> Answers<&[u8]> {
             self.drawings.iter_mut().map(|(name, drawing)| (*name, drawing.fills(rule))).collect()
+        }
+
+        pub fn clip(&mut self, choices: Choices) -> Answers<Vec<Vec<Point>>> {
+            let Choices { rule, invert, boundary } = choices;
+            let paths = |drawing: &mut Drawing| drawing.clip(rule, invert == 1, boundary == 1);
+            self.drawings.iter_mut().map(|(name, drawing)| (*name, paths(drawing))).collect()
         }
     }
 }
 
 #[cfg(not(feature = "rust"))]
 mod missing {
+    use super::Answers;
+    use crate::choices::Choices;
+    use crate::drawing::Point;
+
     /// Answers nothing.
     pub struct Theirs;
 
@@ -44,7 +80,11 @@ mod missing {
             Self
         }
 
-        pub fn fills(&mut self, _: i32) -> Vec<(&'static str, &[u8])> {
+        pub fn fills(&mut self, _: i32) -> Answers<&[u8]> {
+            Vec::new()
+        }
+
+        pub fn clip(&mut self, _: Choices) -> Answers<Vec<Vec<Point>>> {
             Vec::new()
         }
     }

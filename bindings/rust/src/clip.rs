@@ -1,0 +1,75 @@
+use crate::{raw, room, Refusal, Rule};
+
+/// Which lines are kept: those inside, or with `invert` those outside. A line with dough on one side only
+/// runs along the boundary; it is inside where `boundary_included`, and outside otherwise.
+#[derive(Debug, Clone, Copy, PartialEq, Eq, Hash)]
+pub struct ClipRule {
+    pub invert: bool,
+    pub boundary_included: bool,
+}
+
+/// x and y.
+pub type Point = (i32, i32);
+
+/// The counts of a clip. A step is two neighbouring points of one path.
+#[derive(Debug, Clone, Copy, PartialEq, Eq, Hash)]
+pub struct Totals {
+    pub paths: usize,
+    pub points: usize,
+    pub steps: usize,
+    /// The sum of |dx| + |dy| over the steps.
+    pub travel: u64,
+}
+
+/// The lines kept.
+#[derive(Debug, Clone, PartialEq, Eq, Hash)]
+pub struct Clip {
+    pub paths: Vec<Vec<Point>>,
+    pub totals: Totals,
+}
+
+/// The lines kept, joined into paths. Each line drawn is one step, the way it was drawn.
+pub fn clip(segments: &[i32], rule: Rule, clip_rule: ClipRule) -> Result<Clip, Refusal> {
+    let n = room(segments);
+    let mut points = vec![0; 8 * n];
+    let mut lengths = vec![0; 2 * n];
+    let totals = clip_into(segments, rule, clip_rule, &mut points, &mut lengths)?;
+    let mut rest = points.chunks_exact(2).map(|pair| (pair[0], pair[1]));
+    let path = |&length: &u32| rest.by_ref().take(length as usize).collect();
+    let paths = lengths[..totals.paths].iter().map(path).collect();
+    Ok(Clip { paths, totals })
+}
+
+/// As [`clip`], into lent lists: x and y of each point, path by path, and how many points each path has.
+/// The lists need 8 numbers and 2 lengths for each segment. Entries past the answer keep their values, and
+/// after a refusal all do.
+///
+/// ```
+/// use jumperclay::{clip_into, ClipRule, Rule};
+///
+/// // One line and no dough, drawn from b to a.
+/// let (mut points, mut lengths) = ([99; 8], [99; 2]);
+/// let outside = ClipRule { invert: true, boundary_included: true };
+/// let totals = clip_into(&[0, 0, 1, 0, 0, 2], Rule::NonZero, outside, &mut points, &mut lengths)?;
+/// assert_eq!((totals.paths, totals.points, totals.steps, totals.travel), (1, 2, 1, 1));
+/// assert_eq!(points, [1, 0, 0, 0, 99, 99, 99, 99]);
+/// assert_eq!(lengths, [2, 99]);
+/// # Ok::<(), jumperclay::Refusal>(())
+/// ```
+pub fn clip_into(
+    segments: &[i32],
+    rule: Rule,
+    clip_rule: ClipRule,
+    points: &mut [i32],
+    lengths: &mut [u32],
+) -> Result<Totals, Refusal> {
+    let ClipRule { invert, boundary_included } = clip_rule;
+    let clipped = raw::clip(segments, rule as i32, invert.into(), boundary_included.into(), points, lengths);
+    Refusal::check(clipped.number, clipped.place)?;
+    Ok(Totals {
+        paths: clipped.paths as usize,
+        points: clipped.points as usize,
+        steps: clipped.steps as usize,
+        travel: clipped.travel,
+    })
+}

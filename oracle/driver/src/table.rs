@@ -1,0 +1,45 @@
+//! Counts in rows and columns.
+
+use std::collections::BTreeMap;
+use std::fmt::Display;
+
+pub struct Table<K, const N: usize> {
+    rows: BTreeMap<K, [usize; N]>,
+}
+
+impl<K, const N: usize> Default for Table<K, N> {
+    fn default() -> Self {
+        Self { rows: BTreeMap::new() }
+    }
+}
+
+impl<K: Ord + Display, const N: usize> Table<K, N> {
+    pub fn add(&mut self, key: K, column: usize) {
+        self.rows.entry(key).or_insert([0; N])[column] += 1;
+    }
+
+    pub fn merge(&mut self, other: Self) {
+        for (key, counts) in other.rows {
+            let sums = self.rows.entry(key).or_insert([0; N]);
+            sums.iter_mut().zip(counts).for_each(|(sum, count)| *sum += count);
+        }
+    }
+
+    pub fn sum(&self, column: usize) -> usize {
+        self.rows.values().map(|counts| counts[column]).sum()
+    }
+
+    /// Whether the row is there, with no column empty.
+    pub fn is_full(&self, key: &K) -> bool {
+        self.rows.get(key).is_some_and(|counts| !counts.contains(&0))
+    }
+
+    pub fn print(&self, heading: &str, columns: [&str; N]) {
+        let cells = |cells: [String; N]| cells.map(|cell| format!("{cell:>14}")).concat();
+        println!("{heading:<42}{}", cells(columns.map(str::to_string)));
+        for (key, counts) in &self.rows {
+            println!("{:<42}{}", key.to_string(), cells(counts.map(|count| count.to_string())));
+        }
+        println!();
+    }
+}
