@@ -1,9 +1,18 @@
 // Runs the stored drawings and prints what came of each; the unchanged Rust's answers stand in the file stdout, to which this is held.
-// A line of standard input is one drawing: `f`, for fills, then the rule and six numbers a segment, with commas between and LF at the end.
-// A line of the output is number, place and count, then the fills.
+// A line of standard input is one drawing, with commas between and LF at the end: `f`, for fills, and the rule, or `c`, for clip, and the rule, invert
+// and boundary; then six numbers a segment.
+// A line of the output is number and place, then what was counted: for fills how many, then the fills; for clip the paths, points, steps and travel, then
+// the length of each path and x and y of each point. A line of another letter, or with choices missing, is answered with an empty one.
 use build::Filled;
 use libc::STDIN_FILENO;
 use libc::STDOUT_FILENO;
+use string_clip::Clipped;
+use string_clip::Totals;
+
+// The letters that begin a line, f and c.
+const FILLS: i32 = 102;
+
+const CLIP: i32 = 99;
 
 // What was read of a line: how many fields are finished, and the one that is not.
 struct Reading {
@@ -30,6 +39,15 @@ fn with_digit(r: Reading, digit: u8) -> Reading {
     }
 }
 
+// A letter is the value of its field.
+fn with_letter(r: Reading, letter: u8) -> Reading {
+    Reading {
+        fields: r.fields,
+        value: letter as u64,
+        negative: r.negative,
+    }
+}
+
 // A field finished: its number goes into the list, if that has room.
 fn finish(r: Reading, numbers: &mut [i32]) -> Reading {
     let at = r.fields;
@@ -49,11 +67,35 @@ fn print_after_comma(n: u64) {
     io::print_decimal(STDOUT_FILENO, n);
 }
 
-// Number, place and count of an answer.
-fn print_answer(number: u64, place: u64, count: u64) {
-    io::print_decimal(STDOUT_FILENO, number);
-    print_after_comma(place);
-    print_after_comma(count);
+fn print_signed_after_comma(z: i32) {
+    io::write_all(STDOUT_FILENO, b",");
+    if z < 0 {
+        io::write_all(STDOUT_FILENO, b"-");
+    }
+    io::print_decimal(STDOUT_FILENO, geom::distance(z, 0));
+}
+
+// Number and place of an answer: 0 and 0, or a refusal's.
+fn print_outcome(number: u32, place: usize) {
+    io::print_decimal(STDOUT_FILENO, number as u64);
+    print_after_comma(place as u64);
+}
+
+fn print_totals(t: Totals) {
+    print_after_comma(t.paths as u64);
+    print_after_comma(t.points as u64);
+    print_after_comma(t.steps as u64);
+    print_after_comma(t.travel);
+}
+
+// The totals of a refused run.
+fn no_totals() -> Totals {
+    Totals {
+        paths: 0,
+        points: 0,
+        steps: 0,
+        travel: 0,
+    }
 }
 
 fn print_fill(fill: u8) {
@@ -72,23 +114,99 @@ fn print_fills(fills: &[u8], n: usize) {
     }
 }
 
+fn print_length(length: u32) {
+    print_after_comma(length as u64);
+}
+
+// The first n lengths.
+fn print_lengths(lengths: &[u32], n: usize) {
+    let mut k: usize = 0;
+    while k < lengths.len() {
+        if n <= k {
+            return;
+        }
+        print_length(lengths[k]);
+        k += 1;
+    }
+}
+
+// The first n points, two numbers each.
+fn print_points(points: &[i32], n: usize) {
+    let mut k: usize = 0;
+    while k < points.len() {
+        if n <= k / 2 {
+            return;
+        }
+        print_signed_after_comma(points[k]);
+        k += 1;
+    }
+}
+
+// What an accepted clip run found.
+fn print_paths(t: Totals, points: &[i32], lengths: &[u32]) {
+    print_totals(t);
+    print_lengths(lengths, t.paths);
+    print_points(points, t.points);
+}
+
+// Runs a line of fills and prints its answer.
+fn run_fills(line: &[i32]) {
+    if line.len() < 2 {
+        return;
+    }
+    let mut fills = [0u8; 1024];
+    match build::fills(&line[2..line.len()], line[1], &mut fills) {
+        Filled::Done(count) => {
+            print_outcome(0, 0);
+            print_after_comma(count as u64);
+            print_fills(&fills, count);
+        }
+        Filled::Refused(number, place) => {
+            print_outcome(number, place);
+            print_after_comma(0);
+        }
+    }
+}
+
+// Runs a line of clip and prints its answer.
+fn run_clip(line: &[i32]) {
+    if line.len() < 4 {
+        return;
+    }
+    let mut points = [0i32; 8192];
+    let mut lengths = [0u32; 2048];
+    match string_clip::clip(
+        &line[4..line.len()],
+        line[1],
+        line[2],
+        line[3],
+        &mut points,
+        &mut lengths,
+    ) {
+        Clipped::Done(t) => {
+            print_outcome(0, 0);
+            print_paths(t, &points, &lengths);
+        }
+        Clipped::Refused(number, place) => {
+            print_outcome(number, place);
+            print_totals(no_totals());
+        }
+    }
+}
+
 // Runs the drawing of a line of n fields and prints its answer.
-fn run(line: &[i32], n: usize, fills: &mut [u8]) {
-    if n < 2 {
+fn run(line: &[i32], n: usize) {
+    if n < 1 {
         return;
     }
     if line.len() < n {
         return;
     }
-    let rule = line[1];
-    match build::fills(&line[2..n], rule, fills) {
-        Filled::Done(count) => {
-            print_answer(0, 0, count as u64);
-            print_fills(fills, count);
-        }
-        Filled::Refused(number, place) => {
-            print_answer(number as u64, place as u64, 0);
-        }
+    if line[0] == FILLS {
+        run_fills(&line[0..n]);
+    }
+    if line[0] == CLIP {
+        run_clip(&line[0..n]);
     }
     io::write_all(STDOUT_FILENO, b"\n");
 }
@@ -103,16 +221,16 @@ fn fresh() -> Reading {
 }
 
 // The end of a line: its last field is finished, and it is run.
-fn end_line(r: Reading, numbers: &mut [i32], fills: &mut [u8]) -> Reading {
+fn end_line(r: Reading, numbers: &mut [i32]) -> Reading {
     let done = finish(r, numbers);
-    run(numbers, done.fields, fills);
+    run(numbers, done.fields);
     fresh()
 }
 
-// One byte more. A letter counts as 0.
-fn take(r: Reading, byte: u8, numbers: &mut [i32], fills: &mut [u8]) -> Reading {
+// One byte more.
+fn take(r: Reading, byte: u8, numbers: &mut [i32]) -> Reading {
     if byte == 10 {
-        return end_line(r, numbers, fills);
+        return end_line(r, numbers);
     }
     if byte == 44 {
         return finish(r, numbers);
@@ -128,17 +246,17 @@ fn take(r: Reading, byte: u8, numbers: &mut [i32], fills: &mut [u8]) -> Reading 
         return r;
     }
     if 57 < byte {
-        return r;
+        return with_letter(r, byte);
     }
     with_digit(r, byte - 48)
 }
 
 // Runs every line of a text.
-fn replay(text: &[u8], numbers: &mut [i32], fills: &mut [u8]) {
+fn replay(text: &[u8], numbers: &mut [i32]) {
     let mut r = fresh();
     let mut at: usize = 0;
     while at < text.len() {
-        r = take(r, text[at], numbers, fills);
+        r = take(r, text[at], numbers);
         at += 1;
     }
 }
@@ -147,6 +265,5 @@ fn main() {
     let mut text = [0u8; 262144];
     let n = io::read_full(STDIN_FILENO, &mut text);
     let mut numbers = [0i32; 8192];
-    let mut fills = [0u8; 1024];
-    replay(&text[..n], &mut numbers, &mut fills);
+    replay(&text[..n], &mut numbers);
 }

@@ -7,10 +7,10 @@ use Rattle.replay.proofs.replay.Statement.{statement}
 use Rattle.replay.proofs.replay.Tie as tie
 
 abbrev Inv-loop : tie.InvT-loop
-Inv-loop text numbers₀ fills₀ r₀ at₀ numbers fills r at = (length numbers ≡ length numbers₀) × (length fills ≡ length fills₀)
+Inv-loop text numbers₀ r₀ at₀ numbers r at = length numbers ≡ length numbers₀
 
 abbrev μ-loop : tie.MeasureT-loop
-μ-loop text numbers₀ fills₀ r₀ at₀ numbers fills r at = length text - at
+μ-loop text numbers₀ r₀ at₀ numbers r at = length text - at
 
 fresh-requires : tie.Need-fresh-requires Inv-loop μ-loop
 fresh-requires c κs = search needs
@@ -36,9 +36,6 @@ loop-again c = search needs
 same-length : tie.Need-same-length Inv-loop μ-loop
 same-length c = search needs
 
-same-length-2 : tie.Need-same-length-2 Inv-loop μ-loop
-same-length-2 c = search needs
-
 returns : tie.Need-returns Inv-loop μ-loop
 returns c = search needs
 
@@ -56,5 +53,4 @@ replay-spec =
     loop-less
     loop-again
     same-length
-    same-length-2
     returns)
