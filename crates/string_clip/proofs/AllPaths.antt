@@ -14,15 +14,15 @@ use Rattle.geom.specs.declared.Point.{Point}
 use Rattle.segm.specs.Lists.{written}
 use Rattle.segm.specs.Segments.{Drawing}
 use Rattle.segm.proofs.Lists.{written-more, written-part}
-use Rattle.string_clip.specs.Walk.{has, lineBits, Move, move, isLeft, taken, takenAll, bitsLeft, begins, over, goesOn, andThen, follow, pathFrom, walkFrom, walk}
+use Rattle.clip_walk.specs.Walk.{has, lineBits, Move, move, isLeft, taken, takenAll, bitsLeft, begins, over, goesOn, andThen, follow, pathFrom, walkFrom, walk}
 use Rattle.string_clip.specs.Paths.{pathPoints}
 use Rattle.string_clip.specs.Run.{coordinates}
-use Rattle.string_clip.specs.Flat.{pathAt, linksPaths}
-use Rattle.string_clip.proofs.Unroll.{goesOn-left, path-fewer, walk-on}
+use Rattle.string_clip.specs.Writing.{pathAt, linksPaths}
+use Rattle.clip_walk.proofs.Unroll.{goesOn-left, path-fewer, walk-on}
 use Rattle.string_clip.proofs.ReadBack.{length-coordinates}
 use Rattle.string_clip.proofs.Points.{coordinates-++}
-use Rattle.string_clip.proofs.Flat.{length-taken}
-use Rattle.string_clip.proofs.Begins.{none-set, first-set, begins-at, begins-nowhere}
+use Rattle.clip_walk.proofs.Flat.{length-taken}
+use Rattle.clip_walk.proofs.Begins.{none-set, first-set, begins-at, begins-nowhere}
 
 flatten-++ : {A : Type 0} (l m : List (List A)) → flatten (l ++ m) ≡ flatten l ++ flatten m
 unfolding flatten

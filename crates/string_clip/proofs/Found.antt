@@ -18,9 +18,9 @@ use Rattle.build.specs.declared.ray.Rule.{Rule}
 use Rattle.build.specs.declared.links.Filter.{Filter}
 use Rattle.build.specs.Fills.{fill}
 use Rattle.build.specs.Links.{keeps, keptLinks}
-use Rattle.string_clip.specs.Walk.{has, lineBits, Step, asDrawn, one, walk}
+use Rattle.clip_walk.specs.Walk.{has, lineBits, Step, asDrawn, one, walk}
 use Rattle.string_clip.specs.Paths.{linesOf, pathPoints, clipPaths, stepsFrom, stepsOfPath, stepsOf, travelOf}
-use Rattle.string_clip.proofs.Moves.{Proper, value, worth, ones}
+use Rattle.clip_walk.proofs.Moves.{Proper, value, worth, ones}
 use Rattle.string_clip.proofs.Steps.{Long, walk-long, walk-steps}
 use Rattle.string_clip.proofs.Own.{kept-proper}
 

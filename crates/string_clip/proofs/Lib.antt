@@ -1,15 +1,10 @@
-pub mod Moves
-pub mod Unroll
 pub mod Steps
 pub mod ReadBack
 pub mod Own
 pub mod Found
 pub mod Together
 pub mod Cases
-pub mod Flat
 pub mod Points
-pub mod FlatIsWalk
 pub mod Links
-pub mod Begins
 pub mod OnePath
 pub mod AllPaths

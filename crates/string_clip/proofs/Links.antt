@@ -18,7 +18,7 @@ use Rattle.build.specs.declared.ray.Rule.{Rule}
 use Rattle.build.specs.declared.links.Filter.{Filter}
 use Rattle.build.specs.Links.{keptLinks}
 use Rattle.build.proofs.Kept.{length-kept, kept-in, pairs-kept}
-use Rattle.string_clip.specs.Walk.{has, asDrawn, one}
+use Rattle.clip_walk.specs.Walk.{has, asDrawn, one}
 use Rattle.string_clip.specs.Paths.{travelOf, linesOf, Kept}
 
 pub kept : (d : Drawing) → Good d → (rule : Rule) (filter : Filter) → Kept (keptLinks rule filter d)

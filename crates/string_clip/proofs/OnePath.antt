@@ -1,6 +1,7 @@
 -- One path: its moves over flat lists, its points and the bits that it leaves.
 use mathlib.Core.Path.{_≡_, refl, sym, _∙_, ap, ap₂, subst}
-use mathlib.Core.List.{List, _∷_, map}
+use mathlib.Core.List.{List, [], _∷_, map, map-map}
+use mathlib.Core.Logic.{inl, inr}
 use mathlib.Core.Bool.{Bool, true}
 use Prim.Native.Nat.{ℕ, _%_, _*_, _<_, _≤_}
 use native.Mathlib.Omega.{arith}
@@ -8,18 +9,43 @@ use lib.ListN.{length, getD, take, drop}
 use lib.Seq.{take-at}
 use Rattle.segm.specs.Lists.{_∈_, written}
 use Rattle.segm.specs.Segments.{Drawing}
-use Rattle.string_clip.specs.Walk.{has, Move, move, isLeft, taken, takenAll, bitsLeft, pathFrom}
-use Rattle.string_clip.specs.Paths.{pathPoints}
-use Rattle.string_clip.specs.Flat.{moveOf, Graph, graph, followEnds, Sound, endsPoints, pathAt, Walking}
-use Rattle.string_clip.proofs.Unroll.{left-taken}
-use Rattle.string_clip.proofs.Flat.{length-taken, bits-few, follow-below}
-use Rattle.string_clip.proofs.FlatIsWalk.{first-move, nodes-sound, path-is, points-are}
-use Rattle.string_clip.proofs.Begins.{first-set}
+use Rattle.segm.proofs.Tallies.{cases}
+use Rattle.ends.specs.Ends.{endPoint}
+use Rattle.graph.specs.Nodes.{otherEnd}
+use Rattle.clip_walk.specs.Walk.{has, Move, move, isLeft, taken, takenAll, bitsLeft, over, pathFrom}
+use Rattle.string_clip.specs.Paths.{finished, through, pathPoints}
+use Rattle.clip_walk.specs.Flat.{moveOf, Graph, graph, followEnds, Sound}
+use Rattle.string_clip.specs.Writing.{throughEnds, endsPoints, pathAt, Walking}
+use Rattle.clip_walk.proofs.Unroll.{left-taken}
+use Rattle.clip_walk.proofs.Flat.{length-taken, bits-few, follow-below}
+use Rattle.clip_walk.proofs.FlatIsWalk.{first-move, move-start, move-end, nodes-sound, path-is}
+use Rattle.clip_walk.proofs.Begins.{first-set}
 
 -- what was written is taken
 pub take-written : {A : Type 0} (answer old : List A) (n : ℕ) → n ≡ length answer → take n (written answer old) ≡ answer
 unfolding written
 take-written answer old n e = take-at answer (drop (length answer) old) n (sym e)
+
+map-on : {A : Type 0} (f g : ℕ → A) (l : List ℕ) → ((k : ℕ) → k ∈ l → f k ≡ g k) → map f l ≡ map g l
+map-on f g [] h = refl
+map-on f g (k ∷ l) h = ap₂ _∷_ (h k (inl refl)) (map-on f g l (λ j i. h j (inr i)))
+
+-- the points that the moves come through
+module _ (links : Drawing) (out : Bool) where
+  through-is : (e : ℕ) (es : List ℕ) → ((f : ℕ) → f ∈ (e ∷ es) → f < 2 * length links) → throughEnds links (e ∷ es) ≡ through links out (map (moveOf (length links) out) (e ∷ es))
+  unfolding throughEnds through
+  through-is e es h =
+      ap₂ _∷_ (sym (move-start links out e)) (
+      map-on (λ f. endPoint links (otherEnd (length links) f)) (λ f. over links out (moveOf (length links) out f) .end) (e ∷ es) (λ f i. sym (move-end links out f (h f i)))
+      ∙ sym (map-map (λ n. over links out n .end) (moveOf (length links) out) (e ∷ es))
+      )
+
+  points-are : (k : ℕ) (es : List ℕ) → k < length links → ((f : ℕ) → f ∈ es → f < 2 * length links) → endsPoints links out (k ∷ es) ≡ pathPoints links (map (moveOf (length links) out) (k ∷ es))
+  unfolding endsPoints pathPoints
+  points-are k es h b =
+      let moves = map (moveOf (length links) out) (k ∷ es) in
+      let forth : moveOf (length links) out k .forth ≡ out = ap (λ (m : Move). m .forth) (first-move (length links) out k h) in
+      ap (finished out) (through-is k es (λ f. cases (λ q. omega arith) (b f))) ∙ ap (λ (o : Bool). finished o (through links o moves)) (sym forth)
 
 module _ (links : Drawing) (flat starts nodes bits : List ℕ) (w : Walking links flat starts nodes bits) (k : ℕ) (inside : k < length bits) where
   abbrev g : Graph

@@ -22,10 +22,10 @@ use Rattle.build.specs.declared.links.Filter.the-variants.{InsideIncluded, Insi
 use Rattle.build.specs.Fills.{bottom, top, filled, fill}
 use Rattle.build.specs.Links.{sidesSet, keepsSides, keeps, filterOf, keptLinks}
 use Rattle.build.proofs.Parts.{fill-top, fill-bottom, fill-lines}
-use Rattle.string_clip.specs.Walk.{has, lineBits, Step, asDrawn, one}
+use Rattle.clip_walk.specs.Walk.{has, lineBits, Step, asDrawn, one}
 use Rattle.string_clip.specs.Paths.{clipPaths, stepsOf}
 use Rattle.string_clip.specs.Claim.{Direction, along, putIf, drawn, travelled, same, enough, rayKeeps}
-use Rattle.string_clip.proofs.Moves.{Proper, has-zero, worth, not-both}
+use Rattle.clip_walk.proofs.Moves.{Proper, has-zero, worth, not-both}
 use Rattle.string_clip.proofs.Steps.{walk-steps}
 
 -- ---- the test `same`

@@ -16,7 +16,7 @@ use Rattle.ends.specs.Ends.{endPoint}
 use Rattle.graph.specs.Nodes.{otherEnd}
 use Rattle.string_clip.specs.Paths.{finished}
 use Rattle.string_clip.specs.Run.{coordinates}
-use Rattle.string_clip.specs.Flat.{origin, throughEnds, endsPoints}
+use Rattle.string_clip.specs.Writing.{origin, throughEnds, endsPoints}
 use Rattle.string_clip.proofs.ReadBack.{length-coordinates}
 
 -- ---- lists

@@ -12,10 +12,10 @@ use Rattle.geom.specs.declared.Point.{Point}
 use Rattle.segm.specs.Lists.{_∈_, tally}
 use Rattle.segm.specs.Segments.{Drawing}
 use Rattle.segm.proofs.Tallies.{tally-++}
-use Rattle.string_clip.specs.Walk.{has, lineBits, Step, step, asDrawn, Move, takenAll, one, bitsLeft, begins, way, over, andThen, pathFrom, walkFrom, walk}
+use Rattle.clip_walk.specs.Walk.{has, lineBits, Step, step, asDrawn, Move, takenAll, one, bitsLeft, begins, way, over, andThen, pathFrom, walkFrom, walk}
 use Rattle.string_clip.specs.Paths.{through, finished, pathPoints, stepsFrom, stepsOfPath, stepsOf}
-use Rattle.string_clip.proofs.Moves.{Proper, worth, ones, begins-some, begins-none, Chain, drawnBy, path-does}
-use Rattle.string_clip.proofs.Unroll.{turn}
+use Rattle.clip_walk.proofs.Moves.{Proper, worth, ones, begins-some, begins-none, Chain, drawnBy, path-does}
+use Rattle.clip_walk.proofs.Unroll.{turn}
 
 -- ---- one path
 chain-steps : (f : Step → ℕ) (links : Drawing) (out : Bool) (p : Point) (ms : List Move) → Chain links out p ms

@@ -24,7 +24,7 @@ use Rattle.build.specs.declared.ray.Rule.{Rule}
 use Rattle.build.specs.declared.links.Filter.{Filter}
 use Rattle.build.specs.Fills.{ruleOf, fill}
 use Rattle.build.specs.Links.{keeps, filterOf}
-use Rattle.string_clip.specs.Walk.{Step, one}
+use Rattle.clip_walk.specs.Walk.{Step, one}
 use Rattle.string_clip.specs.Paths.{clipPaths, stepsOf, travelOf}
 use Rattle.string_clip.specs.Run.{totals, coordinates, Outcome, answered, clipOutcome, output}
 use Rattle.string_clip.specs.Claim.{Direction, drawn, travelled, ownSteps, ownTravel, same, count as times, OneOf, rayKeeps, InsideAndOutside, Room, Tells, Together}

@@ -13,7 +13,7 @@ use Rattle.segm.specs.Segments.{Drawing, segments}
 use Rattle.checks.specs.Accepted.{accepts}
 use Rattle.build.specs.declared.ray.Rule.{Rule}
 use Rattle.build.specs.Fills.{bottom, top, filled, ruleOf}
-use Rattle.string_clip.specs.Walk.{has, Step, asDrawn, one}
+use Rattle.clip_walk.specs.Walk.{has, Step, asDrawn, one}
 use Rattle.string_clip.specs.Paths.{stepsOf, travelOf}
 use Rattle.string_clip.specs.Run.{Outcome, clipOutcome, told, output}
 

@@ -1,5 +1,4 @@
-pub mod Walk
 pub mod Paths
 pub mod Run
 pub mod Claim
-pub mod Flat
+pub mod Writing

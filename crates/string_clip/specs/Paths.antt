@@ -16,7 +16,7 @@ use Rattle.checks.specs.Drawing.{endsInRange}
 use Rattle.build.specs.declared.ray.Rule.{Rule}
 use Rattle.build.specs.declared.links.Filter.{Filter}
 use Rattle.build.specs.Links.{keptLinks}
-use Rattle.string_clip.specs.Walk.{has, one, Step, step, Move, over, walk}
+use Rattle.clip_walk.specs.Walk.{has, one, Step, step, Move, over, walk}
 
 -- the points that moves come through, the first included
 unfoldable pub through : Drawing → Bool → List Move → List Point

@@ -3,7 +3,6 @@
 mod paths;
 mod run;
 mod sums;
-mod walk;
 
 use build::Filter;
 use build::Rule;

@@ -6,7 +6,7 @@ ghost use lib.ListN.{length, getD, set};
 ghost use Rattle.segm.specs.Lists.{written};
 ghost use Rattle.segm.specs.Segments.{segments};
 ghost use Rattle.string_clip.specs.Run.{coordinates};
-ghost use Rattle.string_clip.specs.Flat.{throughEnds, endsPoints, origin};
+ghost use Rattle.string_clip.specs.Writing.{throughEnds, endsPoints, origin};
 
 // Point i that the walk comes through whose moves leave these ends.
 fn point_through(links: &[i32], moves: &[u32], i: usize) -> Point

@@ -3,19 +3,16 @@ use super::Totals;
 use super::paths::write_path;
 use super::sums::line_bits;
 use super::sums::travel;
-use super::walk::follow;
-use super::walk::has;
-use super::walk::take;
 ghost use mathlib.Core.Path.{_≡_};
 ghost use mathlib.Core.List.{map, flatten};
 ghost use Prim.Native.Nat.{_*_, _%_, _≤_, _<_};
 ghost use lib.ListN.{length, getD};
 ghost use Rattle.segm.specs.Lists.{written};
 ghost use Rattle.segm.specs.Segments.{segments};
-ghost use Rattle.string_clip.specs.Walk.{lineBits, takenAll};
+ghost use Rattle.clip_walk.specs.Walk.{lineBits, takenAll};
 ghost use Rattle.string_clip.specs.Paths.{pathPoints, Kept};
 ghost use Rattle.string_clip.specs.Run.{totals, coordinates};
-ghost use Rattle.string_clip.specs.Flat.{pathAt, Walking, linksPaths, writtenOf};
+ghost use Rattle.string_clip.specs.Writing.{pathAt, Walking, linksPaths, writtenOf};
 
 // How many paths and points were written.
 pub struct Written {
@@ -43,9 +40,9 @@ fn next_path(
         × (now (points .exit) ≡ written (coordinates (pathPoints (segments (now (links .entry))) (pathAt (segments (now (links .entry))) (now (bits .entry)) k))) (now (points .entry)))
         × (now (bits .exit) ≡ takenAll (now (bits .entry)) (pathAt (segments (now (links .entry))) (now (bits .entry)) k)) ⌝ }
 {
-    let out = has(bits[k], true);
-    take(nodes, bits, k, out);
-    let n = follow(flat, starts, nodes, bits, k, out, moves);
+    let out = clip_walk::has(bits[k], true);
+    clip_walk::take(nodes, bits, k, out);
+    let n = clip_walk::follow(flat, starts, nodes, bits, k, out, moves);
     write_path(links, &moves[..n], out, points);
     n + 1
 }

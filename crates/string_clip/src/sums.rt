@@ -9,7 +9,7 @@ ghost use lib.Signed.{_≤ℤ_};
 ghost use Rattle.segm.specs.Lists.{tally};
 ghost use Rattle.segm.specs.Segments.{segments};
 ghost use Rattle.checks.specs.Drawing.{endsInRange};
-ghost use Rattle.string_clip.specs.Walk.{has, lineBits, asDrawn, one};
+ghost use Rattle.clip_walk.specs.Walk.{has, lineBits, asDrawn, one};
 ghost use Rattle.string_clip.specs.Paths.{travelOf, linesOf, Kept};
 
 // Line bits in a byte.

@@ -15,7 +15,7 @@ use Rattle.build.specs.Links.{keptLinks}
 use Rattle.build.proofs.Kept.{length-kept}
 use Rattle.string_clip.specs.Paths.{clipPaths, Kept}
 use Rattle.string_clip.specs.Run.{totals, coordinates}
-use Rattle.string_clip.specs.Flat.{linksPaths}
+use Rattle.string_clip.specs.Writing.{linksPaths}
 use Rattle.string_clip.proofs.Links.{kept}
 use Rattle.string_clip.proofs.clip_with.Statement.{statement}
 use Rattle.string_clip.proofs.clip_with.Tie as tie

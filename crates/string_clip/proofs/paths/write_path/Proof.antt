@@ -11,7 +11,7 @@ use Rattle.geom.specs.declared.Point.{Point}
 use Rattle.segm.specs.Lists.{written}
 use Rattle.segm.specs.Segments.{segments}
 use Rattle.string_clip.specs.Run.{coordinates}
-use Rattle.string_clip.specs.Flat.{endsPoints}
+use Rattle.string_clip.specs.Writing.{endsPoints}
 use Rattle.string_clip.proofs.Points.{length-points, written-point}
 use Rattle.string_clip.proofs.paths.write_path.Statement.{statement}
 use Rattle.string_clip.proofs.paths.write_path.Tie as tie

@@ -11,7 +11,7 @@ use Rattle.segm.specs.Segments.{Drawing, segments}
 use Rattle.string_clip.specs.declared.run.Written.{Written}
 use Rattle.string_clip.specs.Paths.{stepsOf, travelOf}
 use Rattle.string_clip.specs.Run.{totals}
-use Rattle.string_clip.specs.Flat.{linksPaths}
+use Rattle.string_clip.specs.Writing.{linksPaths}
 use Rattle.string_clip.proofs.Found.{Found, walk-found}
 use Rattle.string_clip.proofs.run.clip_links.Statement.{statement}
 use Rattle.string_clip.proofs.run.clip_links.Tie as tie

@@ -10,12 +10,13 @@ use lib.IntN.{ℤ}
 use Rattle.geom.specs.declared.Point.{Point}
 use Rattle.segm.specs.Lists.{written}
 use Rattle.segm.specs.Segments.{Drawing, segments}
-use Rattle.string_clip.specs.Walk.{has, taken, bitsLeft}
+use Rattle.clip_walk.specs.Walk.{has, taken, bitsLeft}
 use Rattle.string_clip.specs.Paths.{pathPoints}
 use Rattle.string_clip.specs.Run.{coordinates}
-use Rattle.string_clip.specs.Flat.{moveOf, graph, followEnds, endsPoints, pathAt}
+use Rattle.clip_walk.specs.Flat.{moveOf, graph, followEnds}
+use Rattle.string_clip.specs.Writing.{endsPoints, pathAt}
 use Rattle.string_clip.proofs.Points.{length-points}
-use Rattle.string_clip.proofs.Flat.{follow-few}
+use Rattle.clip_walk.proofs.Flat.{follow-few}
 use Rattle.string_clip.proofs.OnePath.{take-written, can-begin, as-many-rest, sound-rest, fewer-rest, points-of, bits-of}
 use Rattle.string_clip.proofs.run.next_path.Statement.{statement}
 use Rattle.string_clip.proofs.run.next_path.Tie as tie

@@ -10,8 +10,8 @@ use Rattle.segm.specs.Segments.{Drawing, segments}
 use Rattle.segm.proofs.Segments.{length-segments}
 use Rattle.ends.proofs.Parts.{prefix-back, prefix-length}
 use Rattle.graph.specs.Nodes.{Nodes}
-use Rattle.string_clip.specs.Walk.{lineBits}
-use Rattle.string_clip.specs.Flat.{Walking}
+use Rattle.clip_walk.specs.Walk.{lineBits}
+use Rattle.string_clip.specs.Writing.{Walking}
 use Rattle.string_clip.proofs.run.walk_links.Statement.{statement}
 use Rattle.string_clip.proofs.run.walk_links.Tie as tie
 

@@ -9,10 +9,10 @@ use lib.IntN.{ℤ}
 use Rattle.geom.specs.declared.Point.{Point}
 use Rattle.segm.specs.Lists.{written}
 use Rattle.segm.specs.Segments.{Drawing, segments}
-use Rattle.string_clip.specs.Walk.{bitsLeft, takenAll}
+use Rattle.clip_walk.specs.Walk.{bitsLeft, takenAll}
 use Rattle.string_clip.specs.Paths.{pathPoints}
 use Rattle.string_clip.specs.Run.{coordinates}
-use Rattle.string_clip.specs.Flat.{pathAt, Walking, linksPaths, writtenOf}
+use Rattle.string_clip.specs.Writing.{pathAt, Walking, linksPaths, writtenOf}
 use Rattle.string_clip.proofs.Found.{walk-found, found-fit}
 use Rattle.string_clip.proofs.AllPaths.{Walked, none-yet, pass, fewer, points-fit, paths-fit, more, whole}
 use Rattle.string_clip.proofs.run.write_paths.Statement.{statement}

@@ -16,7 +16,7 @@ use Rattle.segm.specs.Lists.{written}
 use Rattle.segm.specs.Segments.{Drawing, segments, nowhere, segmentAt}
 use Rattle.segm.proofs.Lists.{written-map}
 use Rattle.segm.proofs.Segments.{count-inside, count-past, segment-in}
-use Rattle.string_clip.specs.Walk.{lineBits}
+use Rattle.clip_walk.specs.Walk.{lineBits}
 use Rattle.string_clip.proofs.sums.line_bits.Statement.{statement}
 use Rattle.string_clip.proofs.sums.line_bits.Tie as tie
 

@@ -11,7 +11,7 @@ use Rattle.segm.specs.Lists.{tally}
 use Rattle.segm.specs.Segments.{Drawing, segments, nowhere, segmentAt}
 use Rattle.segm.proofs.Tallies.{tally-take, tally-part, tally-bound}
 use Rattle.segm.proofs.Segments.{count-inside, count-past, segment-in}
-use Rattle.string_clip.specs.Walk.{asDrawn}
+use Rattle.clip_walk.specs.Walk.{asDrawn}
 use Rattle.string_clip.specs.Paths.{travelOf, linesOf}
 use Rattle.string_clip.proofs.Links.{link-bound}
 use Rattle.string_clip.proofs.sums.travel.Statement.{statement}

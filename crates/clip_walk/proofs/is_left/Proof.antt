@@ -3,12 +3,12 @@ use native.Mathlib.Omega.{arith}
 use mathlib.Core.Bool.{Bool·beq}
 use lib.Dec.{ltb}
 use lib.ListN.{length, getD}
-use Rattle.string_clip.specs.Walk.{has, isLeft}
-use Rattle.string_clip.specs.Flat.{moveOf}
+use Rattle.clip_walk.specs.Walk.{has, isLeft}
+use Rattle.clip_walk.specs.Flat.{moveOf}
 use Rattle.graph.proofs.Node.{link-of-end}
 use borrow.Author.Needs.{needs}
-use Rattle.string_clip.proofs.walk.is_left.Statement.{statement}
-use Rattle.string_clip.proofs.walk.is_left.Tie as tie
+use Rattle.clip_walk.proofs.is_left.Statement.{statement}
+use Rattle.clip_walk.proofs.is_left.Tie as tie
 
 link-of-requires : tie.Need-link-of-requires
 link-of-requires c κs = search needs

@@ -1,4 +1,4 @@
-// The clip walk over flat lists: a move is named by the end of a link that it leaves.
+// The clip walk over flat lists: a move is named by the end of a link that it leaves. Every function here is proved, and the crate assumes nothing of its own.
 ghost use mathlib.Core.Path.{_≡_};
 ghost use mathlib.Core.Bool.{true};
 ghost use mathlib.Core.List.{_∷_, map};
@@ -6,8 +6,8 @@ ghost use Prim.Native.Nat.{suc, _*_, _≤_, _<_};
 ghost use lib.ListN.{length};
 ghost use Rattle.segm.specs.Lists.{written};
 ghost use Rattle.graph.specs.Nodes.{part};
-ghost use Rattle.string_clip.specs.Walk.{has, clear, isLeft, taken, takenAll, bitsLeft};
-ghost use Rattle.string_clip.specs.Flat.{moveOf, linkAt, visited, farNode, firstEnd, graph, nextEnd, takenBy, followEnds, NodeAt, Sound};
+ghost use Rattle.clip_walk.specs.Walk.{has, clear, isLeft, taken, takenAll, bitsLeft};
+ghost use Rattle.clip_walk.specs.Flat.{moveOf, linkAt, visited, farNode, firstEnd, graph, nextEnd, takenBy, followEnds, NodeAt, Sound};
 
 // A link: the nodes of its ends, and its line bits that are left.
 pub struct Link {

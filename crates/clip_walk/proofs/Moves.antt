@@ -19,7 +19,7 @@ use Rattle.segm.specs.Segments.{Drawing, segmentAt}
 use Rattle.segm.proofs.Tallies.{cases, in-++, in-map, keep-in, in-upFrom, upFrom-in}
 use Rattle.segm.proofs.Segments.{segment-in}
 use Rattle.graph.specs.Nodes.{node}
-use Rattle.string_clip.specs.Walk.{has, clear, Step, asDrawn, Move, move, isLeft, taken, takenAll, bitsLeft, firstLeft, bothMoves, begins, way, over, other, fitting, goesOn, andThen, follow, pathFrom}
+use Rattle.clip_walk.specs.Walk.{has, clear, Step, asDrawn, Move, move, isLeft, taken, takenAll, bitsLeft, firstLeft, bothMoves, begins, way, over, other, fitting, goesOn, andThen, follow, pathFrom}
 
 -- each a less than b
 abbrev pub Proper : Drawing → Type 0

@@ -11,8 +11,8 @@ use Rattle.geom.specs.declared.Point.{Point}
 use Rattle.segm.specs.Lists.{tally}
 use Rattle.segm.specs.Segments.{Drawing, nowhere, segmentAt}
 use Rattle.graph.specs.Nodes.{node}
-use Rattle.string_clip.specs.Walk.{has, clear, Move, move, isLeft, taken, takenAll, bitsLeft, begins, over, fitting, goesOn, andThen, follow, pathFrom, walkFrom}
-use Rattle.string_clip.proofs.Moves.{has-zero, ones, spend-value, first-some, begins-some}
+use Rattle.clip_walk.specs.Walk.{has, clear, Move, move, isLeft, taken, takenAll, bitsLeft, begins, over, fitting, goesOn, andThen, follow, pathFrom, walkFrom}
+use Rattle.clip_walk.proofs.Moves.{has-zero, ones, spend-value, first-some, begins-some}
 
 left-set : (bits : List ℕ) (k : ℕ) (forth : Bool) → has forth (getD bits k 0) ≡ true → bitsLeft bits ≡ suc (bitsLeft (set bits k (clear forth (getD bits k 0))))
 unfolding bitsLeft tally

@@ -8,14 +8,14 @@ use Prim.Native.Nat.{ℕ, _*_, _<_}
 use lib.Dec.{ltb}
 use lib.ListN.{length, getD}
 use Rattle.graph.specs.Nodes.{otherEnd, part}
-use Rattle.string_clip.specs.declared.walk.Link.{Link}
-use Rattle.string_clip.specs.declared.walk.Next.the-variants.{Leave}
-use Rattle.string_clip.specs.Walk.{isLeft}
-use Rattle.string_clip.specs.Flat.{moveOf, linkAt, farNode, firstEnd, Graph, graph, nextEnd, takenBy, NodeAt}
+use Rattle.clip_walk.specs.declared.Link.{Link}
+use Rattle.clip_walk.specs.declared.Next.the-variants.{Leave}
+use Rattle.clip_walk.specs.Walk.{isLeft}
+use Rattle.clip_walk.specs.Flat.{moveOf, linkAt, farNode, firstEnd, Graph, graph, nextEnd, takenBy, NodeAt}
 use Rattle.graph.proofs.Node.{link-of-end, other-end-below}
-use Rattle.string_clip.proofs.Flat.{far-is, first-end}
-use Rattle.string_clip.proofs.walk.go_on.Statement.{statement}
-use Rattle.string_clip.proofs.walk.go_on.Tie as tie
+use Rattle.clip_walk.proofs.Flat.{far-is, first-end}
+use Rattle.clip_walk.proofs.go_on.Statement.{statement}
+use Rattle.clip_walk.proofs.go_on.Tie as tie
 
 link-of-requires : tie.Need-link-of-requires
 link-of-requires c κs = search needs

@@ -8,12 +8,12 @@ use Prim.Native.Nat.{ℕ, _<_}
 use lib.Dec.{ltb}
 use lib.ListN.{length, getD, set}
 use Rattle.graph.specs.Nodes.{linkOf}
-use Rattle.string_clip.specs.declared.walk.Link.{Link}
-use Rattle.string_clip.specs.Walk.{has, clear, isLeft, taken}
-use Rattle.string_clip.specs.Flat.{moveOf, linkAt, visited}
+use Rattle.clip_walk.specs.declared.Link.{Link}
+use Rattle.clip_walk.specs.Walk.{has, clear, isLeft, taken}
+use Rattle.clip_walk.specs.Flat.{moveOf, linkAt, visited}
 use Rattle.graph.proofs.Node.{link-of-end}
-use Rattle.string_clip.proofs.walk.take.Statement.{statement}
-use Rattle.string_clip.proofs.walk.take.Tie as tie
+use Rattle.clip_walk.proofs.take.Statement.{statement}
+use Rattle.clip_walk.proofs.take.Tie as tie
 
 link-of-requires : tie.Need-link-of-requires
 link-of-requires c κs = search needs

@@ -1,7 +1,7 @@
-use Rattle.string_clip.specs.Flat.{visited}
+use Rattle.clip_walk.specs.Flat.{visited}
 use borrow.Author.Needs.{needs}
-use Rattle.string_clip.proofs.walk.visit.Statement.{statement}
-use Rattle.string_clip.proofs.walk.visit.Tie as tie
+use Rattle.clip_walk.proofs.visit.Statement.{statement}
+use Rattle.clip_walk.proofs.visit.Tie as tie
 
 cleared-requires : tie.Need-cleared-requires
 cleared-requires c κs = search needs

@@ -1,6 +1,6 @@
-use Rattle.string_clip.specs.Flat.{farNode}
-use Rattle.string_clip.proofs.walk.far_node.Statement.{statement}
-use Rattle.string_clip.proofs.walk.far_node.Tie as tie
+use Rattle.clip_walk.specs.Flat.{farNode}
+use Rattle.clip_walk.proofs.far_node.Statement.{statement}
+use Rattle.clip_walk.proofs.far_node.Tie as tie
 
 returns : tie.Need-returns
 unfolding farNode

@@ -13,11 +13,11 @@ use lib.Seq.{drop-cons}
 use Rattle.segm.specs.Lists.{_∈_, tally}
 use Rattle.graph.specs.Nodes.{linkOf, otherEnd, part}
 use Rattle.graph.proofs.Node.{other-end-below}
-use Rattle.string_clip.specs.declared.walk.Next.{Next}
-use Rattle.string_clip.specs.declared.walk.Next.the-variants.{Stop, Leave}
-use Rattle.string_clip.specs.Walk.{has, one, Move, isLeft, taken, takenAll, bitsLeft}
-use Rattle.string_clip.specs.Flat.{moveOf, linkAt, farNode, firstEnd, Graph, nextEnd, takenBy, onward, followEnds, movesOn, bitsAfter, Sound}
-use Rattle.string_clip.proofs.Unroll.{left-taken}
+use Rattle.clip_walk.specs.declared.Next.{Next}
+use Rattle.clip_walk.specs.declared.Next.the-variants.{Stop, Leave}
+use Rattle.clip_walk.specs.Walk.{has, one, Move, isLeft, taken, takenAll, bitsLeft}
+use Rattle.clip_walk.specs.Flat.{moveOf, linkAt, farNode, firstEnd, Graph, nextEnd, takenBy, onward, followEnds, movesOn, bitsAfter, Sound}
+use Rattle.clip_walk.proofs.Unroll.{left-taken}
 
 -- ---- ends
 -- the link of e knows the node of the other end

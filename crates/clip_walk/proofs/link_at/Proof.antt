@@ -2,10 +2,10 @@ use native.Mathlib.Omega.{arith}
 use Prim.Native.Nat.{_+_}
 use lib.ListN.{length}
 use mathlib.Core.Path.{refl}
-use Rattle.string_clip.specs.Flat.{linkAt}
+use Rattle.clip_walk.specs.Flat.{linkAt}
 use borrow.Author.Needs.{needs}
-use Rattle.string_clip.proofs.walk.link_at.Statement.{statement}
-use Rattle.string_clip.proofs.walk.link_at.Tie as tie
+use Rattle.clip_walk.proofs.link_at.Statement.{statement}
+use Rattle.clip_walk.proofs.link_at.Tie as tie
 
 mul-t5 : tie.Need-mul-t5
 mul-t5 c = search needs

@@ -1,8 +1,8 @@
 use mathlib.Core.Path.{_≡_, sym, ap, _∙_}
 use mathlib.Core.Bool.{Bool}
-use Rattle.string_clip.specs.Walk.{has}
-use Rattle.string_clip.proofs.walk.has.Statement.{statement}
-use Rattle.string_clip.proofs.walk.has.Tie as tie
+use Rattle.clip_walk.specs.Walk.{has}
+use Rattle.clip_walk.proofs.has.Statement.{statement}
+use Rattle.clip_walk.proofs.has.Tie as tie
 
 returns : tie.Need-returns
 unfolding has

@@ -1,22 +1,16 @@
 -- The walk over flat lists, as the code goes: a move is named by the end of a link that it leaves. Assumes nothing.
 use mathlib.Core.Path.{_≡_}
-use mathlib.Core.List.{List, [], _∷_, map, flatten}
-use mathlib.Core.Bool.{Bool, true, cond, Bool·beq}
+use mathlib.Core.List.{List, [], _∷_, map}
+use mathlib.Core.Bool.{Bool, cond, Bool·beq}
 use Prim.Native.Nat.{ℕ, zero, suc, _+_, _*_, _<_, _≤_}
 use lib.Dec.{ltb}
 use lib.ListN.{length, getD}
-use lib.IntN.{pos}
-use Rattle.geom.specs.declared.Point.{Point}
 use Rattle.segm.specs.Lists.{_∈_}
-use Rattle.segm.specs.Segments.{Drawing}
-use Rattle.ends.specs.Ends.{endPoint}
-use Rattle.graph.specs.Nodes.{linkOf, otherEnd, part, Nodes}
-use Rattle.string_clip.specs.declared.run.Written.{Written}
-use Rattle.string_clip.specs.declared.walk.Link.{Link}
-use Rattle.string_clip.specs.declared.walk.Next.{Next}
-use Rattle.string_clip.specs.declared.walk.Next.the-variants.{Stop, Leave}
-use Rattle.string_clip.specs.Walk.{has, clear, Move, move, isLeft, taken, takenAll, bitsLeft, pathFrom, walk}
-use Rattle.string_clip.specs.Paths.{finished, pathPoints, Kept}
+use Rattle.graph.specs.Nodes.{linkOf, otherEnd, part}
+use Rattle.clip_walk.specs.declared.Link.{Link}
+use Rattle.clip_walk.specs.declared.Next.{Next}
+use Rattle.clip_walk.specs.declared.Next.the-variants.{Stop, Leave}
+use Rattle.clip_walk.specs.Walk.{clear, Move, move, isLeft, taken, takenAll, bitsLeft}
 
 -- of m links: the move that leaves end e, outward or backward
 unfoldable pub moveOf : ℕ → Bool → ℕ → Move
@@ -87,35 +81,3 @@ pub record Sound (m : ℕ) (g : Graph) : Type 0 where
   pub few : m ≤ 1024
   pub each-end : 2 * m ≤ length (g .nodes)
   pub at-node : (e : ℕ) → e < 2 * m → NodeAt m (g .flat) (g .starts) (getD (g .nodes) e 0)
-
--- ---- points
--- at no place of a list of points
-abbrev pub origin : Point
-origin = record { x = pos 0; y = pos 0 }
-
--- the points that the moves which leave these ends come through
-unfoldable pub throughEnds : Drawing → List ℕ → List Point
-throughEnds links [] = []
-throughEnds links (e ∷ es) = endPoint links e ∷ map (λ f. endPoint links (otherEnd (length links) f)) (e ∷ es)
-
-unfoldable pub endsPoints : Drawing → Bool → List ℕ → List Point
-endsPoints links out es = finished out (throughEnds links es)
-
--- ---- a path
--- the path that begins with link k
-abbrev pub pathAt : Drawing → List ℕ → ℕ → List Move
-pathAt links bits k = pathFrom links bits (move k (has true (getD bits k 0)))
-
--- what a walk over links needs of its lists
-pub record Walking (links : Drawing) (flat starts nodes bits : List ℕ) : Type 0 where
-  pub kept : Kept links
-  pub nodes-are : Nodes links flat starts nodes
-  pub as-many : length bits ≡ length links
-
--- ---- all paths
--- of the links that a run keeps
-abbrev pub linksPaths : Drawing → List (List Point)
-linksPaths links = map (pathPoints links) (walk links)
-
-abbrev pub writtenOf : List (List Point) → Written
-writtenOf paths = record { paths = length paths; points = length (flatten paths) }

@@ -9,11 +9,11 @@ use Prim.Native.Nat.{ℕ, suc, _+_, _-_, _*_, _<_, _≤_}
 use lib.ListN.{length, getD}
 use Rattle.graph.specs.Nodes.{part}
 use Rattle.segm.specs.Lists.{_∈_}
-use Rattle.string_clip.specs.declared.walk.Next.{Next}
-use Rattle.string_clip.specs.Flat.{firstEnd}
-use Rattle.string_clip.proofs.Flat.{partFrom, part-step, part-end, part-in, first-here, first-later}
-use Rattle.string_clip.proofs.walk.find_next.Statement.{statement}
-use Rattle.string_clip.proofs.walk.find_next.Tie as tie
+use Rattle.clip_walk.specs.declared.Next.{Next}
+use Rattle.clip_walk.specs.Flat.{firstEnd}
+use Rattle.clip_walk.proofs.Flat.{partFrom, part-step, part-end, part-in, first-here, first-later}
+use Rattle.clip_walk.proofs.find_next.Statement.{statement}
+use Rattle.clip_walk.proofs.find_next.Tie as tie
 
 abbrev Inv-loop : tie.InvT-loop
 Inv-loop flat starts bits v out end j₀ j =

@@ -1,4 +1,4 @@
--- The walk over flat lists is the walk: over the nodes of the links, the same moves and the same points.
+-- The walk over flat lists is the walk: over the nodes of the links, the same moves.
 use mathlib.Core.Path.{_≡_, refl, sym, _∙_, ap, ap₂, subst}
 use mathlib.Core.List.{List, [], _∷_, map, map-map}
 use mathlib.Core.Logic.{inl, inr}
@@ -17,18 +17,16 @@ use Rattle.segm.specs.declared.Segment.{Segment}
 use Rattle.segm.specs.Lists.{_∈_}
 use Rattle.segm.specs.Segments.{Drawing, segmentAt}
 use Rattle.segm.proofs.Segments.{segment-in}
-use Rattle.segm.proofs.Tallies.{cases}
 use Rattle.ends.specs.Ends.{endPoint}
 use Rattle.ends.proofs.Ends.{end-a, end-b}
 use Rattle.graph.specs.Nodes.{node, linkOf, otherEnd, part, Nodes}
 use Rattle.graph.proofs.Node.{link-low, link-high, link-of-end, other-low, other-high, other-end-below}
-use Rattle.string_clip.specs.declared.walk.Next.{Next}
-use Rattle.string_clip.specs.declared.walk.Next.the-variants.{Stop, Leave}
-use Rattle.string_clip.specs.Walk.{Move, move, isLeft, taken, bitsLeft, firstLeft, over, other, fitting, goesOn, andThen, follow, pathFrom}
-use Rattle.string_clip.specs.Paths.{through, finished, pathPoints}
-use Rattle.string_clip.specs.Flat.{moveOf, firstEnd, Graph, graph, nextEnd, onward, followEnds, NodeAt, Sound, throughEnds, endsPoints}
-use Rattle.string_clip.proofs.Moves.{Proper, not-both, way-start, way-end}
-use Rattle.string_clip.proofs.Flat.{length-taken, next-below}
+use Rattle.clip_walk.specs.declared.Next.{Next}
+use Rattle.clip_walk.specs.declared.Next.the-variants.{Stop, Leave}
+use Rattle.clip_walk.specs.Walk.{Move, move, isLeft, taken, bitsLeft, firstLeft, over, other, fitting, goesOn, andThen, follow, pathFrom}
+use Rattle.clip_walk.specs.Flat.{moveOf, firstEnd, Graph, graph, nextEnd, onward, followEnds, NodeAt, Sound}
+use Rattle.clip_walk.proofs.Moves.{Proper, not-both, way-start, way-end}
+use Rattle.clip_walk.proofs.Flat.{length-taken, next-below}
 
 -- ---- one move
 module _ (m : ℕ) (out : Bool) (e : ℕ) where
@@ -48,16 +46,12 @@ beq-true false = refl
 pub first-move : (m : ℕ) (out : Bool) (k : ℕ) → k < m → moveOf m out k ≡ move k out
 first-move m out k h = move-low m out k h ∙ ap (move k) (beq-true out)
 
-map-on : {A : Type 0} (f g : ℕ → A) (l : List ℕ) → ((k : ℕ) → k ∈ l → f k ≡ g k) → map f l ≡ map g l
-map-on f g [] h = refl
-map-on f g (k ∷ l) h = ap₂ _∷_ (h k (inl refl)) (map-on f g l (λ j i. h j (inr i)))
-
 -- a move leaves its end, and ends at the link's other one
 module _ (links : Drawing) (out : Bool) (e : ℕ) where
   abbrev m : ℕ
   m = length links
 
-  move-start : over links out (moveOf m out e) .start ≡ endPoint links e
+  pub move-start : over links out (moveOf m out e) .start ≡ endPoint links e
   unfolding over
   move-start = go (decLe m e)
     where
@@ -65,7 +59,7 @@ module _ (links : Drawing) (out : Bool) (e : ℕ) where
       go (yes h) = ap (λ (n : Move). over links out n .start) (move-high m out e h) ∙ way-start out false (segmentAt links (e - m)) ∙ sym (end-b links e h)
       go (no h) = let l : e < m = omega arith in ap (λ (n : Move). over links out n .start) (move-low m out e l) ∙ way-start out true (segmentAt links e) ∙ sym (end-a links e l)
 
-  move-end : e < 2 * m → over links out (moveOf m out e) .end ≡ endPoint links (otherEnd m e)
+  pub move-end : e < 2 * m → over links out (moveOf m out e) .end ≡ endPoint links (otherEnd m e)
   unfolding over
   move-end b = go (decLe m e)
     where
@@ -190,20 +184,3 @@ module _ (links : Drawing) (proper : Proper links) where
         follow-is (bitsLeft rest) out k rest few (ap length e ∙ length-taken bits (move k out) ∙ q) below
         ∙ ap₂ (λ (r : List ℕ) (p : Point). follow (bitsLeft r) links out p r) e there
         )
-
--- ---- points
-module _ (links : Drawing) (out : Bool) where
-  through-is : (e : ℕ) (es : List ℕ) → ((f : ℕ) → f ∈ (e ∷ es) → f < 2 * length links) → throughEnds links (e ∷ es) ≡ through links out (map (moveOf (length links) out) (e ∷ es))
-  unfolding throughEnds through
-  through-is e es h =
-      ap₂ _∷_ (sym (move-start links out e)) (
-      map-on (λ f. endPoint links (otherEnd (length links) f)) (λ f. over links out (moveOf (length links) out f) .end) (e ∷ es) (λ f i. sym (move-end links out f (h f i)))
-      ∙ sym (map-map (λ n. over links out n .end) (moveOf (length links) out) (e ∷ es))
-      )
-
-  pub points-are : (k : ℕ) (es : List ℕ) → k < length links → ((f : ℕ) → f ∈ es → f < 2 * length links) → endsPoints links out (k ∷ es) ≡ pathPoints links (map (moveOf (length links) out) (k ∷ es))
-  unfolding endsPoints pathPoints
-  points-are k es h b =
-      let moves = map (moveOf (length links) out) (k ∷ es) in
-      let forth : moveOf (length links) out k .forth ≡ out = ap (λ (m : Move). m .forth) (first-move (length links) out k h) in
-      ap (finished out) (through-is k es (λ f. cases (λ q. omega arith) (b f))) ∙ ap (λ (o : Bool). finished o (through links o moves)) (sym forth)

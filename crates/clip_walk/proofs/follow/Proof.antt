@@ -9,13 +9,13 @@ use lib.ListN.{length, set, length-set, length-append}
 use lib.Seq.{append-snoc}
 use Rattle.segm.specs.Lists.{written}
 use Rattle.segm.proofs.Lists.{written-more}
-use Rattle.string_clip.specs.declared.walk.Next.{Next}
-use Rattle.string_clip.specs.declared.walk.Next.the-variants.{Stop, Leave}
-use Rattle.string_clip.specs.Walk.{bitsLeft}
-use Rattle.string_clip.specs.Flat.{Graph, graph, nextEnd, takenBy, followEnds, movesOn, bitsAfter, moveOf, Sound}
-use Rattle.string_clip.proofs.Flat.{length-taken, bits-few, next-below, moves-on, bits-after, follow-few}
-use Rattle.string_clip.proofs.walk.follow.Statement.{statement}
-use Rattle.string_clip.proofs.walk.follow.Tie as tie
+use Rattle.clip_walk.specs.declared.Next.{Next}
+use Rattle.clip_walk.specs.declared.Next.the-variants.{Stop, Leave}
+use Rattle.clip_walk.specs.Walk.{bitsLeft}
+use Rattle.clip_walk.specs.Flat.{Graph, graph, nextEnd, takenBy, followEnds, movesOn, bitsAfter, moveOf, Sound}
+use Rattle.clip_walk.proofs.Flat.{length-taken, bits-few, next-below, moves-on, bits-after, follow-few}
+use Rattle.clip_walk.proofs.follow.Statement.{statement}
+use Rattle.clip_walk.proofs.follow.Tie as tie
 
 record Following (g : Graph) (out : Bool) (first : ℕ) (bits₀ moves₀ bits moves : List ℕ) (n : ℕ) (next : Next) : Type 0 where
   done : List ℕ

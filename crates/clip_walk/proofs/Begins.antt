@@ -10,7 +10,7 @@ use borrow.Author.Tests.{eq-eqb, ne-eqb, eqb-false}
 use lib.ListN.{length, getD}
 use Rattle.segm.specs.Lists.{upFrom}
 use Rattle.segm.specs.Segments.{Drawing}
-use Rattle.string_clip.specs.Walk.{has, Move, move, isLeft, firstLeft, bothMoves, begins}
+use Rattle.clip_walk.specs.Walk.{has, Move, move, isLeft, firstLeft, bothMoves, begins}
 
 -- no line bit of b is set, or one is
 pub none-set : (b : ℕ) (forth : Bool) → b % 4 ≡ 0 → has forth b ≡ false

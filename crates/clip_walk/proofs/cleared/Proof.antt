@@ -3,9 +3,9 @@ use mathlib.Core.Bool.{Bool, true}
 use native.Mathlib.Omega.{arith}
 use Prim.Native.Nat.{_/_, _%_}
 use borrow.Author.Tests.{eqb-true}
-use Rattle.string_clip.specs.Walk.{has, clear}
-use Rattle.string_clip.proofs.walk.cleared.Statement.{statement}
-use Rattle.string_clip.proofs.walk.cleared.Tie as tie
+use Rattle.clip_walk.specs.Walk.{has, clear}
+use Rattle.clip_walk.proofs.cleared.Statement.{statement}
+use Rattle.clip_walk.proofs.cleared.Tie as tie
 
 sub-result : tie.Need-sub-result
 unfolding has

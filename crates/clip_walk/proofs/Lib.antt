@@ -1,0 +1,5 @@
+pub mod Moves
+pub mod Unroll
+pub mod Flat
+pub mod FlatIsWalk
+pub mod Begins

@@ -1,0 +1,46 @@
+-- What the code writes: the points of moves named by ends, one path, and all paths. Assumes nothing.
+use mathlib.Core.Path.{_≡_}
+use mathlib.Core.List.{List, [], _∷_, map, flatten}
+use mathlib.Core.Bool.{Bool, true}
+use Prim.Native.Nat.{ℕ}
+use lib.ListN.{length, getD}
+use lib.IntN.{pos}
+use Rattle.geom.specs.declared.Point.{Point}
+use Rattle.segm.specs.Segments.{Drawing}
+use Rattle.ends.specs.Ends.{endPoint}
+use Rattle.graph.specs.Nodes.{otherEnd, Nodes}
+use Rattle.clip_walk.specs.Walk.{has, Move, move, pathFrom, walk}
+use Rattle.string_clip.specs.declared.run.Written.{Written}
+use Rattle.string_clip.specs.Paths.{finished, pathPoints, Kept}
+
+-- ---- points
+-- at no place of a list of points
+abbrev pub origin : Point
+origin = record { x = pos 0; y = pos 0 }
+
+-- the points that the moves which leave these ends come through
+unfoldable pub throughEnds : Drawing → List ℕ → List Point
+throughEnds links [] = []
+throughEnds links (e ∷ es) = endPoint links e ∷ map (λ f. endPoint links (otherEnd (length links) f)) (e ∷ es)
+
+unfoldable pub endsPoints : Drawing → Bool → List ℕ → List Point
+endsPoints links out es = finished out (throughEnds links es)
+
+-- ---- a path
+-- the path that begins with link k
+abbrev pub pathAt : Drawing → List ℕ → ℕ → List Move
+pathAt links bits k = pathFrom links bits (move k (has true (getD bits k 0)))
+
+-- what a walk over links needs of its lists
+pub record Walking (links : Drawing) (flat starts nodes bits : List ℕ) : Type 0 where
+  pub kept : Kept links
+  pub nodes-are : Nodes links flat starts nodes
+  pub as-many : length bits ≡ length links
+
+-- ---- all paths
+-- of the links that a run keeps
+abbrev pub linksPaths : Drawing → List (List Point)
+linksPaths links = map (pathPoints links) (walk links)
+
+abbrev pub writtenOf : List (List Point) → Written
+writtenOf paths = record { paths = length paths; points = length (flatten paths) }
