@@ -1,5 +1,5 @@
 -- Laws of the walk over flat lists: its next end, and that it goes on by one turn.
-use mathlib.Core.Path.{_≡_, refl, sym, _∙_, ap, ap₂, subst}
+use mathlib.Core.Path.{_≡_, refl, sym, _∙_, ap, subst}
 use mathlib.Core.List.{List, [], _∷_, map}
 use mathlib.Core.Logic.{_⊎_, inl, inr}
 use mathlib.Core.Bool.{Bool, true, false, cond}
@@ -11,7 +11,7 @@ use lib.Dec.{ltb}
 use lib.ListN.{length, getD, take, drop, length-set}
 use lib.Seq.{drop-cons}
 use Rattle.segm.specs.Lists.{_∈_, tally}
-use Rattle.graph.specs.Nodes.{linkOf, otherEnd, part}
+use Rattle.graph.specs.Nodes.{linkOf, otherEnd}
 use Rattle.graph.proofs.Node.{other-end-below}
 use Rattle.clip_walk.specs.declared.Next.{Next}
 use Rattle.clip_walk.specs.declared.Next.the-variants.{Stop, Leave}

@@ -9,7 +9,7 @@ use native.Mathlib.Omega.{arith}
 use native.Mathlib.Decide.{decLe}
 use borrow.Author.Tests.{lt-ltb, le-ltb}
 use lib.ListN.{length, getD}
-use Rattle.integers.proofs.Booleans.{clash, is-false}
+use Rattle.integers.proofs.Booleans.{is-false}
 use Rattle.geom.specs.declared.Point.{Point}
 use Rattle.geom.specs.Points.{ltP, eqP}
 use Rattle.geom.proofs.Points.{eqP-true, eq-eqP}
@@ -19,12 +19,12 @@ use Rattle.segm.specs.Segments.{Drawing, segmentAt}
 use Rattle.segm.proofs.Segments.{segment-in}
 use Rattle.ends.specs.Ends.{endPoint}
 use Rattle.ends.proofs.Ends.{end-a, end-b}
-use Rattle.graph.specs.Nodes.{node, linkOf, otherEnd, part, Nodes}
-use Rattle.graph.proofs.Node.{link-low, link-high, link-of-end, other-low, other-high, other-end-below}
+use Rattle.graph.specs.Nodes.{linkOf, otherEnd, part, Nodes}
+use Rattle.graph.proofs.Node.{link-low, link-high, other-low, other-high, other-end-below}
 use Rattle.clip_walk.specs.declared.Next.{Next}
 use Rattle.clip_walk.specs.declared.Next.the-variants.{Stop, Leave}
 use Rattle.clip_walk.specs.Walk.{Move, move, isLeft, taken, bitsLeft, firstLeft, over, other, fitting, goesOn, andThen, follow, pathFrom}
-use Rattle.clip_walk.specs.Flat.{moveOf, firstEnd, Graph, graph, nextEnd, onward, followEnds, NodeAt, Sound}
+use Rattle.clip_walk.specs.Flat.{moveOf, firstEnd, Graph, graph, nextEnd, onward, followEnds, Sound}
 use Rattle.clip_walk.proofs.Moves.{Proper, not-both, way-start, way-end}
 use Rattle.clip_walk.proofs.Flat.{length-taken, next-below}
 

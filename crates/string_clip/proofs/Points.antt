@@ -1,6 +1,6 @@
 -- The points of a path, by place, and as they are written.
 use mathlib.Core.Path.{_≡_, refl, sym, _∙_, ap}
-use mathlib.Core.List.{List, [], _∷_, _++_, map, reverse, reverseAux, append-assoc}
+use mathlib.Core.List.{List, [], _∷_, _++_, map, reverseAux, append-assoc}
 use mathlib.Core.Bool.{Bool, true, false}
 use Prim.Native.Nat.{ℕ, zero, suc, _+_, _*_, _-_, _<_, _≤_}
 use native.Mathlib.Omega.{arith}

@@ -1,6 +1,6 @@
 -- What was left and what is to be left are the path's moves. Assumes nothing.
 use borrow.Author.Needs.{needs}
-use mathlib.Core.Path.{_≡_, refl, sym, ap, ap₂, subst, _∙_}
+use mathlib.Core.Path.{_≡_, refl, sym, ap, subst, _∙_}
 use mathlib.Core.List.{List, [], _∷_, _++_, append-nil}
 use mathlib.Core.Bool.{Bool}
 use native.Mathlib.Omega.{arith}
@@ -12,7 +12,7 @@ use Rattle.segm.proofs.Lists.{written-more}
 use Rattle.clip_walk.specs.declared.Next.{Next}
 use Rattle.clip_walk.specs.declared.Next.the-variants.{Stop, Leave}
 use Rattle.clip_walk.specs.Walk.{bitsLeft}
-use Rattle.clip_walk.specs.Flat.{Graph, graph, nextEnd, takenBy, followEnds, movesOn, bitsAfter, moveOf, Sound}
+use Rattle.clip_walk.specs.Flat.{Graph, graph, nextEnd, takenBy, movesOn, bitsAfter, moveOf, Sound}
 use Rattle.clip_walk.proofs.Flat.{length-taken, bits-few, next-below, moves-on, bits-after, follow-few}
 use Rattle.clip_walk.proofs.follow.Statement.{statement}
 use Rattle.clip_walk.proofs.follow.Tie as tie

@@ -9,7 +9,6 @@ use lib.Dec.{ltb}
 use lib.ListN.{length, getD}
 use Rattle.graph.specs.Nodes.{otherEnd, part}
 use Rattle.clip_walk.specs.declared.Link.{Link}
-use Rattle.clip_walk.specs.declared.Next.the-variants.{Leave}
 use Rattle.clip_walk.specs.Walk.{isLeft}
 use Rattle.clip_walk.specs.Flat.{moveOf, linkAt, farNode, firstEnd, Graph, graph, nextEnd, takenBy, NodeAt}
 use Rattle.graph.proofs.Node.{link-of-end, other-end-below}

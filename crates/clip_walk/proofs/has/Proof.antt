@@ -1,4 +1,4 @@
-use mathlib.Core.Path.{_≡_, sym, ap, _∙_}
+use mathlib.Core.Path.{sym, ap}
 use mathlib.Core.Bool.{Bool}
 use Rattle.clip_walk.specs.Walk.{has}
 use Rattle.clip_walk.proofs.has.Statement.{statement}

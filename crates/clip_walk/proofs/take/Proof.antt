@@ -1,13 +1,12 @@
 -- The link is read, its bit cleared, and its bits written back. Assumes nothing.
 use borrow.Author.Needs.{needs}
-use mathlib.Core.Path.{_≡_, sym, ap, subst, _∙_}
+use mathlib.Core.Path.{ap, _∙_}
 use mathlib.Core.List.{List}
-use mathlib.Core.Bool.{Bool, true, Bool·beq}
+use mathlib.Core.Bool.{Bool, Bool·beq}
 use native.Mathlib.Omega.{arith}
 use Prim.Native.Nat.{ℕ, _<_}
 use lib.Dec.{ltb}
 use lib.ListN.{length, getD, set}
-use Rattle.graph.specs.Nodes.{linkOf}
 use Rattle.clip_walk.specs.declared.Link.{Link}
 use Rattle.clip_walk.specs.Walk.{has, clear, isLeft, taken}
 use Rattle.clip_walk.specs.Flat.{moveOf, linkAt, visited}

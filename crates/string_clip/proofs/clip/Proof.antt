@@ -1,10 +1,9 @@
 -- The verdict decides the arm. Assumes nothing.
 use borrow.Author.Needs.{needs}
-use mathlib.Core.Path.{_≡_, refl, sym, ap, ap₂, _∙_}
+use mathlib.Core.Path.{_≡_, refl, sym, ap, _∙_}
 use mathlib.Core.List.{List, map, flatten}
 use mathlib.Core.Logic.{inl, inr}
 use native.Mathlib.Omega.{arith}
-use Prim.Native.Nat.{ℕ}
 use lib.ListN.{length}
 use lib.IntN.{ℤ}
 use mir.Facts.{toZ-ofZ}
@@ -17,13 +16,11 @@ use Rattle.checks.specs.declared.Verdict.the-variants.{Accepted}
 use Rattle.checks.specs.Verdict.{Run, verdict}
 use Rattle.checks.specs.Runs.{lent, clipRun}
 use Rattle.checks.proofs.Good.{verdict-good, verdict-room}
-use Rattle.build.specs.declared.ray.Rule.{Rule}
-use Rattle.build.specs.declared.links.Filter.{Filter}
 use Rattle.build.specs.Fills.{ruleOf}
 use Rattle.build.specs.Links.{filterOf}
 use Rattle.string_clip.specs.declared.Clipped.the-variants.{Done}
 use Rattle.string_clip.specs.Paths.{clipPaths}
-use Rattle.string_clip.specs.Run.{totals, coordinates, Outcome, outcome, answered, clipOutcome}
+use Rattle.string_clip.specs.Run.{totals, coordinates, outcome, answered, clipOutcome}
 use Rattle.string_clip.proofs.clip.Statement.{statement}
 use Rattle.string_clip.proofs.clip.Tie as tie
 

@@ -1,13 +1,9 @@
 -- Two runs, each as defined, so the claim about the definitions is one about the lists. Assumes nothing.
 use borrow.Author.Needs.{needs}
-use mathlib.Core.Path.{_≡_, sym, ap, ap₂, subst, _∙_}
-use mathlib.Core.List.{List}
-use Prim.Native.Nat.{ℕ}
-use lib.IntN.{ℤ, pos}
-use lib.Dec.{lit<}
+use mathlib.Core.Path.{_∙_}
+use lib.IntN.{pos}
 use mir.Facts.{toZ-ofZ}
-use Rattle.string_clip.specs.Run.{Outcome, outcome, clipOutcome}
-use Rattle.string_clip.specs.Claim.{Together}
+use Rattle.string_clip.specs.Run.{clipOutcome}
 use Rattle.string_clip.proofs.Together.{both-runs}
 use Rattle.string_clip.proofs.clip_both.Statement.{statement}
 use Rattle.string_clip.proofs.clip_both.Tie as tie

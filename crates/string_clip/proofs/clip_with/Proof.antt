@@ -9,7 +9,7 @@ use lib.Seq.{length-take-le}
 use lib.IntN.{ℤ}
 use Rattle.geom.specs.declared.Point.{Point}
 use Rattle.segm.specs.Lists.{written}
-use Rattle.segm.specs.Segments.{Drawing, width, segments, laid}
+use Rattle.segm.specs.Segments.{Drawing, width, segments}
 use Rattle.segm.proofs.Laid.{segments-written}
 use Rattle.build.specs.Links.{keptLinks}
 use Rattle.build.proofs.Kept.{length-kept}

@@ -1,6 +1,6 @@
 -- Outward the points as they come, backward from the last to the first. Assumes nothing.
 use borrow.Author.Needs.{needs}
-use mathlib.Core.Path.{_≡_, sym, ap, _∙_}
+use mathlib.Core.Path.{sym, ap, _∙_}
 use mathlib.Core.Bool.{Bool}
 use lib.ListN.{getD}
 use Rattle.segm.specs.Segments.{segments}

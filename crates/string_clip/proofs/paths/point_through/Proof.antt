@@ -2,8 +2,8 @@
 use borrow.Author.Needs.{needs}
 use mathlib.Core.Path.{_≡_, sym, ap, _∙_}
 use native.Mathlib.Omega.{arith}
-use Prim.Native.Nat.{ℕ, suc, _-_}
-use lib.ListN.{length, getD}
+use Prim.Native.Nat.{suc, _-_}
+use lib.ListN.{getD}
 use Rattle.segm.specs.Segments.{segments}
 use Rattle.segm.proofs.Segments.{length-segments}
 use Rattle.ends.specs.Ends.{endPoint}

@@ -3,11 +3,11 @@ use borrow.Author.Needs.{needs}
 use mathlib.Core.Path.{_≡_, sym, ap, _∙_}
 use mathlib.Core.List.{List, flatten}
 use native.Mathlib.Omega.{arith}
-use Prim.Native.Nat.{ℕ, _-_}
+use Prim.Native.Nat.{_-_}
 use lib.ListN.{length}
 use Rattle.geom.specs.declared.Point.{Point}
 use Rattle.segm.specs.Lists.{tally}
-use Rattle.segm.specs.Segments.{Drawing, segments}
+use Rattle.segm.specs.Segments.{segments}
 use Rattle.string_clip.specs.declared.run.Written.{Written}
 use Rattle.string_clip.specs.Paths.{stepsOf, travelOf}
 use Rattle.string_clip.specs.Run.{totals}

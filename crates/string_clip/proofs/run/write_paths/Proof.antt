@@ -4,7 +4,7 @@ use mathlib.Core.Path.{_≡_, refl, sym, ap, ap₂, subst, _∙_}
 use mathlib.Core.List.{List, _++_, map, flatten}
 use native.Mathlib.Omega.{arith}
 use Prim.Native.Nat.{ℕ, _+_, _*_, _-_, _%_, _<_, _≤_}
-use lib.ListN.{length, getD, take, drop, set, length-set, length-take, length-drop, length-append}
+use lib.ListN.{length, getD, take, drop, set, length-set, length-take, length-drop}
 use lib.IntN.{ℤ}
 use Rattle.geom.specs.declared.Point.{Point}
 use Rattle.segm.specs.Lists.{written}
@@ -12,7 +12,7 @@ use Rattle.segm.specs.Segments.{Drawing, segments}
 use Rattle.clip_walk.specs.Walk.{bitsLeft, takenAll}
 use Rattle.string_clip.specs.Paths.{pathPoints}
 use Rattle.string_clip.specs.Run.{coordinates}
-use Rattle.string_clip.specs.Writing.{pathAt, Walking, linksPaths, writtenOf}
+use Rattle.string_clip.specs.Writing.{pathAt, linksPaths}
 use Rattle.string_clip.proofs.Found.{walk-found, found-fit}
 use Rattle.string_clip.proofs.AllPaths.{Walked, none-yet, pass, fewer, points-fit, paths-fit, more, whole}
 use Rattle.string_clip.proofs.run.write_paths.Statement.{statement}
