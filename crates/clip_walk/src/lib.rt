@@ -1,13 +1,13 @@
 // The clip walk over flat lists: a move is named by the end of a link that it leaves. Every function here is proved, and the crate assumes nothing of its own.
 ghost use mathlib.Core.Path.{_≡_};
 ghost use mathlib.Core.Bool.{true};
-ghost use mathlib.Core.List.{_∷_, map};
-ghost use Prim.Native.Nat.{suc, _*_, _≤_, _<_};
+ghost use Prim.Native.Nat.{_*_, _≤_, _<_};
 ghost use lib.ListN.{length};
 ghost use Rattle.segm.specs.Lists.{written};
 ghost use Rattle.graph.specs.Nodes.{part};
-ghost use Rattle.clip_walk.specs.Walk.{has, clear, isLeft, taken, takenAll, bitsLeft};
-ghost use Rattle.clip_walk.specs.Flat.{moveOf, linkAt, visited, farNode, firstEnd, graph, nextEnd, takenBy, followEnds, NodeAt, Sound};
+ghost use Rattle.clip_walk.specs.declared.Next.the-variants.{Leave};
+ghost use Rattle.clip_walk.specs.Walk.{has, clear, isLeft, taken, bitsLeft};
+ghost use Rattle.clip_walk.specs.Flat.{moveOf, linkAt, visited, farNode, firstEnd, graph, nextEnd, takenBy, movesOn, bitsAfter, NodeAt, Sound};
 
 // A link: the nodes of its ends, and its line bits that are left.
 pub struct Link {
@@ -137,9 +137,9 @@ pub fn follow(
     moves: &mut [u32],
 ) -> usize
     requires { ⌜ (first < 2 * length (now bits)) × Sound (length (now bits)) (graph (now flat) (now starts) (now nodes)) × (bitsLeft (now bits) < length (now moves)) ⌝ }
-    ensures { λ r. ⌜ (r ≡ suc (length (followEnds (bitsLeft (now (bits .entry))) (graph (now (flat .entry)) (now (starts .entry)) (now (nodes .entry))) out first (now (bits .entry)))))
-        × (now (moves .exit) ≡ written (first ∷ followEnds (bitsLeft (now (bits .entry))) (graph (now (flat .entry)) (now (starts .entry)) (now (nodes .entry))) out first (now (bits .entry))) (now (moves .entry)))
-        × (now (bits .exit) ≡ takenAll (now (bits .entry)) (map (moveOf (length (now (bits .entry))) out) (followEnds (bitsLeft (now (bits .entry))) (graph (now (flat .entry)) (now (starts .entry)) (now (nodes .entry))) out first (now (bits .entry))))) ⌝ }
+    ensures { λ r. ⌜ (r ≡ length (movesOn (graph (now (flat .entry)) (now (starts .entry)) (now (nodes .entry))) out (now (bits .entry)) (Leave first)))
+        × (now (moves .exit) ≡ written (movesOn (graph (now (flat .entry)) (now (starts .entry)) (now (nodes .entry))) out (now (bits .entry)) (Leave first)) (now (moves .entry)))
+        × (now (bits .exit) ≡ bitsAfter (graph (now (flat .entry)) (now (starts .entry)) (now (nodes .entry))) out (now (bits .entry)) (Leave first)) ⌝ }
 {
     let mut n: usize = 0;
     let mut next = Next::Leave(first);

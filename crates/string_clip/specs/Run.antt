@@ -1,4 +1,5 @@
 -- A clip run: what it answers, what it writes to its lent lists, and how its output is read from them. The contracts of `string_clip` cite these. Assumes nothing.
+use mathlib.Core.Path.{_≡_}
 use mathlib.Core.List.{List, [], _∷_, map, flatten}
 use Prim.Native.Nat.{ℕ, zero, suc}
 use lib.ListN.{length, take, drop}
@@ -30,6 +31,11 @@ totals paths = record {
 unfoldable pub coordinates : List Point → List ℤ
 coordinates [] = []
 coordinates (p ∷ l) = p .x ∷ p .y ∷ coordinates l
+
+-- these paths stand at the front of the lent lists, x, y pairs and one length a path; past them the lists are as they were
+pub record Writes (paths : List (List Point)) (points₀ : List ℤ) (lengths₀ : List ℕ) (points : List ℤ) (lengths : List ℕ) : Type 0 where
+  pub points-are : points ≡ written (coordinates (flatten paths)) points₀
+  pub lengths-are : lengths ≡ written (map length paths) lengths₀
 
 -- what a run answers, and its lent lists when it returns
 pub record Outcome : Type 0 where

@@ -9,14 +9,12 @@ use build::Rule;
 use checks::Verdict;
 use run::clip_links;
 ghost use mathlib.Core.Path.{_≡_};
-ghost use mathlib.Core.List.{map, flatten};
 ghost use Prim.Native.Nat.{_*_, _≤_};
 ghost use lib.ListN.{length};
-ghost use Rattle.segm.specs.Lists.{written};
 ghost use Rattle.segm.specs.Segments.{width, segments};
 ghost use Rattle.checks.specs.Accepted.{Good};
 ghost use Rattle.string_clip.specs.Paths.{clipPaths};
-ghost use Rattle.string_clip.specs.Run.{totals, coordinates, outcome, clipOutcome};
+ghost use Rattle.string_clip.specs.Run.{totals, Writes, outcome, clipOutcome};
 ghost use Rattle.string_clip.specs.Claim.{Together};
 
 // How many paths, points and steps a run found, and their travel.
@@ -55,8 +53,7 @@ fn clip_with(
         × (8 * length (segments (now s)) ≤ length (now points))
         × (2 * length (segments (now s)) ≤ length (now lengths)) ⌝ }
     ensures { λ r. ⌜ (r ≡ totals (clipPaths rule filter (segments (now (s .entry)))))
-        × (now (points .exit) ≡ written (coordinates (flatten (clipPaths rule filter (segments (now (s .entry)))))) (now (points .entry)))
-        × (now (lengths .exit) ≡ written (map length (clipPaths rule filter (segments (now (s .entry))))) (now (lengths .entry))) ⌝ }
+        × Writes (clipPaths rule filter (segments (now (s .entry)))) (now (points .entry)) (now (lengths .entry)) (now (points .exit)) (now (lengths .exit)) ⌝ }
 {
     let m = build::kept_links(s, rule, filter, fills, links);
     let n = segm::size(m);
@@ -75,8 +72,7 @@ fn clip_accepted(
         × (8 * length (segments (now s)) ≤ length (now points))
         × (2 * length (segments (now s)) ≤ length (now lengths)) ⌝ }
     ensures { λ r. ⌜ (r ≡ totals (clipPaths rule filter (segments (now (s .entry)))))
-        × (now (points .exit) ≡ written (coordinates (flatten (clipPaths rule filter (segments (now (s .entry)))))) (now (points .entry)))
-        × (now (lengths .exit) ≡ written (map length (clipPaths rule filter (segments (now (s .entry))))) (now (lengths .entry))) ⌝ }
+        × Writes (clipPaths rule filter (segments (now (s .entry)))) (now (points .entry)) (now (lengths .entry)) (now (points .exit)) (now (lengths .exit)) ⌝ }
 {
     let mut fills = [0u8; 1024];
     let mut links = [0i32; segm::MOST];

@@ -4,14 +4,13 @@ use super::paths::write_path;
 use super::sums::line_bits;
 use super::sums::travel;
 ghost use mathlib.Core.Path.{_≡_};
-ghost use mathlib.Core.List.{map, flatten};
 ghost use Prim.Native.Nat.{_*_, _%_, _≤_, _<_};
 ghost use lib.ListN.{length, getD};
 ghost use Rattle.segm.specs.Lists.{written};
 ghost use Rattle.segm.specs.Segments.{segments};
 ghost use Rattle.clip_walk.specs.Walk.{lineBits, takenAll};
 ghost use Rattle.string_clip.specs.Paths.{pathPoints, Kept};
-ghost use Rattle.string_clip.specs.Run.{totals, coordinates};
+ghost use Rattle.string_clip.specs.Run.{totals, coordinates, Writes};
 ghost use Rattle.string_clip.specs.Writing.{pathAt, Walking, linksPaths, writtenOf};
 
 // How many paths and points were written.
@@ -64,8 +63,7 @@ fn write_paths(
         × (8 * length (now bits) ≤ length (now points))
         × (2 * length (now bits) ≤ length (now lengths)) ⌝ }
     ensures { λ r. ⌜ (r ≡ writtenOf (linksPaths (segments (now (links .entry)))))
-        × (now (points .exit) ≡ written (coordinates (flatten (linksPaths (segments (now (links .entry)))))) (now (points .entry)))
-        × (now (lengths .exit) ≡ written (map length (linksPaths (segments (now (links .entry))))) (now (lengths .entry))) ⌝ }
+        × Writes (linksPaths (segments (now (links .entry)))) (now (points .entry)) (now (lengths .entry)) (now (points .exit)) (now (lengths .exit)) ⌝ }
 {
     let m = bits.len();
     let mut paths: usize = 0;
@@ -116,8 +114,7 @@ fn walk_links(
         × (8 * length (segments (now links)) ≤ length (now points))
         × (2 * length (segments (now links)) ≤ length (now lengths)) ⌝ }
     ensures { λ r. ⌜ (r ≡ writtenOf (linksPaths (segments (now (links .entry)))))
-        × (now (points .exit) ≡ written (coordinates (flatten (linksPaths (segments (now (links .entry)))))) (now (points .entry)))
-        × (now (lengths .exit) ≡ written (map length (linksPaths (segments (now (links .entry))))) (now (lengths .entry))) ⌝ }
+        × Writes (linksPaths (segments (now (links .entry)))) (now (points .entry)) (now (lengths .entry)) (now (points .exit)) (now (lengths .exit)) ⌝ }
 {
     let m = segm::count(links);
     let e = 2 * m;
@@ -141,8 +138,7 @@ pub fn clip_links(links: &[i32], points: &mut [i32], lengths: &mut [u32]) -> Tot
         × (8 * length (segments (now links)) ≤ length (now points))
         × (2 * length (segments (now links)) ≤ length (now lengths)) ⌝ }
     ensures { λ r. ⌜ (r ≡ totals (linksPaths (segments (now (links .entry)))))
-        × (now (points .exit) ≡ written (coordinates (flatten (linksPaths (segments (now (links .entry)))))) (now (points .entry)))
-        × (now (lengths .exit) ≡ written (map length (linksPaths (segments (now (links .entry))))) (now (lengths .entry))) ⌝ }
+        × Writes (linksPaths (segments (now (links .entry)))) (now (points .entry)) (now (lengths .entry)) (now (points .exit)) (now (lengths .exit)) ⌝ }
 {
     let mut flat = [0u32; 2048];
     let mut starts = [0u32; 2049];

@@ -91,7 +91,7 @@ returns c =
     let rule = o .rule-of .ensures ∙ ap ruleOf (toZ-ofZ (s v .fits .rule)) in
     let filter = f .filter-of .ensures ∙ (λ i. filterOf (toZ-ofZ (s v .fits .invert) i) (toZ-ofZ (s v .fits .boundary) i)) in
     let found : clipPaths (o .rule-of .result) (f .filter-of .result) (segments (numbers v)) ≡ paths v = (λ i. clipPaths (rule i) (filter i) (segments (numbers v))) in
-    (λ i. outcome (Done ((a .clip-accepted .ensures .0 ∙ ap totals found) i)) ((a .clip-accepted .ensures .1 ∙ ap (λ (p : List (List Point)). written (coordinates (flatten p)) (s v .args .points .now)) found) i) ((a .clip-accepted .ensures .2 ∙ ap (λ (p : List (List Point)). written (map length p) (s v .args .lengths .now)) found) i))
+    (λ i. outcome (Done ((a .clip-accepted .ensures .0 ∙ ap totals found) i)) ((a .clip-accepted .ensures .1 .points-are ∙ ap (λ (p : List (List Point)). written (coordinates (flatten p)) (s v .args .points .now)) found) i) ((a .clip-accepted .ensures .1 .lengths-are ∙ ap (λ (p : List (List Point)). written (map length p) (s v .args .lengths .now)) found) i))
     ∙ by-verdict v (t .enum-told .given .1)
 
 returns-2 : tie.Need-returns-2

@@ -1,20 +1,19 @@
 -- The kept links stand at the front of the list that they were laid to. Assumes nothing.
 use borrow.Author.Needs.{needs}
 use mathlib.Core.Path.{_≡_, sym, ap, subst, _∙_}
-use mathlib.Core.List.{List, map, flatten}
+use mathlib.Core.List.{List}
 use native.Mathlib.Omega.{arith}
 use Prim.Native.Nat.{ℕ, _*_, _≤_}
 use lib.ListN.{length, take}
 use lib.Seq.{length-take-le}
 use lib.IntN.{ℤ}
 use Rattle.geom.specs.declared.Point.{Point}
-use Rattle.segm.specs.Lists.{written}
 use Rattle.segm.specs.Segments.{Drawing, width, segments}
 use Rattle.segm.proofs.Laid.{segments-written}
 use Rattle.build.specs.Links.{keptLinks}
 use Rattle.build.proofs.Kept.{length-kept}
 use Rattle.string_clip.specs.Paths.{clipPaths, Kept}
-use Rattle.string_clip.specs.Run.{totals, coordinates}
+use Rattle.string_clip.specs.Run.{totals, Writes}
 use Rattle.string_clip.specs.Writing.{linksPaths}
 use Rattle.string_clip.proofs.Links.{kept}
 use Rattle.string_clip.proofs.clip_with.Statement.{statement}
@@ -96,8 +95,7 @@ returns c =
     let z = l .before .before .before .before in
     let a = s (k z) .args in (
       l .clip-links .ensures .0 ∙ ap totals (paths-are z),
-      l .clip-links .ensures .1 ∙ ap (λ (p : List (List Point)). written (coordinates (flatten p)) (a .points .now)) (paths-are z),
-      l .clip-links .ensures .2 ∙ ap (λ (p : List (List Point)). written (map length p) (a .lengths .now)) (paths-are z),
+      subst (λ (p : List (List Point)). Writes p (a .points .now) (a .lengths .now) (l .clip-links .last .1 .0) (l .clip-links .last .1 .1 .0)) (paths-are z) (l .clip-links .ensures .1),
     )
 
 pub clip-with-spec : {M : Type 1} → statement M

@@ -70,7 +70,7 @@ unfolding totals
 returns c =
     let n = c .before .before .before .before .before .before .before .before .before .before in
     let travel-is : c .travel .result ≡ tally travelOf (stepsOf (paths n)) = c .travel .ensures ∙ sym (found n .travel) in
-    (λ i. record { paths = paths-are n i; points = points-are n i; steps = steps-are n i; travel = travel-is i }, n .walk-links .ensures .1, n .walk-links .ensures .2)
+    (λ i. record { paths = paths-are n i; points = points-are n i; steps = steps-are n i; travel = travel-is i }, n .walk-links .ensures .1)
 
 pub clip-links-spec : {M : Type 1} → statement M
 clip-links-spec =

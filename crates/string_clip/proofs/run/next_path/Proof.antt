@@ -12,7 +12,7 @@ use Rattle.segm.specs.Segments.{Drawing, segments}
 use Rattle.clip_walk.specs.Walk.{has, taken, bitsLeft}
 use Rattle.string_clip.specs.Paths.{pathPoints}
 use Rattle.string_clip.specs.Run.{coordinates}
-use Rattle.clip_walk.specs.Flat.{moveOf, graph, followEnds}
+use Rattle.clip_walk.specs.Flat.{movesOn, bitsAfter, moveOf, graph, followEnds}
 use Rattle.string_clip.specs.Writing.{endsPoints, pathAt}
 use Rattle.string_clip.proofs.Points.{length-points}
 use Rattle.clip_walk.proofs.Flat.{follow-few}
@@ -102,9 +102,11 @@ module _ (f : tie.After-follow) where
 
   -- the moves, at the front of their list
   front : take (f .follow .result) (f .follow .last .1 .1 .1 .1 .1 .1 .0) ≡ s (h t) .args .k ∷ ends t
+  unfolding movesOn
   front = ap (take (f .follow .result)) (f .follow .ensures .1) ∙ take-written (s (h t) .args .k ∷ ends t) (s (h t) .args .moves .now) (f .follow .result) (f .follow .ensures .0)
 
   number-front : length (take (f .follow .result) (f .follow .last .1 .1 .1 .1 .1 .1 .0)) ≡ f .follow .result
+  unfolding movesOn
   number-front = ap length front ∙ sym (f .follow .ensures .0)
 
 slice-reshare-prefix-write-path : tie.Need-slice-reshare-prefix-write-path
@@ -114,12 +116,14 @@ slice-aggregate-write-path : tie.Need-slice-aggregate-write-path
 slice-aggregate-write-path c = sym (number-front (c .before .before .before .before .before))
 
 write-path-requires : tie.Need-write-path-requires
+unfolding movesOn
 write-path-requires c κs =
     let f = c .before .before .before .before .before .before in
     let p = s (h (t f)) .pre in
     (p .0 .kept .few, omega (arith, number-front f, f .follow .ensures .0), omega (arith, number-front f, f .follow .ensures .0, number (t f), p .4))
 
 add-result : tie.Need-add-result
+unfolding movesOn
 add-result c = let f = c .before .before .before .before .before .before .before .before in record { fits = omega (arith, f .follow .ensures .0, few (t f)) }
 
 same-length : tie.Need-same-length
@@ -132,6 +136,7 @@ same-length-3 : tie.Need-same-length-3
 same-length-3 c = search needs
 
 returns : tie.Need-returns
+unfolding movesOn bitsAfter
 returns c =
     let w = c .before in
     let f = w .before .before .before .before .before .before .before in

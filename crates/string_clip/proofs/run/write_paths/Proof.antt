@@ -1,17 +1,16 @@
 -- Paths written and paths to come are all paths. Assumes nothing.
 use borrow.Author.Needs.{needs}
 use mathlib.Core.Path.{_≡_, refl, sym, ap, ap₂, subst, _∙_}
-use mathlib.Core.List.{List, _++_, map, flatten}
+use mathlib.Core.List.{List, _++_, flatten}
 use native.Mathlib.Omega.{arith}
 use Prim.Native.Nat.{ℕ, _+_, _*_, _-_, _%_, _<_, _≤_}
 use lib.ListN.{length, getD, take, drop, set, length-set, length-take, length-drop}
 use lib.IntN.{ℤ}
 use Rattle.geom.specs.declared.Point.{Point}
-use Rattle.segm.specs.Lists.{written}
 use Rattle.segm.specs.Segments.{Drawing, segments}
 use Rattle.clip_walk.specs.Walk.{bitsLeft, takenAll}
 use Rattle.string_clip.specs.Paths.{pathPoints}
-use Rattle.string_clip.specs.Run.{coordinates}
+use Rattle.string_clip.specs.Run.{Writes}
 use Rattle.string_clip.specs.Writing.{pathAt, linksPaths}
 use Rattle.string_clip.proofs.Found.{walk-found, found-fit}
 use Rattle.string_clip.proofs.AllPaths.{Walked, none-yet, pass, fewer, points-fit, paths-fit, more, whole}
@@ -228,8 +227,7 @@ returns c =
     let a = s l .args in
     let q : w l .done ≡ linksPaths (links l) = whole (links l) (a .points .now) (a .lengths .now) (l .loop .bits) (l .loop .points) (l .loop .lengths) (l .loop .paths) (l .loop .at) (l .loop .k) (w l) (omega (arith, c .loop-test .left, s l .pre .0 .as-many)) in (
       ap₂ (λ (p : ℕ) (t : ℕ). record { paths = p; points = t }) (w l .paths-are ∙ ap length q) (w l .at-is ∙ ap (λ (d : List (List Point)). length (flatten d)) q),
-      w l .points-are ∙ ap (λ (d : List (List Point)). written (coordinates (flatten d)) (a .points .now)) q,
-      w l .lengths-are ∙ ap (λ (d : List (List Point)). written (map length d) (a .lengths .now)) q,
+      subst (λ (d : List (List Point)). Writes d (a .points .now) (a .lengths .now) (l .loop .points) (l .loop .lengths)) q (record { points-are = w l .points-are; lengths-are = w l .lengths-are }),
     )
 
 pub write-paths-spec : {M : Type 1} → statement M
