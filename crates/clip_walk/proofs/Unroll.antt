@@ -31,21 +31,6 @@ module _ (links : Drawing) where
   unfolding goesOn
   goesOn-left out p bits m e = first-some bits (map (λ k. move k (fitting out p (segmentAt links k))) (node links p)) m e .1
 
-  follow-none : (fuel : ℕ) (out : Bool) (p : Point) (bits : List ℕ) → goesOn links out p bits ≡ none → follow fuel links out p bits ≡ []
-  unfolding follow
-  follow-none zero out p bits e = refl
-  follow-none (suc fuel) out p bits e = rw e
-
-  -- the loop of a path
-  pub follow-on : (out : Bool) (p : Point) (bits : List ℕ) → follow (bitsLeft bits) links out p bits
-      ≡ andThen (goesOn links out p bits) (λ m. m ∷ follow (bitsLeft (taken bits m)) links out (over links out m .end) (taken bits m))
-  unfolding follow
-  follow-on out p bits = go (goesOn links out p bits) refl
-    where
-      go : (o : Option Move) → goesOn links out p bits ≡ o → follow (bitsLeft bits) links out p bits ≡ andThen o (λ m. m ∷ follow (bitsLeft (taken bits m)) links out (over links out m .end) (taken bits m))
-      go none e = follow-none (bitsLeft bits) out p bits e
-      go (some m) e = rw (left-taken bits m (goesOn-left out p bits m e), e)
-
   follow-fewer : (fuel : ℕ) (out : Bool) (p : Point) (bits : List ℕ) → bitsLeft (takenAll bits (follow fuel links out p bits)) ≤ bitsLeft bits
   unfolding follow takenAll
   follow-fewer zero out p bits = omega arith
