@@ -9,6 +9,7 @@ use lib.IntN.{ℤ}
 use Rattle.segm.specs.declared.Segment.{Segment}
 use Rattle.segm.specs.Lists.{written}
 use Rattle.segm.specs.Segments.{Drawing, width, front, segmentsOf, count, segments, numbersOf, laid}
+use Rattle.segm.proofs.Lists.{take-written}
 
 length-numbers : (s : Segment) → length (numbersOf s) ≡ width
 unfolding numbersOf
@@ -41,8 +42,7 @@ segments-laid d = let n : length (laid d) / width ≡ length d = omega (arith, l
 -- ---- written to the front of a lent list
 module _ (d : Drawing) (old : List ℤ) where
   pub take-laid : take (length d * width) (written (laid d) old) ≡ laid d
-  unfolding written
-  take-laid = take-at (laid d) (drop (length (laid d)) old) (length d * width) (length-laid d)
+  take-laid = take-written (laid d) old (length d * width) (sym (length-laid d))
 
   pub segments-written : segments (take (length d * width) (written (laid d) old)) ≡ d
   segments-written = ap segments take-laid ∙ segments-laid d

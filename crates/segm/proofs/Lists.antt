@@ -1,12 +1,12 @@
 -- Laws of lists, members, places and sums: each once, for any list and any summand.
 use mathlib.Core.Path.{_≡_, refl, sym, _∙_, ap, ap₂}
-use mathlib.Core.List.{List, [], _∷_, _++_, map, map-append, append-assoc, append-nil}
+use mathlib.Core.List.{List, [], _∷_, _++_, map, flatten, map-append, append-assoc, append-nil}
 use mathlib.Core.Logic.{_⊎_, inl, inr}
 use mathlib.Core.Bool.{Bool, true, false, _||_, true≢false}
 use Prim.Native.Nat.{ℕ, zero, suc, _<_, _≤_, _+_, _-_, _*_, _^_}
 use native.Mathlib.Nat as N
 use native.Mathlib.Omega.{arith}
-use lib.ListN.{length, getD, take, drop, set, length-append, length-map, length-take, drop-of-length-le}
+use lib.ListN.{length, getD, take, drop, set, length-append, length-map, length-take, length-drop, drop-of-length-le}
 use native.Mathlib.Numerals.{add-one}
 use lib.Seq.{take-suc, take-at, take-all, drop-at, drop-cons, drop-drop, set-at}
 use lib.IntN.{ℤ, pos, natAbs, _+ℤ_, _-ℤ_, +ℤ-idl, +ℤ-idr, +ℤ-assoc}
@@ -173,13 +173,26 @@ module _ {A : Type 0} where
       let d : length answer < length old = omega arith in
       ap (λ (l : List A). set (answer ++ l) k x) (drop-cons old (length answer) x d) ∙ set-at answer _ _ x k (sym e) ∙ sym (simp (append-assoc, length-append, add-one))
 
+  pub length-written : (answer old : List A) → length answer ≤ length old → length (written answer old) ≡ length old
+  unfolding written
+  length-written answer old h = omega (arith, length-append answer (drop (length answer) old), length-drop (length answer) old)
+
+  -- the answer, and what is past it
+  pub take-written : (answer old : List A) (n : ℕ) → n ≡ length answer → take n (written answer old) ≡ answer
+  unfolding written
+  take-written answer old n e = take-at answer (drop (length answer) old) n (sym e)
+
+  pub written-past : (answer old : List A) (n : ℕ) → n ≡ length answer → drop n (written answer old) ≡ drop n old
+  unfolding written
+  written-past answer old n e = drop-at answer (drop (length answer) old) n (sym e) ∙ ap (λ k. drop k old) (sym e)
+
   -- what is past the answer was lent, and more was written to its front
   pub written-part : (answer more old l : List A) (i : ℕ) → l ≡ written answer old → i ≡ length answer
       → take i l ++ (written more (take (length l - i) (drop i l)) ++ drop (length l - i) (drop i l)) ≡ written (answer ++ more) old
   unfolding written
   written-part answer more old l i e q =
       let r = drop (length answer) old in
-      let front : take i l ≡ answer = ap (take i) e ∙ take-at answer r i (sym q) in
+      let front : take i l ≡ answer = ap (take i) e ∙ take-written answer old i q in
       let back : drop i l ≡ r = ap (drop i) e ∙ drop-at answer r i (sym q) in
       let n : length l - i ≡ length r = omega (arith, ap length e, length-append answer r) in
       let past : drop (length more) r ≡ drop (length (answer ++ more)) old = drop-drop (length more) (length answer) old ∙ ap (λ k. drop k old) (sym (length-append answer more)) in
@@ -192,3 +205,14 @@ module _ {A : Type 0} where
   written-map f l z old i h k =
       let n : i ≡ length (map f (take i l)) = sym (length-map (take i l) f ∙ length-take i l ∙ omega arith) in
       written-more (map f (take i l)) old i (f (getD l i z)) n (omega arith) ∙ ap (λ (a : List A). written a old) (sym (ap (λ m. map f (take m l)) (add-one i) ∙ ap (map f) (take-suc l i z h) ∙ map-append f (take i l) (getD l i z ∷ [])))
+
+-- ---- entries through a function, and lists of lists
+pub getD-map : {A B : Type 0} (f : A → B) (l : List A) (i : ℕ) (z : A) (w : B) → i < length l → getD (map f l) i w ≡ f (getD l i z)
+getD-map f [] i z w h = absurd (omega arith)
+getD-map f (x ∷ l) zero z w h = refl
+getD-map f (x ∷ l) (suc i) z w h = getD-map f l i z w (omega arith)
+
+pub flatten-++ : {A : Type 0} (l m : List (List A)) → flatten (l ++ m) ≡ flatten l ++ flatten m
+unfolding flatten
+flatten-++ [] m = refl
+flatten-++ (x ∷ l) m = ap (x ++_) (flatten-++ l m) ∙ sym (append-assoc x (flatten l) (flatten m))

@@ -1,6 +1,6 @@
 -- All paths: those written, those to come, and the links passed, which have no line bit.
 use mathlib.Core.Path.{_≡_, refl, sym, _∙_, ap, subst}
-use mathlib.Core.List.{List, [], _∷_, _++_, map, map-append, flatten, append-nil, append-assoc}
+use mathlib.Core.List.{List, [], _∷_, _++_, map, map-append, flatten, append-nil}
 use mathlib.Core.Option.{Option, none, some}
 use mathlib.Core.Bool.{Bool, true}
 use Prim.Native.Nat.{ℕ, zero, suc, _+_, _*_, _-_, _%_, _<_, _≤_}
@@ -13,7 +13,7 @@ use Rattle.integers.proofs.Booleans.{clash}
 use Rattle.geom.specs.declared.Point.{Point}
 use Rattle.segm.specs.Lists.{written}
 use Rattle.segm.specs.Segments.{Drawing}
-use Rattle.segm.proofs.Lists.{written-more, written-part}
+use Rattle.segm.proofs.Lists.{written-more, written-part, flatten-++}
 use Rattle.clip_walk.specs.Walk.{has, lineBits, Move, move, isLeft, taken, takenAll, bitsLeft, begins, over, goesOn, andThen, follow, pathFrom, walkFrom, walk}
 use Rattle.string_clip.specs.Paths.{pathPoints}
 use Rattle.string_clip.specs.Run.{coordinates}
@@ -23,11 +23,6 @@ use Rattle.string_clip.proofs.ReadBack.{length-coordinates}
 use Rattle.string_clip.proofs.Points.{coordinates-++}
 use Rattle.clip_walk.proofs.Flat.{length-taken}
 use Rattle.clip_walk.proofs.Begins.{none-set, first-set, begins-at, begins-nowhere}
-
-flatten-++ : {A : Type 0} (l m : List (List A)) → flatten (l ++ m) ≡ flatten l ++ flatten m
-unfolding flatten
-flatten-++ [] m = refl
-flatten-++ (x ∷ l) m = ap (x ++_) (flatten-++ l m) ∙ sym (append-assoc x (flatten l) (flatten m))
 
 -- the first bit of link k
 first-left : (bits : List ℕ) (k : ℕ) → (getD bits k 0 % 4 ≡ 0 → ⊥) → isLeft bits (move k (has true (getD bits k 0))) ≡ true

@@ -5,9 +5,8 @@ use mathlib.Core.Logic.{inl, inr}
 use mathlib.Core.Bool.{Bool, true}
 use Prim.Native.Nat.{ℕ, _%_, _*_, _<_}
 use native.Mathlib.Omega.{arith}
-use lib.ListN.{length, getD, take, drop}
-use lib.Seq.{take-at}
-use Rattle.segm.specs.Lists.{_∈_, written}
+use lib.ListN.{length, getD}
+use Rattle.segm.specs.Lists.{_∈_}
 use Rattle.segm.specs.Segments.{Drawing}
 use Rattle.segm.proofs.Tallies.{cases}
 use Rattle.ends.specs.Ends.{endPoint}
@@ -20,11 +19,6 @@ use Rattle.clip_walk.proofs.Unroll.{left-taken}
 use Rattle.clip_walk.proofs.Flat.{length-taken, bits-few, follow-below}
 use Rattle.clip_walk.proofs.FlatIsWalk.{first-move, move-start, move-end, nodes-sound, path-is}
 use Rattle.clip_walk.proofs.Begins.{first-set}
-
--- what was written is taken
-pub take-written : {A : Type 0} (answer old : List A) (n : ℕ) → n ≡ length answer → take n (written answer old) ≡ answer
-unfolding written
-take-written answer old n e = take-at answer (drop (length answer) old) n (sym e)
 
 map-on : {A : Type 0} (f g : ℕ → A) (l : List ℕ) → ((k : ℕ) → k ∈ l → f k ≡ g k) → map f l ≡ map g l
 map-on f g [] h = refl

@@ -1,6 +1,6 @@
 -- The points of a path, by place, and as they are written.
 use mathlib.Core.Path.{_≡_, refl, sym, _∙_, ap}
-use mathlib.Core.List.{List, [], _∷_, _++_, map, reverseAux, append-assoc}
+use mathlib.Core.List.{List, [], _∷_, _++_, reverseAux, append-assoc}
 use mathlib.Core.Bool.{Bool, true, false}
 use Prim.Native.Nat.{ℕ, zero, suc, _+_, _*_, _-_, _<_, _≤_}
 use native.Mathlib.Omega.{arith}
@@ -11,7 +11,7 @@ use lib.IntN.{ℤ}
 use Rattle.geom.specs.declared.Point.{Point}
 use Rattle.segm.specs.Lists.{written}
 use Rattle.segm.specs.Segments.{Drawing}
-use Rattle.segm.proofs.Lists.{written-more}
+use Rattle.segm.proofs.Lists.{written-more, getD-map}
 use Rattle.ends.specs.Ends.{endPoint}
 use Rattle.graph.specs.Nodes.{otherEnd}
 use Rattle.string_clip.specs.Paths.{finished}
@@ -20,11 +20,6 @@ use Rattle.string_clip.specs.Writing.{origin, throughEnds, endsPoints}
 use Rattle.string_clip.proofs.ReadBack.{length-coordinates}
 
 -- ---- lists
-getD-map : {A B : Type 0} (f : A → B) (l : List A) (i : ℕ) (z : A) (w : B) → i < length l → getD (map f l) i w ≡ f (getD l i z)
-getD-map f [] i z w h = absurd (omega arith)
-getD-map f (x ∷ l) zero z w h = refl
-getD-map f (x ∷ l) (suc i) z w h = getD-map f l i z w (omega arith)
-
 module _ {A : Type 0} (z : A) where
   getD-after : (l r : List A) (i : ℕ) → getD (reverseAux l r) (length l + i) z ≡ getD r i z
   getD-after [] r i = ap (λ n. getD r n z) (omega arith)

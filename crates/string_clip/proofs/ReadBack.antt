@@ -1,10 +1,10 @@
 -- What a run writes is read back, and the lent lists are as long as before.
-use mathlib.Core.Path.{_≡_, refl, _∙_, ap}
+use mathlib.Core.Path.{_≡_, refl, ap}
 use mathlib.Core.List.{List, [], _∷_, _++_, map, flatten, append-assoc}
-use Prim.Native.Nat.{ℕ, _*_, _≤_}
+use Prim.Native.Nat.{ℕ, _*_}
 use native.Mathlib.Omega.{arith}
-use lib.ListN.{length, drop, length-append, length-drop}
-use lib.Seq.{take-append-seam, drop-append-seam, drop-at}
+use lib.ListN.{length}
+use lib.Seq.{take-append-seam, drop-append-seam}
 use lib.IntN.{ℤ}
 use Rattle.geom.specs.declared.Point.{Point}
 use Rattle.segm.specs.Lists.{written}
@@ -29,13 +29,3 @@ pub length-coordinates : (l : List Point) → length (coordinates l) ≡ 2 * len
 unfolding coordinates
 length-coordinates [] = refl
 length-coordinates (p ∷ l) = omega (arith, length-coordinates l)
-
-module _ {A : Type 0} (answer old : List A) where
-  pub length-written : length answer ≤ length old → length (written answer old) ≡ length old
-  unfolding written
-  length-written h = omega (arith, length-append answer (drop (length answer) old), length-drop (length answer) old)
-
-  -- past the answer
-  pub written-past : (n : ℕ) → length answer ≡ n → drop n (written answer old) ≡ drop n old
-  unfolding written
-  written-past n e = drop-at answer (drop (length answer) old) n e ∙ ap (λ z. drop z old) e

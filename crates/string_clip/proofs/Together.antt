@@ -12,6 +12,7 @@ use Rattle.integers.proofs.Booleans.{neither, nor-l, nor-r}
 use Rattle.geom.specs.Points.{within}
 use Rattle.segm.specs.Lists.{_∈_, any, tally}
 use Rattle.segm.specs.Segments.{Drawing, count, segments}
+use Rattle.segm.proofs.Lists.{length-written, written-past}
 use Rattle.segm.proofs.Tallies.{cases, tally-cong, tally-+, tally-one, tally-in, tally-some}
 use Rattle.segm.proofs.Segments.{length-segments}
 use Rattle.checks.specs.declared.Verdict.the-variants.{Accepted}
@@ -28,7 +29,7 @@ use Rattle.clip_walk.specs.Walk.{Step, one}
 use Rattle.string_clip.specs.Paths.{clipPaths, stepsOf, travelOf}
 use Rattle.string_clip.specs.Run.{totals, coordinates, Outcome, answered, clipOutcome, output}
 use Rattle.string_clip.specs.Claim.{Direction, drawn, travelled, ownSteps, ownTravel, same, count as times, OneOf, rayKeeps, InsideAndOutside, Room, Tells, Together}
-use Rattle.string_clip.proofs.ReadBack.{read-back, length-coordinates, length-written, written-past}
+use Rattle.string_clip.proofs.ReadBack.{read-back, length-coordinates}
 use Rattle.string_clip.proofs.Own.{same-true, same-refl, in-drawn, drawn-apart, once-among, run-tally, keeps-drawn}
 use Rattle.string_clip.proofs.Found.{travel-either, clip-fits}
 
@@ -50,7 +51,7 @@ run-tells d g rule filter points lengths h k =
       few-points = fits .0;
       few-paths = fits .1;
       as-long = (length-written (coordinates (flatten paths)) points (omega (arith, fits .0)), length-written (map length paths) lengths (omega (arith, fits .1)));
-      past = (written-past (coordinates (flatten paths)) points (2 * length (flatten paths)) f, written-past (map length paths) lengths (length paths) m);
+      past = (written-past (coordinates (flatten paths)) points (2 * length (flatten paths)) (sym f), written-past (map length paths) lengths (length paths) (sym m));
     }
 
 -- ---- two runs

@@ -9,6 +9,7 @@ use lib.ListN.{length, getD, take, length-take}
 use Rattle.geom.specs.declared.Point.{Point}
 use Rattle.segm.specs.Lists.{written}
 use Rattle.segm.specs.Segments.{Drawing, segments}
+use Rattle.segm.proofs.Lists.{take-written}
 use Rattle.clip_walk.specs.Walk.{has, taken, bitsLeft}
 use Rattle.string_clip.specs.Paths.{pathPoints}
 use Rattle.string_clip.specs.Run.{coordinates}
@@ -16,7 +17,7 @@ use Rattle.clip_walk.specs.Flat.{movesOn, bitsAfter, moveOf, graph, followEnds}
 use Rattle.string_clip.specs.Writing.{endsPoints, pathAt}
 use Rattle.string_clip.proofs.Points.{length-points}
 use Rattle.clip_walk.proofs.Flat.{follow-few}
-use Rattle.string_clip.proofs.OnePath.{take-written, can-begin, as-many-rest, sound-rest, fewer-rest, points-of, bits-of}
+use Rattle.string_clip.proofs.OnePath.{can-begin, as-many-rest, sound-rest, fewer-rest, points-of, bits-of}
 use Rattle.string_clip.proofs.run.next_path.Statement.{statement}
 use Rattle.string_clip.proofs.run.next_path.Tie as tie
 
