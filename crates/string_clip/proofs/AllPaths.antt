@@ -94,7 +94,7 @@ module _ (links : Drawing) where
     as-many = q;
   }
 
-  module _ (points₀ : List ℤ) (lengths₀ bits : List ℕ) (points : List ℤ) (lengths : List ℕ) (paths at k : ℕ) (w : Walked points₀ lengths₀ bits points lengths paths at k) where
+  module _ {points₀ : List ℤ} {lengths₀ bits : List ℕ} {points : List ℤ} {lengths : List ℕ} {paths at k : ℕ} (w : Walked points₀ lengths₀ bits points lengths paths at k) where
     -- a link without line bits
     pub pass : getD bits k 0 % 4 ≡ 0 → Walked points₀ lengths₀ bits points lengths paths at (k + 1)
     pass h = record {

@@ -41,7 +41,7 @@ module _ (links : Drawing) (out : Bool) where
       let forth : moveOf (length links) out k .forth ≡ out = ap (λ (m : Move). m .forth) (first-move (length links) out k h) in
       ap (finished out) (through-is k es (λ f. cases (λ q. omega arith) (b f))) ∙ ap (λ (o : Bool). finished o (through links o moves)) (sym forth)
 
-module _ (links : Drawing) (flat starts nodes bits : List ℕ) (w : Walking links flat starts nodes bits) (k : ℕ) (inside : k < length bits) where
+module _ {links : Drawing} {flat starts nodes bits : List ℕ} (w : Walking links flat starts nodes bits) {k : ℕ} (inside : k < length bits) where
   abbrev g : Graph
   g = graph flat starts nodes
 
@@ -52,11 +52,11 @@ module _ (links : Drawing) (flat starts nodes bits : List ℕ) (w : Walking link
   first out = first-move (length bits) out k inside
 
   -- its first move can be made
-  pub can-begin : (out : Bool) → out ≡ has true (getD bits k 0) → (getD bits k 0 % 4 ≡ 0 → ⊥) → isLeft bits (moveOf (length bits) out k) ≡ true
+  pub can-begin : {out : Bool} → out ≡ has true (getD bits k 0) → (getD bits k 0 % 4 ≡ 0 → ⊥) → isLeft bits (moveOf (length bits) out k) ≡ true
   unfolding isLeft
-  can-begin out e h = ap (isLeft bits) (first out ∙ ap (move k) e) ∙ first-set (getD bits k 0) h
+  can-begin {out} e h = ap (isLeft bits) (first out ∙ ap (move k) e) ∙ first-set (getD bits k 0) h
 
-  module _ (out : Bool) (rest : List ℕ) (r : rest ≡ taken bits (moveOf (length bits) out k)) where
+  module _ (out : Bool) {rest : List ℕ} (r : rest ≡ taken bits (moveOf (length bits) out k)) where
     abbrev ends : List ℕ
     ends = followEnds (bitsLeft rest) g out k rest
 

@@ -47,7 +47,7 @@ take-requires c κs =
       omega (arith, p .1),
       omega (arith, p .0 .kept .few, p .0 .as-many),
       omega (arith, p .0 .nodes-are .each-end, p .0 .as-many),
-      can-begin (links h) (s h .args .flat .now) (s h .args .starts .now) (s h .args .nodes .now) (bits h) (p .0) (s h .args .k) (p .1) (h .has .result) (out-is h) (p .2),
+      can-begin (p .0) (p .1) (out-is h) (p .2),
     )
 
 module _ (t : tie.After-take) where
@@ -61,18 +61,18 @@ module _ (t : tie.After-take) where
   rest-is = t .take .ensures
 
   as-many : length rest ≡ length (bits h)
-  as-many = as-many-rest (links h) (s h .args .flat .now) (s h .args .starts .now) (s h .args .nodes .now) (bits h) (s h .pre .0) (s h .args .k) (s h .pre .1) (h .has .result) rest rest-is
+  as-many = as-many-rest (s h .pre .0) (s h .pre .1) (h .has .result) rest-is
 
   abbrev ends : List ℕ
   ends = followEnds (bitsLeft rest) (graph (s h .args .flat .now) (s h .args .starts .now) (s h .args .nodes .now)) (h .has .result) (s h .args .k) rest
 
   points-are : endsPoints (links h) (h .has .result) (s h .args .k ∷ ends) ≡ pathPoints (links h) (pathAt (links h) (bits h) (s h .args .k))
-  points-are = points-of (links h) (s h .args .flat .now) (s h .args .starts .now) (s h .args .nodes .now) (bits h) (s h .pre .0) (s h .args .k) (s h .pre .1) (h .has .result) rest rest-is (out-is h)
+  points-are = points-of (s h .pre .0) (s h .pre .1) (h .has .result) rest-is (out-is h)
 
   fewer : bitsLeft rest < 2 * length (bits h)
   fewer =
-      fewer-rest (links h) (s h .args .flat .now) (s h .args .starts .now) (s h .args .nodes .now) (bits h) (s h .pre .0) (s h .args .k) (s h .pre .1) (h .has .result) rest rest-is
-      (can-begin (links h) (s h .args .flat .now) (s h .args .starts .now) (s h .args .nodes .now) (bits h) (s h .pre .0) (s h .args .k) (s h .pre .1) (h .has .result) (out-is h) (s h .pre .2))
+      fewer-rest (s h .pre .0) (s h .pre .1) (h .has .result) rest-is
+      (can-begin (s h .pre .0) (s h .pre .1) (out-is h) (s h .pre .2))
 
   few : length ends ≤ 2048
   few = omega (
@@ -93,7 +93,7 @@ follow-requires c κs =
     let h = t .before .before in
     let p = s h .pre in (
       omega (arith, p .1, as-many t),
-      sound-rest (links h) (s h .args .flat .now) (s h .args .starts .now) (s h .args .nodes .now) (bits h) (p .0) (s h .args .k) (p .1) (h .has .result) (rest t) (rest-is t),
+      sound-rest (p .0) (p .1) (h .has .result) (rest-is t),
       omega (arith, p .3, fewer t),
     )
 
@@ -146,7 +146,7 @@ returns c =
       w .write-path .ensures
           ∙ ap (λ (p : List Point). written (coordinates p) (a .args .points .now)) (ap (endsPoints (links (h (t f))) (h (t f) .has .result)) (front f) ∙ points-are (t f)),
       f .follow .ensures .2
-          ∙ bits-of (links (h (t f))) (a .args .flat .now) (a .args .starts .now) (a .args .nodes .now) (bits (h (t f))) (a .pre .0) (a .args .k) (a .pre .1) (h (t f) .has .result) (rest (t f)) (rest-is (t f)) (out-is (h (t f))),
+          ∙ bits-of (a .pre .0) (a .pre .1) (h (t f) .has .result) (rest-is (t f)) (out-is (h (t f))),
     )
 
 pub next-path-spec : {M : Type 1} → statement M

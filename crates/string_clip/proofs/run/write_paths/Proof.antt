@@ -67,7 +67,7 @@ loop-again : tie.Need-loop-again Inv-loop μ-loop
 loop-again c =
     let l = c .before .before .before in
     record {
-      walked = pass (links l) (s l .args .points .now) (s l .args .lengths .now) (l .loop .bits) (l .loop .points) (l .loop .lengths) (l .loop .paths) (l .loop .at) (l .loop .k) (w l) (c .if1 .taken);
+      walked = pass (links l) (w l) (c .if1 .taken);
       moves-room = l .loop .inv .moves-room;
       points-room = l .loop .inv .points-room;
       lengths-room = l .loop .inv .lengths-room;
@@ -89,7 +89,7 @@ module _ (e : tie.Else1 Inv-loop μ-loop) where
   points-room : 2 * (l .loop .at + length found) ≤ length (l .loop .points)
   points-room = omega (
     arith,
-    points-fit (links l) (s l .args .points .now) (s l .args .lengths .now) (l .loop .bits) (l .loop .points) (l .loop .lengths) (l .loop .paths) (l .loop .at) (l .loop .k) (w l) inside line,
+    points-fit (links l) (w l) inside line,
     all-fit l,
     s l .pre .3,
     l .loop .inv .points-room,
@@ -98,7 +98,7 @@ module _ (e : tie.Else1 Inv-loop μ-loop) where
   paths-room : l .loop .paths < length (s l .args .lengths .now)
   paths-room = omega (
     arith,
-    paths-fit (links l) (s l .args .points .now) (s l .args .lengths .now) (l .loop .bits) (l .loop .points) (l .loop .lengths) (l .loop .paths) (l .loop .at) (l .loop .k) (w l) inside line,
+    paths-fit (links l) (w l) inside line,
     all-fit l,
     s l .pre .4,
   )
@@ -106,7 +106,7 @@ module _ (e : tie.Else1 Inv-loop μ-loop) where
   few-paths : l .loop .paths < 2048
   few-paths = omega (
     arith,
-    paths-fit (links l) (s l .args .points .now) (s l .args .lengths .now) (l .loop .bits) (l .loop .points) (l .loop .lengths) (l .loop .paths) (l .loop .at) (l .loop .k) (w l) inside line,
+    paths-fit (links l) (w l) inside line,
     all-fit l,
     s l .pre .0 .as-many,
     s l .pre .0 .kept .few,
@@ -116,7 +116,7 @@ module _ (e : tie.Else1 Inv-loop μ-loop) where
   few : l .loop .at + length found ≤ 4096
   few = omega (
     arith,
-    points-fit (links l) (s l .args .points .now) (s l .args .lengths .now) (l .loop .bits) (l .loop .points) (l .loop .lengths) (l .loop .paths) (l .loop .at) (l .loop .k) (w l) inside line,
+    points-fit (links l) (w l) inside line,
     all-fit l,
     s l .pre .0 .as-many,
     s l .pre .0 .kept .few,
@@ -172,7 +172,7 @@ module _ (n : tie.After-next-path Inv-loop μ-loop) where
   walked-on =
       subst (λ (b : List ℕ). Walked (links (l e)) (s (l e) .args .points .now) (s (l e) .args .lengths .now) b points-after (set (l e .loop .lengths) (l e .loop .paths) (n .next-path .result)) (l e .loop .paths + 1) (l e .loop .at + n .next-path .result) (l e .loop .k)) (sym after-is)
       (subst (λ m. Walked (links (l e)) (s (l e) .args .points .now) (s (l e) .args .lengths .now) (takenAll (l e .loop .bits) (pathAt (links (l e)) (l e .loop .bits) (l e .loop .k))) points-after (set (l e .loop .lengths) (l e .loop .paths) m) (l e .loop .paths + 1) (l e .loop .at + m) (l e .loop .k)) (sym number)
-      (more (links (l e)) (s (l e) .args .points .now) (s (l e) .args .lengths .now) (l e .loop .bits) (l e .loop .points) (l e .loop .lengths) (l e .loop .paths) (l e .loop .at) (l e .loop .k) (w (l e)) (inside e) (line e) _ (n .next-path .ensures .1) (paths-room e)))
+      (more (links (l e)) (w (l e)) (inside e) (line e) _ (n .next-path .ensures .1) (paths-room e)))
 
 cast-lengths : tie.Need-cast-lengths Inv-loop μ-loop
 cast-lengths c = let n = c .before .before .before .before .before in record { fits = omega (arith, number n, few (e n)) }
@@ -195,7 +195,7 @@ loop-less-2 c =
     omega (
       arith,
       ap bitsLeft (after-is n),
-      fewer (links (l (e n))) (s (l (e n)) .args .points .now) (s (l (e n)) .args .lengths .now) (l (e n) .loop .bits) (l (e n) .loop .points) (l (e n) .loop .lengths) (l (e n) .loop .paths) (l (e n) .loop .at) (l (e n) .loop .k) (w (l (e n))) (inside (e n)) (line (e n)),
+      fewer (links (l (e n))) (w (l (e n))) (inside (e n)) (line (e n)),
     )
 
 loop-again-2 : tie.Need-loop-again-2 Inv-loop μ-loop
@@ -225,7 +225,7 @@ returns : tie.Need-returns Inv-loop μ-loop
 returns c =
     let l = c .before in
     let a = s l .args in
-    let q : w l .done ≡ linksPaths (links l) = whole (links l) (a .points .now) (a .lengths .now) (l .loop .bits) (l .loop .points) (l .loop .lengths) (l .loop .paths) (l .loop .at) (l .loop .k) (w l) (omega (arith, c .loop-test .left, s l .pre .0 .as-many)) in (
+    let q : w l .done ≡ linksPaths (links l) = whole (links l) (w l) (omega (arith, c .loop-test .left, s l .pre .0 .as-many)) in (
       ap₂ (λ (p : ℕ) (t : ℕ). record { paths = p; points = t }) (w l .paths-are ∙ ap length q) (w l .at-is ∙ ap (λ (d : List (List Point)). length (flatten d)) q),
       subst (λ (d : List (List Point)). Writes d (a .points .now) (a .lengths .now) (l .loop .points) (l .loop .lengths)) q (record { points-are = w l .points-are; lengths-are = w l .lengths-are }),
     )
