@@ -6,31 +6,28 @@ use mathlib.Core.Bool.{Bool, true, false, cond}
 use Prim.Native.Nat.{ℕ, zero, suc, _+_, _/_, _%_, _<_, _≤_}
 use native.Mathlib.Omega.{arith}
 use native.Mathlib.Decide.{decLe}
-use borrow.Author.Tests.{eq-eqb, ne-eqb, eqb-false}
+use borrow.Author.Tests.{eq-eqb, eqb-false}
 use lib.ListN.{length, getD}
 use Rattle.segm.specs.Lists.{upFrom}
 use Rattle.segm.specs.Segments.{Drawing}
 use Rattle.clip_walk.specs.Walk.{has, Move, move, isLeft, firstLeft, bothMoves, begins}
+use Rattle.clip_walk.proofs.Moves.{none-set}
 
--- no line bit of b is set, or one is
-pub none-set : (b : ℕ) (forth : Bool) → b % 4 ≡ 0 → has forth b ≡ false
-unfolding has
-none-set b true h = ne-eqb (b % 2) 1 (omega arith)
-none-set b false h = ne-eqb (b / 2 % 2) 1 (omega arith)
-
+-- where bit 1 is not set, bit 2 is
 second-set : (b : ℕ) → (b % 4 ≡ 0 → ⊥) → has true b ≡ false → has false b ≡ true
 unfolding has
 second-set b h e = eq-eqb (b / 2 % 2) 1 (omega (arith, eqb-false (b % 2) 1 e))
 
--- the bit that a path begins with: bit 1 if it is set, otherwise bit 2
-pub first-set : (b : ℕ) → (b % 4 ≡ 0 → ⊥) → has (has true b) b ≡ true
-first-set b h = go (has true b) refl
-  where
-    go : (t : Bool) → has true b ≡ t → has t b ≡ true
-    go true e = e
-    go false e = second-set b h e
-
 module _ (bits : List ℕ) where
+  -- the bit that a path begins with: bit 1 if it is set, otherwise bit 2
+  pub first-left : (k : ℕ) → (getD bits k 0 % 4 ≡ 0 → ⊥) → isLeft bits (move k (has true (getD bits k 0))) ≡ true
+  unfolding isLeft
+  first-left k h = go (has true (getD bits k 0)) refl
+    where
+      go : (b : Bool) → has true (getD bits k 0) ≡ b → has b (getD bits k 0) ≡ true
+      go true e = e
+      go false e = second-set (getD bits k 0) h e
+
   -- links without line bits are passed over
   passed : (j : ℕ) (l : List Move) → getD bits j 0 % 4 ≡ 0 → firstLeft bits (move j true ∷ move j false ∷ l) ≡ firstLeft bits l
   unfolding firstLeft isLeft

@@ -23,9 +23,9 @@ use Rattle.graph.specs.Nodes.{linkOf, otherEnd, part, Nodes}
 use Rattle.graph.proofs.Node.{link-low, link-high, other-low, other-high, other-end-below}
 use Rattle.clip_walk.specs.declared.Next.{Next}
 use Rattle.clip_walk.specs.declared.Next.the-variants.{Stop, Leave}
-use Rattle.clip_walk.specs.Walk.{Move, move, isLeft, taken, bitsLeft, firstLeft, over, other, fitting, goesOn, andThen, follow, pathFrom}
+use Rattle.clip_walk.specs.Walk.{Step, Move, move, isLeft, taken, bitsLeft, firstLeft, over, other, fitting, goesOn, andThen, follow, pathFrom}
 use Rattle.clip_walk.specs.Flat.{moveOf, firstEnd, Graph, graph, nextEnd, onward, followEnds, Sound}
-use Rattle.clip_walk.proofs.Moves.{Proper, not-both, way-start, way-end}
+use Rattle.clip_walk.proofs.Moves.{Proper, not-both, way-is}
 use Rattle.clip_walk.proofs.Flat.{length-taken, next-below}
 
 -- ---- one move
@@ -56,8 +56,8 @@ module _ (links : Drawing) (out : Bool) (e : ℕ) where
   move-start = go (decLe m e)
     where
       go : Dec (m ≤ e) → over links out (moveOf m out e) .start ≡ endPoint links e
-      go (yes h) = ap (λ (n : Move). over links out n .start) (move-high m out e h) ∙ way-start out false (segmentAt links (e - m)) ∙ sym (end-b links e h)
-      go (no h) = let l : e < m = omega arith in ap (λ (n : Move). over links out n .start) (move-low m out e l) ∙ way-start out true (segmentAt links e) ∙ sym (end-a links e l)
+      go (yes h) = ap (λ (n : Move). over links out n .start) (move-high m out e h) ∙ ap (λ (σ : Step). σ .start) (way-is out false (segmentAt links (e - m))) ∙ sym (end-b links e h)
+      go (no h) = let l : e < m = omega arith in ap (λ (n : Move). over links out n .start) (move-low m out e l) ∙ ap (λ (σ : Step). σ .start) (way-is out true (segmentAt links e)) ∙ sym (end-a links e l)
 
   pub move-end : e < 2 * m → over links out (moveOf m out e) .end ≡ endPoint links (otherEnd m e)
   unfolding over
@@ -65,12 +65,12 @@ module _ (links : Drawing) (out : Bool) (e : ℕ) where
     where
       go : Dec (m ≤ e) → over links out (moveOf m out e) .end ≡ endPoint links (otherEnd m e)
       go (yes h) =
-          ap (λ (n : Move). over links out n .end) (move-high m out e h) ∙ way-end out false (segmentAt links (e - m))
+          ap (λ (n : Move). over links out n .end) (move-high m out e h) ∙ ap (λ (σ : Step). σ .end) (way-is out false (segmentAt links (e - m)))
           ∙ sym (ap (endPoint links) (other-high m e h) ∙ end-a links (e - m) (omega arith))
       go (no h) =
           let l : e < m = omega arith in
           let q : m + e - m ≡ e = omega arith in
-          ap (λ (n : Move). over links out n .end) (move-low m out e l) ∙ way-end out true (segmentAt links e)
+          ap (λ (n : Move). over links out n .end) (move-low m out e l) ∙ ap (λ (σ : Step). σ .end) (way-is out true (segmentAt links e))
           ∙ sym (ap (endPoint links) (other-low m e l) ∙ end-b links (m + e) (omega arith) ∙ ap (λ k. segmentAt links k .b) q)
 
 -- ---- the bit that fits, by the end at the point

@@ -14,22 +14,24 @@ use Rattle.geom.specs.declared.Point.{Point}
 use Rattle.geom.specs.Points.{ltP, eqP}
 use Rattle.geom.proofs.Points.{eqP-true, eq-eqP, ltP-trans, ltP-irrefl}
 use Rattle.segm.specs.declared.Segment.{Segment}
-use Rattle.segm.specs.Lists.{_∈_, tally, keep, upFrom}
+use Rattle.segm.specs.Lists.{_∈_, tally, upFrom}
 use Rattle.segm.specs.Segments.{Drawing, segmentAt}
-use Rattle.segm.proofs.Tallies.{cases, in-++, in-map, keep-in, in-upFrom, upFrom-in}
+use Rattle.segm.proofs.Tallies.{in-map, in-upFrom, upFrom-in}
 use Rattle.segm.proofs.Segments.{segment-in}
 use Rattle.graph.specs.Nodes.{node}
-use Rattle.clip_walk.specs.Walk.{has, clear, Step, asDrawn, Move, move, isLeft, taken, takenAll, bitsLeft, firstLeft, bothMoves, begins, way, over, other, fitting, goesOn, andThen, follow, pathFrom}
+use Rattle.graph.proofs.Node.{in-node}
+use Rattle.clip_walk.specs.Walk.{has, clear, Step, step, asDrawn, Move, move, isLeft, taken, takenAll, bitsLeft, firstLeft, bothMoves, begins, way, over, other, fitting, goesOn, andThen, follow, pathFrom}
 
 -- each a less than b
 abbrev pub Proper : Drawing → Type 0
 Proper links = (s : Segment) → s ∈ links → ltP (s .a) (s .b) ≡ true
 
 -- ---- line bits
-pub has-zero : (forth : Bool) → has forth 0 ≡ false
+-- no line bit is set
+pub none-set : (b : ℕ) (forth : Bool) → b % 4 ≡ 0 → has forth b ≡ false
 unfolding has
-has-zero true = refl
-has-zero false = refl
+none-set b true h = ne-eqb (b % 2) 1 (omega arith)
+none-set b false h = ne-eqb (b / 2 % 2) 1 (omega arith)
 
 has-cleared : (forth : Bool) (b : ℕ) → has forth b ≡ true → has forth (clear forth b) ≡ false
 unfolding has clear
@@ -60,8 +62,8 @@ module _ (f : Step → ℕ) where
       → worth links bits ≡ f (asDrawn forth (segmentAt links k)) + worth links (set bits k (clear forth (getD bits k 0)))
   unfolding worth segmentAt
   spend [] bits k forth h e = absurd (omega arith)
-  spend (s ∷ links) [] zero forth h e = absurd (clash e (has-zero forth))
-  spend (s ∷ links) [] (suc k) forth h e = absurd (clash e (has-zero forth))
+  spend (s ∷ links) [] zero forth h e = absurd (clash e (none-set 0 forth refl))
+  spend (s ∷ links) [] (suc k) forth h e = absurd (clash e (none-set 0 forth refl))
   spend (s ∷ links) (b ∷ bits) zero forth h e = omega (arith, spend-value forth s b e)
   spend (s ∷ links) (b ∷ bits) (suc k) forth h e = omega (arith, spend links bits k forth (omega arith) e)
 
@@ -124,43 +126,23 @@ unfolding begins isLeft
 begins-none f links bits e = nothing-left f links bits (λ k forth h.
     first-none bits (bothMoves (upFrom 0 (length links))) e (move k forth) (bothMoves-in (upFrom 0 (length links)) k forth (upFrom-in k 0 (length links) (omega arith) (omega arith))))
 
-kept-place : (P : ℕ → Bool) (n k : ℕ) → k ∈ keep P (upFrom 0 n) → (k < n) × (P k ≡ true)
-kept-place P n k m = let r = keep-in P k (upFrom 0 n) m in (omega (arith, in-upFrom k 0 n (r .0) .1), r .1)
-
-in-node : (links : Drawing) (p : Point) (k : ℕ) → k ∈ node links p → (k < length links) × ((segmentAt links k .a ≡ p) ⊎ (segmentAt links k .b ≡ p))
-unfolding node
-in-node links p k m =
-    let starts : ℕ → Bool = λ j. eqP (segmentAt links j .a) p in
-    let ends : ℕ → Bool = λ j. eqP (segmentAt links j .b) p in
-    let n = length links in
-    cases
-    (λ i. let r = kept-place starts n k i in (r .0, inl (eqP-true (r .1))))
-    (λ i. let r = kept-place ends n k i in (r .0, inr (eqP-true (r .1))))
-    (in-++ k (keep starts (upFrom 0 n)) (keep ends (upFrom 0 n)) m)
-
 pub not-both : (p q : Point) → ltP p q ≡ true → ltP q p ≡ true → ⊥
 not-both p q h k = clash (ltP-trans p q p h k) (ltP-irrefl p)
 
-pub way-start : (out greater : Bool) (s : Segment) → way out (asDrawn (Bool·beq out greater) s) .start ≡ cond greater (s .a) (s .b)
+-- outward or backward, the bit that leads to the greater point takes the walk from a to b
+pub way-is : (out greater : Bool) (s : Segment) → way out (asDrawn (Bool·beq out greater) s) ≡ cond greater (step (s .a) (s .b)) (step (s .b) (s .a))
 unfolding way asDrawn
-way-start true true s = refl
-way-start true false s = refl
-way-start false true s = refl
-way-start false false s = refl
-
-pub way-end : (out greater : Bool) (s : Segment) → way out (asDrawn (Bool·beq out greater) s) .end ≡ cond greater (s .b) (s .a)
-unfolding way asDrawn
-way-end true true s = refl
-way-end true false s = refl
-way-end false true s = refl
-way-end false false s = refl
+way-is true true s = refl
+way-is true false s = refl
+way-is false true s = refl
+way-is false false s = refl
 
 -- the bit that fits leads on from the point
 fitting-start : (out : Bool) (p : Point) (s : Segment) → ltP (s .a) (s .b) ≡ true → (s .a ≡ p) ⊎ (s .b ≡ p) → way out (asDrawn (fitting out p s) s) .start ≡ p
 unfolding fitting other
-fitting-start out p s h t = way-start out (ltP p (cond (eqP (s .a) p) (s .b) (s .a))) s ∙ go (dec (eqP (s .a) p)) t
+fitting-start out p s h t = ap (λ (σ : Step). σ .start) (way-is out (ltP p (cond (eqP (s .a) p) (s .b) (s .a))) s) ∙ go (dec (eqP (s .a) p)) t
   where
-    go : (eqP (s .a) p ≡ true) ⊎ (eqP (s .a) p ≡ false) → (s .a ≡ p) ⊎ (s .b ≡ p) → cond (ltP p (cond (eqP (s .a) p) (s .b) (s .a))) (s .a) (s .b) ≡ p
+    go : (eqP (s .a) p ≡ true) ⊎ (eqP (s .a) p ≡ false) → (s .a ≡ p) ⊎ (s .b ≡ p) → cond (ltP p (cond (eqP (s .a) p) (s .b) (s .a))) (step (s .a) (s .b)) (step (s .b) (s .a)) .start ≡ p
     go (inl e) t = rw (e, subst (λ q. ltP q (s .b) ≡ true) (eqP-true e) h) (eqP-true e)
     go (inr e) (inl q) = absurd (clash (eq-eqP q) e)
     go (inr e) (inr q) = rw (e, subst (λ r. ltP r (s .a) ≡ false) q (is-false (ltP (s .b) (s .a)) (not-both (s .a) (s .b) h))) q

@@ -12,12 +12,12 @@ use Rattle.segm.specs.Lists.{tally}
 use Rattle.segm.specs.Segments.{Drawing, nowhere, segmentAt}
 use Rattle.graph.specs.Nodes.{node}
 use Rattle.clip_walk.specs.Walk.{has, clear, Move, move, isLeft, taken, takenAll, bitsLeft, begins, over, fitting, goesOn, andThen, follow, pathFrom, walkFrom}
-use Rattle.clip_walk.proofs.Moves.{has-zero, ones, spend-value, first-some, begins-some}
+use Rattle.clip_walk.proofs.Moves.{none-set, ones, spend-value, first-some, begins-some}
 
 left-set : (bits : List ℕ) (k : ℕ) (forth : Bool) → has forth (getD bits k 0) ≡ true → bitsLeft bits ≡ suc (bitsLeft (set bits k (clear forth (getD bits k 0))))
 unfolding bitsLeft tally
-left-set [] zero forth e = absurd (clash e (has-zero forth))
-left-set [] (suc k) forth e = absurd (clash e (has-zero forth))
+left-set [] zero forth e = absurd (clash e (none-set 0 forth refl))
+left-set [] (suc k) forth e = absurd (clash e (none-set 0 forth refl))
 left-set (b ∷ bits) zero forth e = omega (arith, spend-value ones forth nowhere b e)
 left-set (b ∷ bits) (suc k) forth e = omega (arith, left-set bits k forth e)
 
@@ -31,19 +31,30 @@ module _ (links : Drawing) where
   unfolding goesOn
   goesOn-left out p bits m e = first-some bits (map (λ k. move k (fitting out p (segmentAt links k))) (node links p)) m e .1
 
-  follow-fewer : (fuel : ℕ) (out : Bool) (p : Point) (bits : List ℕ) → bitsLeft (takenAll bits (follow fuel links out p bits)) ≤ bitsLeft bits
-  unfolding follow takenAll
-  follow-fewer zero out p bits = omega arith
-  follow-fewer (suc fuel) out p bits = go (goesOn links out p bits) refl (follow-fewer fuel out)
-    where
-      go : (o : Option Move) → goesOn links out p bits ≡ o → ((q : Point) (bits′ : List ℕ) → bitsLeft (takenAll bits′ (follow fuel links out q bits′)) ≤ bitsLeft bits′)
-          → bitsLeft (takenAll bits (andThen o (λ m. m ∷ follow fuel links out (over links out m .end) (taken bits m)))) ≤ bitsLeft bits
-      go none e ih = omega arith
-      go (some m) e ih = omega (arith, ih (over links out m .end) (taken bits m), left-taken bits m (goesOn-left out p bits m e))
+  -- what each move keeps true of the bits is true when the path ends
+  module _ (P : List ℕ → Type 0) (keeps : (rest : List ℕ) (m : Move) → isLeft rest m ≡ true → P rest → P (taken rest m)) where
+    follow-keeps : (fuel : ℕ) (out : Bool) (p : Point) (bits : List ℕ) → P bits → P (takenAll bits (follow fuel links out p bits))
+    unfolding follow takenAll
+    follow-keeps zero out p bits h = h
+    follow-keeps (suc fuel) out p bits h = go (goesOn links out p bits) refl (follow-keeps fuel out)
+      where
+        go : (o : Option Move) → goesOn links out p bits ≡ o → ((q : Point) (rest : List ℕ) → P rest → P (takenAll rest (follow fuel links out q rest)))
+            → P (takenAll bits (andThen o (λ m. m ∷ follow fuel links out (over links out m .end) (taken bits m))))
+        go none e ih = h
+        go (some m) e ih = ih (over links out m .end) (taken bits m) (keeps bits m (goesOn-left out p bits m e) h)
 
+    pub path-keeps : (bits : List ℕ) (m : Move) → isLeft bits m ≡ true → P bits → P (takenAll bits (pathFrom links bits m))
+    unfolding pathFrom takenAll
+    path-keeps bits m e h = follow-keeps (bitsLeft (taken bits m)) (m .forth) (over links (m .forth) m .end) (taken bits m) (keeps bits m e h)
+
+  -- a path takes a bit at least
   pub path-fewer : (bits : List ℕ) (m : Move) → begins links bits ≡ some m → bitsLeft (takenAll bits (pathFrom links bits m)) < bitsLeft bits
   unfolding pathFrom takenAll
-  path-fewer bits m e = omega (arith, left-taken bits m (begins-some links bits m e .left), follow-fewer (bitsLeft (taken bits m)) (m .forth) (over links (m .forth) m .end) (taken bits m))
+  path-fewer bits m e =
+      let rest = taken bits m in
+      let fewer : bitsLeft (takenAll rest (follow (bitsLeft rest) links (m .forth) (over links (m .forth) m .end) rest)) ≤ bitsLeft rest =
+      follow-keeps (λ (b : List ℕ). bitsLeft b ≤ bitsLeft rest) (λ b n l h. omega (arith, left-taken b n l)) (bitsLeft rest) (m .forth) (over links (m .forth) m .end) rest (omega arith) in
+      omega (arith, left-taken bits m (begins-some links bits m e .left))
 
   -- one turn of the loop of paths
   abbrev pub turn : ℕ → List ℕ → Move → List (List Move)

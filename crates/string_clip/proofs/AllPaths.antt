@@ -1,9 +1,9 @@
 -- All paths: those written, those to come, and the links passed, which have no line bit.
 use mathlib.Core.Path.{_≡_, refl, sym, _∙_, ap, subst}
 use mathlib.Core.List.{List, [], _∷_, _++_, map, map-append, flatten, append-nil}
-use mathlib.Core.Option.{Option, none, some}
-use mathlib.Core.Bool.{Bool, true}
-use Prim.Native.Nat.{ℕ, zero, suc, _+_, _*_, _-_, _%_, _<_, _≤_}
+use mathlib.Core.Option.{Option, some}
+use mathlib.Core.Bool.{true}
+use Prim.Native.Nat.{ℕ, _+_, _*_, _-_, _%_, _<_, _≤_}
 use native.Mathlib.Omega.{arith}
 use native.Mathlib.Decide.{decLe}
 use lib.ListN.{length, getD, take, drop, set, length-append, length-map}
@@ -14,20 +14,16 @@ use Rattle.geom.specs.declared.Point.{Point}
 use Rattle.segm.specs.Lists.{written}
 use Rattle.segm.specs.Segments.{Drawing}
 use Rattle.segm.proofs.Lists.{written-more, written-part, flatten-++}
-use Rattle.clip_walk.specs.Walk.{has, lineBits, Move, move, isLeft, taken, takenAll, bitsLeft, begins, over, goesOn, andThen, follow, pathFrom, walkFrom, walk}
+use Rattle.clip_walk.specs.Walk.{has, lineBits, Move, move, isLeft, taken, takenAll, bitsLeft, begins, andThen, pathFrom, walkFrom, walk}
 use Rattle.string_clip.specs.Paths.{pathPoints}
 use Rattle.string_clip.specs.Run.{coordinates}
 use Rattle.string_clip.specs.Writing.{pathAt, linksPaths}
-use Rattle.clip_walk.proofs.Unroll.{goesOn-left, path-fewer, walk-on}
+use Rattle.clip_walk.proofs.Moves.{none-set}
+use Rattle.clip_walk.proofs.Unroll.{path-keeps, path-fewer, walk-on}
 use Rattle.string_clip.proofs.ReadBack.{length-coordinates}
 use Rattle.string_clip.proofs.Points.{coordinates-++}
 use Rattle.clip_walk.proofs.Flat.{length-taken}
-use Rattle.clip_walk.proofs.Begins.{none-set, first-set, begins-at, begins-nowhere}
-
--- the first bit of link k
-first-left : (bits : List ℕ) (k : ℕ) → (getD bits k 0 % 4 ≡ 0 → ⊥) → isLeft bits (move k (has true (getD bits k 0))) ≡ true
-unfolding isLeft
-first-left bits k h = first-set (getD bits k 0) h
+use Rattle.clip_walk.proofs.Begins.{first-left, begins-at, begins-nowhere}
 
 -- ---- links without line bits stay so
 taken-other : (bits : List ℕ) (m : Move) (j : ℕ) → isLeft bits m ≡ true → getD bits j 0 % 4 ≡ 0 → getD (taken bits m) j 0 % 4 ≡ 0
@@ -37,35 +33,6 @@ taken-other bits m j e h =
     ap (_% 4) (getD-set-other bits (m .place) j _ 0 apart) ∙ h
 
 module _ (links : Drawing) where
-  follow-passed : (fuel : ℕ) (out : Bool) (p : Point) (bits : List ℕ) (j : ℕ) → getD bits j 0 % 4 ≡ 0 → getD (takenAll bits (follow fuel links out p bits)) j 0 % 4 ≡ 0
-  unfolding follow takenAll
-  follow-passed zero out p bits j h = h
-  follow-passed (suc fuel) out p bits j h = go (goesOn links out p bits) refl (follow-passed fuel out)
-    where
-      go : (o : Option Move) → goesOn links out p bits ≡ o
-          → ((q : Point) (rest : List ℕ) (i : ℕ) → getD rest i 0 % 4 ≡ 0 → getD (takenAll rest (follow fuel links out q rest)) i 0 % 4 ≡ 0)
-          → getD (takenAll bits (andThen o (λ m. m ∷ follow fuel links out (over links out m .end) (taken bits m)))) j 0 % 4 ≡ 0
-      go none e ih = h
-      go (some m) e ih = ih (over links out m .end) (taken bits m) j (taken-other bits m j (goesOn-left links out p bits m e) h)
-
-  follow-length : (fuel : ℕ) (out : Bool) (p : Point) (bits : List ℕ) → length (takenAll bits (follow fuel links out p bits)) ≡ length bits
-  unfolding follow takenAll
-  follow-length zero out p bits = refl
-  follow-length (suc fuel) out p bits = go (goesOn links out p bits) (follow-length fuel out)
-    where
-      go : (o : Option Move) → ((q : Point) (rest : List ℕ) → length (takenAll rest (follow fuel links out q rest)) ≡ length rest)
-          → length (takenAll bits (andThen o (λ m. m ∷ follow fuel links out (over links out m .end) (taken bits m)))) ≡ length bits
-      go none ih = refl
-      go (some m) ih = ih (over links out m .end) (taken bits m) ∙ length-taken bits m
-
-  path-passed : (bits : List ℕ) (m : Move) (j : ℕ) → isLeft bits m ≡ true → getD bits j 0 % 4 ≡ 0 → getD (takenAll bits (pathFrom links bits m)) j 0 % 4 ≡ 0
-  unfolding pathFrom takenAll
-  path-passed bits m j e h = follow-passed (bitsLeft (taken bits m)) (m .forth) (over links (m .forth) m .end) (taken bits m) j (taken-other bits m j e h)
-
-  path-keeps : (bits : List ℕ) (m : Move) → length (takenAll bits (pathFrom links bits m)) ≡ length bits
-  unfolding pathFrom takenAll
-  path-keeps bits m = follow-length (bitsLeft (taken bits m)) (m .forth) (over links (m .forth) m .end) (taken bits m) ∙ length-taken bits m
-
   -- ---- the loop
   -- the paths from these bits on
   abbrev pathsFrom : List ℕ → List (List Point)
@@ -172,8 +139,8 @@ module _ (links : Drawing) where
                 ∙ written-more (map length (w .done)) lengths₀ paths (length found) (w .paths-are ∙ sym (length-map (w .done) length)) room
                 ∙ ap (λ (l : List ℕ). written l lengths₀) (sym (map-append length (w .done) (found ∷ [])));
             all = append-snoc (w .done) found (pathsFrom after) ∙ sym all-is;
-            passed = λ j h. path-passed bits (move k (has true (getD bits k 0))) j (first-left bits k line) (w .passed j h);
-            as-many = path-keeps bits (move k (has true (getD bits k 0))) ∙ w .as-many;
+            passed = λ j h. path-keeps links (λ (b : List ℕ). getD b j 0 % 4 ≡ 0) (λ b m e. taken-other b m j e) bits (move k (has true (getD bits k 0))) (first-left bits k line) (w .passed j h);
+            as-many = path-keeps links (λ (b : List ℕ). length b ≡ length links) (λ b m e h. length-taken b m ∙ h) bits (move k (has true (getD bits k 0))) (first-left bits k line) (w .as-many);
           }
 
     -- past the last link every path is written

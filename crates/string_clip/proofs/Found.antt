@@ -5,22 +5,23 @@ use mathlib.Core.Logic.{inl, inr}
 use mathlib.Core.Bool.{Bool, true, false, cond}
 use Prim.Native.Nat.{ℕ, suc, _+_, _*_, _≤_}
 use native.Mathlib.Omega.{arith}
-use lib.ListN.{length, length-append}
+use lib.ListN.{length, length-append, length-map}
 use lib.IntN.{ℤ, natAbs, _-ℤ_}
 use Rattle.integers.proofs.Linear.{ints, of--, of-abs, of-side}
 use Rattle.geom.specs.declared.Point.{Point}
 use Rattle.segm.specs.declared.Segment.{Segment}
 use Rattle.segm.specs.Lists.{_∈_, tally}
 use Rattle.segm.specs.Segments.{Drawing}
-use Rattle.segm.proofs.Tallies.{tally-cong, tally-one, length-keep}
+use Rattle.segm.proofs.Tallies.{tally-cong, tally-one, tally-map, length-keep}
 use Rattle.checks.specs.Accepted.{Good}
 use Rattle.build.specs.declared.ray.Rule.{Rule}
 use Rattle.build.specs.declared.links.Filter.{Filter}
 use Rattle.build.specs.Fills.{fill}
 use Rattle.build.specs.Links.{keeps, keptLinks}
-use Rattle.clip_walk.specs.Walk.{has, lineBits, Step, asDrawn, one, walk}
+use Rattle.clip_walk.specs.Walk.{has, lineBits, Step, asDrawn, one, bitsLeft, walk}
 use Rattle.string_clip.specs.Paths.{linesOf, pathPoints, clipPaths, stepsFrom, stepsOfPath, stepsOf, travelOf}
 use Rattle.clip_walk.proofs.Moves.{Proper, value, worth, ones}
+use Rattle.clip_walk.proofs.Flat.{bits-few}
 use Rattle.string_clip.proofs.Steps.{Long, walk-long, walk-steps}
 use Rattle.string_clip.proofs.Own.{kept-proper}
 
@@ -49,15 +50,10 @@ value-travel s = go (has true (natAbs (s .bits))) (has false (natAbs (s .bits)))
     go false false = omega arith
 
 few-lines : (links : Drawing) → tally linesOf links ≤ 2 * length links
-unfolding tally
-few-lines [] = omega arith
-few-lines (s ∷ links) = go (has true (natAbs (s .bits))) (has false (natAbs (s .bits))) (few-lines links)
-  where
-    go : (p q : Bool) → tally linesOf links ≤ 2 * length links → (one p + one q) + tally linesOf links ≤ 2 * suc (length links)
-    go true true h = omega arith
-    go true false h = omega arith
-    go false true h = omega arith
-    go false false h = omega arith
+unfolding bitsLeft
+few-lines links =
+    let f : Segment → ℕ = λ s. natAbs (s .bits) in
+    omega (arith, bits-few (lineBits links), tally-map (λ b. one (has true b) + one (has false b)) f links, length-map links f)
 
 -- ---- points and paths
 steps-length : (p : Point) (l : List Point) → length (stepsFrom p l) ≡ length l

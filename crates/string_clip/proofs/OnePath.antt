@@ -18,7 +18,7 @@ use Rattle.string_clip.specs.Writing.{throughEnds, endsPoints, pathAt, W
 use Rattle.clip_walk.proofs.Unroll.{left-taken}
 use Rattle.clip_walk.proofs.Flat.{length-taken, bits-few, follow-below}
 use Rattle.clip_walk.proofs.FlatIsWalk.{first-move, move-start, move-end, nodes-sound, path-is}
-use Rattle.clip_walk.proofs.Begins.{first-set}
+use Rattle.clip_walk.proofs.Begins.{first-left}
 
 map-on : {A : Type 0} (f g : ℕ → A) (l : List ℕ) → ((k : ℕ) → k ∈ l → f k ≡ g k) → map f l ≡ map g l
 map-on f g [] h = refl
@@ -54,7 +54,7 @@ module _ {links : Drawing} {flat starts nodes bits : List ℕ} (w : Walking link
   -- its first move can be made
   pub can-begin : {out : Bool} → out ≡ has true (getD bits k 0) → (getD bits k 0 % 4 ≡ 0 → ⊥) → isLeft bits (moveOf (length bits) out k) ≡ true
   unfolding isLeft
-  can-begin {out} e h = ap (isLeft bits) (first out ∙ ap (move k) e) ∙ first-set (getD bits k 0) h
+  can-begin {out} e h = ap (isLeft bits) (first out ∙ ap (move k) e) ∙ first-left bits k h
 
   module _ (out : Bool) {rest : List ℕ} (r : rest ≡ taken bits (moveOf (length bits) out k)) where
     abbrev ends : List ℕ

@@ -3,7 +3,7 @@ use mathlib.Core.Path.{_≡_, refl, sym, _∙_, ap, subst}
 use mathlib.Core.List.{List, [], _∷_}
 use mathlib.Core.Logic.{_⊎_, inl, inr}
 use mathlib.Core.Bool.{Bool, true, false, not, _&&_, _||_, cond, true≢false}
-use Prim.Native.Nat.{ℕ, _+_}
+use Prim.Native.Nat.{ℕ, _+_, _%_}
 use native.Mathlib.Omega.{arith}
 use lib.Dec.{eqb}
 use lib.IntN.{ℤ, pos, natAbs}
@@ -25,7 +25,7 @@ use Rattle.build.proofs.Parts.{fill-top, fill-bottom, fill-lines}
 use Rattle.clip_walk.specs.Walk.{has, lineBits, Step, asDrawn, one}
 use Rattle.string_clip.specs.Paths.{clipPaths, stepsOf}
 use Rattle.string_clip.specs.Claim.{Direction, along, putIf, drawn, travelled, same, enough, rayKeeps}
-use Rattle.clip_walk.proofs.Moves.{Proper, has-zero, worth, not-both}
+use Rattle.clip_walk.proofs.Moves.{Proper, none-set, worth, not-both}
 use Rattle.string_clip.proofs.Steps.{walk-steps}
 
 -- ---- the test `same`
@@ -182,7 +182,7 @@ pub keeps-drawn : (rule : Rule) (boundary : ℤ) (d : Drawing) (forth : Bool) (s
     → (keeps (filterOf (pos 0) boundary) (fill rule d s) ≡ rayKeeps rule boundary d s) × (keeps (filterOf (pos 1) boundary) (fill rule d s) ≡ not (rayKeeps rule boundary d s))
 unfolding keeps sidesSet rayKeeps enough
 keeps-drawn rule boundary d forth s h =
-    let e : eqb (natAbs (s .bits)) 0 ≡ false = ne-eqb (natAbs (s .bits)) 0 (λ (z : natAbs (s .bits) ≡ 0). clash h (subst (λ n. has forth n ≡ false) (sym z) (has-zero forth))) in
+    let e : eqb (natAbs (s .bits)) 0 ≡ false = ne-eqb (natAbs (s .bits)) 0 (λ (z : natAbs (s .bits) ≡ 0). clash h (none-set (natAbs (s .bits)) forth (ap (_% 4) z))) in
     let r = by-sides (eqZ boundary (pos 0)) (filled rule (top d s)) (filled rule (bottom d s)) in (
       rw (fill-lines rule d s, e, fill-top rule d s, fill-bottom rule d s, inside-filter boundary) (r .0),
       rw (fill-lines rule d s, e, fill-top rule d s, fill-bottom rule d s, outside-filter boundary) (r .1),
