@@ -61,8 +61,12 @@ takenAll bits (m ∷ l) = takenAll (taken bits m) l
 abbrev pub one : Bool → ℕ
 one b = cond b 1 0
 
+-- how many line bits are set
+abbrev pub linesIn : ℕ → ℕ
+linesIn bits = one (has true bits) + one (has false bits)
+
 unfoldable pub bitsLeft : List ℕ → ℕ
-bitsLeft bits = tally (λ b. one (has true b) + one (has false b)) bits
+bitsLeft bits = tally linesIn bits
 
 unfoldable pub firstLeft : List ℕ → List Move → Option Move
 firstLeft bits [] = none

@@ -18,7 +18,7 @@ use Rattle.build.specs.declared.ray.Rule.{Rule}
 use Rattle.build.specs.declared.links.Filter.{Filter}
 use Rattle.build.specs.Fills.{fill}
 use Rattle.build.specs.Links.{keeps, keptLinks}
-use Rattle.clip_walk.specs.Walk.{has, lineBits, Step, asDrawn, one, bitsLeft, walk}
+use Rattle.clip_walk.specs.Walk.{has, lineBits, Step, asDrawn, one, linesIn, bitsLeft, walk}
 use Rattle.string_clip.specs.Paths.{linesOf, pathPoints, clipPaths, stepsFrom, stepsOfPath, stepsOf, travelOf}
 use Rattle.clip_walk.proofs.Moves.{Proper, value, worth, ones}
 use Rattle.clip_walk.proofs.Flat.{bits-few}
@@ -53,7 +53,7 @@ few-lines : (links : Drawing) → tally linesOf links ≤ 2 * length links
 unfolding bitsLeft
 few-lines links =
     let f : Segment → ℕ = λ s. natAbs (s .bits) in
-    omega (arith, bits-few (lineBits links), tally-map (λ b. one (has true b) + one (has false b)) f links, length-map links f)
+    omega (arith, bits-few (lineBits links), tally-map linesIn f links, length-map links f)
 
 -- ---- points and paths
 steps-length : (p : Point) (l : List Point) → length (stepsFrom p l) ≡ length l

@@ -19,7 +19,8 @@ use Rattle.build.specs.declared.links.Filter.{Filter}
 use Rattle.build.specs.Links.{keptLinks}
 use Rattle.build.proofs.Kept.{length-kept, kept-in, pairs-kept}
 use Rattle.clip_walk.specs.Walk.{has, asDrawn, one}
-use Rattle.string_clip.specs.Paths.{travelOf, linesOf, Kept}
+use Rattle.string_clip.specs.Paths.{travelOf, linesOf}
+use Rattle.string_clip.specs.Writing.{Kept}
 
 pub kept : (d : Drawing) → Good d → (rule : Rule) (filter : Filter) → Kept (keptLinks rule filter d)
 kept d g rule filter = record {

@@ -1,22 +1,15 @@
 -- Paths as points, their steps and travel. Assumes nothing.
-use mathlib.Core.Path.{_≡_}
 use mathlib.Core.List.{List, [], _∷_, _++_, map, reverse}
 use mathlib.Core.Bool.{Bool, true, false}
-use Prim.Native.Nat.{ℕ, _+_, _≤_}
-use lib.ListN.{length}
-use lib.IntN.{pos, natAbs, _-ℤ_}
-use lib.Signed.{_≤ℤ_}
+use Prim.Native.Nat.{ℕ, _+_}
+use lib.IntN.{natAbs, _-ℤ_}
 use Rattle.geom.specs.declared.Point.{Point}
-use Rattle.geom.specs.Points.{ltP}
 use Rattle.segm.specs.declared.Segment.{Segment}
-use Rattle.segm.specs.Lists.{_∈_}
 use Rattle.segm.specs.Segments.{Drawing}
-use Rattle.graph.specs.Nodes.{Rising}
-use Rattle.checks.specs.Drawing.{endsInRange}
 use Rattle.build.specs.declared.ray.Rule.{Rule}
 use Rattle.build.specs.declared.links.Filter.{Filter}
 use Rattle.build.specs.Links.{keptLinks}
-use Rattle.clip_walk.specs.Walk.{has, one, Step, step, Move, over, walk}
+use Rattle.clip_walk.specs.Walk.{linesIn, Step, step, Move, over, walk}
 
 -- the points that moves come through, the first included
 unfoldable pub through : Drawing → Bool → List Move → List Point
@@ -56,12 +49,4 @@ travelOf σ = natAbs (σ .end .x -ℤ σ .start .x) + natAbs (σ .end .y -ℤ σ
 
 -- how many line bits are set in a segment
 abbrev pub linesOf : Segment → ℕ
-linesOf s = one (has true (natAbs (s .bits))) + one (has false (natAbs (s .bits)))
-
--- ---- what the links of an accepted drawing have, whichever are kept
-pub record Kept (links : Drawing) : Type 0 where
-  pub few : length links ≤ 1024
-  pub near : (s : Segment) → s ∈ links → endsInRange s ≡ true
-  pub proper : (s : Segment) → s ∈ links → ltP (s .a) (s .b) ≡ true
-  pub bits : (s : Segment) → s ∈ links → (pos 0 ≤ℤ s .bits) × (s .bits ≤ℤ pos 3)
-  pub rising : Rising links
+linesOf s = linesIn (natAbs (s .bits))

@@ -1,17 +1,31 @@
--- What the code writes: the points of moves named by ends, one path, and all paths. Assumes nothing.
+-- What the code asks of its links, and what it writes: the points of moves named by ends, one path, and all paths. Assumes nothing.
 use mathlib.Core.Path.{_≡_}
 use mathlib.Core.List.{List, [], _∷_, map, flatten}
 use mathlib.Core.Bool.{Bool, true}
-use Prim.Native.Nat.{ℕ}
+use Prim.Native.Nat.{ℕ, _≤_}
 use lib.ListN.{length, getD}
 use lib.IntN.{pos}
+use lib.Signed.{_≤ℤ_}
 use Rattle.geom.specs.declared.Point.{Point}
+use Rattle.geom.specs.Points.{ltP}
+use Rattle.segm.specs.declared.Segment.{Segment}
+use Rattle.segm.specs.Lists.{_∈_}
 use Rattle.segm.specs.Segments.{Drawing}
 use Rattle.ends.specs.Ends.{endPoint}
-use Rattle.graph.specs.Nodes.{otherEnd, Nodes}
+use Rattle.graph.specs.Nodes.{otherEnd, Rising, Nodes}
+use Rattle.checks.specs.Drawing.{endsInRange}
 use Rattle.clip_walk.specs.Walk.{has, Move, move, pathFrom, walk}
 use Rattle.string_clip.specs.declared.run.Written.{Written}
-use Rattle.string_clip.specs.Paths.{finished, pathPoints, Kept}
+use Rattle.string_clip.specs.Paths.{finished, pathPoints}
+
+-- ---- links
+-- what the links of an accepted drawing have, whichever are kept
+pub record Kept (links : Drawing) : Type 0 where
+  pub few : length links ≤ 1024
+  pub near : (s : Segment) → s ∈ links → endsInRange s ≡ true
+  pub proper : (s : Segment) → s ∈ links → ltP (s .a) (s .b) ≡ true
+  pub bits : (s : Segment) → s ∈ links → (pos 0 ≤ℤ s .bits) × (s .bits ≤ℤ pos 3)
+  pub rising : Rising links
 
 -- ---- points
 -- at no place of a list of points

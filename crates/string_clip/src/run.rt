@@ -9,9 +9,9 @@ ghost use lib.ListN.{length, getD};
 ghost use Rattle.segm.specs.Lists.{written};
 ghost use Rattle.segm.specs.Segments.{segments};
 ghost use Rattle.clip_walk.specs.Walk.{lineBits, takenAll};
-ghost use Rattle.string_clip.specs.Paths.{pathPoints, Kept};
+ghost use Rattle.string_clip.specs.Paths.{pathPoints};
 ghost use Rattle.string_clip.specs.Run.{totals, coordinates, Writes};
-ghost use Rattle.string_clip.specs.Writing.{pathAt, Walking, linksPaths, writtenOf};
+ghost use Rattle.string_clip.specs.Writing.{Kept, pathAt, Walking, linksPaths, writtenOf};
 
 // How many paths and points were written.
 pub struct Written {

@@ -1,16 +1,17 @@
 // What is added up over the links of a clip run: their line bits as the walk counts them down, and their travel.
 use segm::Segment;
 ghost use mathlib.Core.Path.{_≡_};
-ghost use mathlib.Core.Bool.{true, false};
-ghost use Prim.Native.Nat.{_+_, _*_};
+ghost use mathlib.Core.Bool.{true};
+ghost use Prim.Native.Nat.{_*_};
 ghost use lib.ListN.{length};
 ghost use lib.IntN.{pos, natAbs};
 ghost use lib.Signed.{_≤ℤ_};
 ghost use Rattle.segm.specs.Lists.{tally};
 ghost use Rattle.segm.specs.Segments.{segments};
 ghost use Rattle.checks.specs.Drawing.{endsInRange};
-ghost use Rattle.clip_walk.specs.Walk.{has, lineBits, asDrawn, one};
-ghost use Rattle.string_clip.specs.Paths.{travelOf, linesOf, Kept};
+ghost use Rattle.clip_walk.specs.Walk.{lineBits, linesIn, asDrawn};
+ghost use Rattle.string_clip.specs.Paths.{travelOf, linesOf};
+ghost use Rattle.string_clip.specs.Writing.{Kept};
 
 // Line bits in a byte.
 fn to_byte(bits: i32) -> u8
@@ -36,7 +37,7 @@ pub fn line_bits(links: &[i32], bits: &mut [u8])
 
 // How many line bits are set.
 fn lines(bits: u8) -> u64
-    ensures { λ r. ⌜ r ≡ one (has true bits) + one (has false bits) ⌝ }
+    ensures { λ r. ⌜ r ≡ linesIn bits ⌝ }
 {
     (bits % 2 + bits / 2 % 2) as u64
 }

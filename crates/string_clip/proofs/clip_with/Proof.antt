@@ -12,9 +12,9 @@ use Rattle.segm.specs.Segments.{Drawing, width, segments}
 use Rattle.segm.proofs.Laid.{segments-written}
 use Rattle.build.specs.Links.{keptLinks}
 use Rattle.build.proofs.Kept.{length-kept}
-use Rattle.string_clip.specs.Paths.{clipPaths, Kept}
+use Rattle.string_clip.specs.Paths.{clipPaths}
 use Rattle.string_clip.specs.Run.{totals, Writes}
-use Rattle.string_clip.specs.Writing.{linksPaths}
+use Rattle.string_clip.specs.Writing.{Kept, linksPaths}
 use Rattle.string_clip.proofs.Links.{kept}
 use Rattle.string_clip.proofs.clip_with.Statement.{statement}
 use Rattle.string_clip.proofs.clip_with.Tie as tie
