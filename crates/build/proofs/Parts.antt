@@ -8,8 +8,7 @@ use native.Mathlib.Omega.{arith}
 use lib.ListN.{length, length-map}
 use lib.IntN.{ℤ, pos, natAbs}
 use lib.Signed.{_≤ℤ_}
-use Rattle.integers.proofs.Linear.{ints, of-neg, of-pos}
-use Rattle.integers.proofs.Order.{abs-in}
+use Rattle.integers.proofs.Order.{abs-up-to}
 use Rattle.segm.specs.declared.Segment.{Segment}
 use Rattle.segm.specs.Lists.{_∈_}
 use Rattle.segm.specs.Segments.{Drawing, total}
@@ -26,7 +25,7 @@ bit-bound true k = omega arith
 bit-bound false k = omega arith
 
 pub bits-abs : (bits : ℤ) → (pos 0 ≤ℤ bits) × (bits ≤ℤ pos 3) → natAbs bits ≤ 3
-bits-abs bits b = abs-in {z = bits} (omega (ints, of-neg (pos 3), of-pos 3, of-pos 0, b .0)) (b .1)
+bits-abs bits b = abs-up-to 3 bits (b .0) (b .1)
 
 -- ---- a fill's two side bits and its line bits
 double : (b : Bool) → cond b 2 0 ≡ 2 * cond b 1 0

@@ -134,6 +134,9 @@ abs-≤′ n = all1 _ (λ p m. simp to-ℕ (omega arith))
 pub abs-in : {z : ℤ} {n : ℕ} → negℤ (pos n) ≤ℤ z → z ≤ℤ pos n → natAbs z ≤ n
 abs-in {z} {n} h k = abs-≤′ n z .1 (h, k)
 
+pub abs-up-to : (n : ℕ) (z : ℤ) → pos 0 ≤ℤ z → z ≤ℤ pos n → natAbs z ≤ n
+abs-up-to n = all1 _ (λ p m. simp to-ℕ (omega arith))
+
 pub abs-+ : (a b : ℤ) → natAbs (a +ℤ b) ≤ natAbs a + natAbs b
 abs-+ = all2 _ (λ _ _ _ _. simp to-ℕ (omega arith))
 

@@ -17,7 +17,7 @@ pub struct Segment {
 }
 
 // How many numbers a segment has.
-const WIDTH: usize = 6;
+pub const WIDTH: usize = 6;
 
 // How many numbers the largest drawing has, of 1,024 segments.
 pub const MOST: usize = 1024 * WIDTH;

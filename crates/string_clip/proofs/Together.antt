@@ -145,11 +145,11 @@ module _ (numbers : List ℤ) (rule invert boundary : ℤ) (xs : List ℤ) (ns :
   unfolding clipRun
   accepted-drawing = verdict-good _ e
 
-  accepted-outcome : clipOutcome numbers rule invert boundary xs ns ≡ answered Accepted (clipPaths (ruleOf rule) (filterOf invert boundary) (segments numbers)) xs ns
+  pub accepted-outcome : clipOutcome numbers rule invert boundary xs ns ≡ answered Accepted (clipPaths (ruleOf rule) (filterOf invert boundary) (segments numbers)) xs ns
   unfolding clipOutcome
   accepted-outcome = rw e
 
-  accepted-tells : Tells (segments numbers) xs ns (clipOutcome numbers rule invert boundary xs ns)
+  pub accepted-tells : Tells (segments numbers) xs ns (clipOutcome numbers rule invert boundary xs ns)
   unfolding clipRun
   accepted-tells =
       let d = segments numbers in

@@ -1,9 +1,11 @@
 //! A drawing on its way through the comparison, and two answers to it that should be one.
 
-use crate::choices::{Choices, RULES};
+use crate::choices::{Choices, MOST, RULES};
 use crate::drawing::{comma_text, read, Segment, WIDTH};
-use crate::prose::Checked;
+use crate::output::EACH;
+use crate::prose::{Checked, Refusal};
 use crate::ray::Ray;
+use crate::walk::Graph;
 
 /// A drawing with what the prose check and the ray say of it.
 pub struct Case<'a> {
@@ -36,9 +38,23 @@ impl<'a> Case<'a> {
         self.fills.as_ref().map_or(&[], |fills| &fills[rule as usize])
     }
 
+    /// The refusal of a clip run that lends lists of these lengths, if any.
+    pub fn clip_refusal(&self, choices: Choices, lent: [usize; 2]) -> Option<Refusal> {
+        self.checked.run(&zip(choices.list(), MOST), &zip(lent, EACH))
+    }
+
+    /// The links of a clip run of an accepted drawing.
+    pub fn graph(&self, choices: Choices) -> Graph {
+        Graph::new(&self.segments, self.fills(choices.rule), choices)
+    }
+
     pub fn difference(&self, run: &'static str, choices: Choices, [expected, got]: [String; 2]) -> Difference {
         Difference { numbers: self.numbers.to_vec(), run, choices, expected, got }
     }
+}
+
+fn zip<A: Copy, B: Copy, const N: usize>(list: [A; N], other: [B; N]) -> [(A, B); N] {
+    std::array::from_fn(|place| (list[place], other[place]))
 }
 
 /// Two answers that should be one.

@@ -8,7 +8,6 @@ use crate::output::{Output, EACH};
 use crate::random::Random;
 use crate::tally::{Function, Tally};
 use crate::theirs::{agree, Theirs};
-use crate::walk::Graph;
 use crate::{claim, marks};
 use jumperclay::raw;
 
@@ -63,7 +62,7 @@ fn accepted(
     random: &mut Random,
     tally: &mut Tally,
 ) -> Result<Output, Difference> {
-    let mut graph = Graph::new(&case.segments, case.fills(choices.rule), choices);
+    let mut graph = case.graph(choices);
     let walked = graph.walk();
     tally.add_clip(choices, marks::of(&graph, &walked));
     let paths: Vec<_> = walked.into_iter().map(|path| path.points).collect();
@@ -91,15 +90,14 @@ impl Run<'_> {
 
     /// One call on lists of noise: every returned number and every entry, written or not, must be as due.
     fn on_lists(&self, lent: [usize; 2], random: &mut Random, tally: &mut Tally) -> Result<Output, Difference> {
-        let choices = self.choices.list();
-        let due = match self.case.checked.run(&zip(choices, MOST), &zip(lent, EACH)) {
+        let due = match self.case.clip_refusal(self.choices, lent) {
             Some(refusal) => Output::refused(refusal),
             None => Output::of_paths(self.paths),
         };
         tally.add_call(Function::Clip, due.counts.number);
         let mut points = Lent::new(lent[0], random, |noise| noise as i32);
         let mut lengths = Lent::new(lent[1], random, |noise| noise as u32);
-        let [rule, invert, boundary] = choices;
+        let [rule, invert, boundary] = self.choices.list();
         let counts = raw::clip(self.case.numbers, rule, invert, boundary, points.list(), lengths.list());
         if counts == due.counts && points.holds(&due.points) && lengths.holds(&due.lengths) {
             return Ok(Output { counts, points: points.list().to_vec(), lengths: lengths.list().to_vec() });
@@ -114,10 +112,6 @@ impl Run<'_> {
     fn difference(&self, answers: [String; 2]) -> Difference {
         self.case.difference("overlay_clip", self.choices, answers)
     }
-}
-
-fn zip<A: Copy, B: Copy, const N: usize>(list: [A; N], other: [B; N]) -> [(A, B); N] {
-    std::array::from_fn(|place| (list[place], other[place]))
 }
 
 /// Exactly so or longer.

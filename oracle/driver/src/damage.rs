@@ -5,15 +5,17 @@ use crate::random::Random;
 
 /// A copy damaged once to three times. Some are accepted all the same.
 pub fn damaged(drawing: &[i32], random: &mut Random) -> Vec<i32> {
-    let mut copy = drawing.to_vec();
-    for _ in 0..random.pick(&[1, 1, 1, 1, 2, 3]) {
-        copy = match random.below(16) {
-            0..=4 => with_number(copy, random),
-            5 => with_length(copy, random),
-            _ => with_segments(copy, random),
-        };
-    }
-    copy
+    repeated(drawing, random, |copy, random| match random.below(16) {
+        0..=4 => with_number(copy, random),
+        5 => with_length(copy, random),
+        _ => with_segments(copy, random),
+    })
+}
+
+/// A copy damaged once to three times.
+pub fn repeated<T: Clone>(list: &[T], random: &mut Random, damage: fn(Vec<T>, &mut Random) -> Vec<T>) -> Vec<T> {
+    let times = random.pick(&[1, 1, 1, 1, 2, 3]);
+    (0..times).fold(list.to_vec(), |copy, _| damage(copy, random))
 }
 
 /// One number replaced.

@@ -1,23 +1,33 @@
-//! Compares overlay_fills and overlay_clip with the unchanged Rust, and with a check, a ray and a walk written from prose.
+//! Compares overlay_fills and overlay_clip with the unchanged Rust, and with a check, a ray and a walk written from
+//! prose; and the clip program with these and a reader of its text, also from prose.
 
+mod answer;
 #[cfg(feature = "rust")]
 mod bench;
+mod blocks;
 mod case;
+mod case_texts;
+mod cases;
 mod check;
+mod check_texts;
 mod choices;
 mod claim;
 mod clip;
 mod compare;
 mod damage;
+mod damage_text;
 mod drawing;
 mod fills;
 mod generate;
+mod grow;
 mod lent;
 mod lines;
 mod marks;
 mod output;
 mod placement;
+mod places;
 mod plane;
+mod program;
 mod prose;
 mod random;
 mod ray;
@@ -28,6 +38,8 @@ mod store;
 mod stored;
 mod table;
 mod tally;
+mod text;
+mod texts;
 mod theirs;
 mod walk;
 mod windings;
@@ -37,10 +49,18 @@ use std::path::Path;
 use std::process::ExitCode;
 
 const USAGE: &str = "\
-driver check [--seed S] [--drawings N]   replay, then compare N drawings and damaged copies of them
-driver replay [FOLDER]                   compare with the stored answers, in crates/replay if not said
-driver store [FOLDER]                    make the stored answers (needs the Rust)
-driver bench                             time ours and the Rust (needs the Rust)";
+driver check [--seed S] [--drawings N] [--texts N]   compare with all that is stored, then on N drawings and N texts
+driver texts [--seed S] [--texts N]                  compare the clip program alone, on N texts
+driver replay [FOLDER]                               compare with the stored answers, in crates/replay if not said
+driver store [FOLDER]                                make the stored answers (needs the Rust)
+driver cases [FOLDER]                                make the cases of the clip program, in crates/clip_cases if not said
+driver bench                                         time ours and the Rust (needs the Rust)";
+
+struct Options {
+    seed: u64,
+    drawings: usize,
+    texts: usize,
+}
 
 fn main() -> ExitCode {
     let arguments: Vec<String> = env::args().skip(1).collect();
@@ -59,29 +79,37 @@ fn main() -> ExitCode {
 fn run(words: &[&str]) -> Option<bool> {
     match words {
         ["check", options @ ..] => {
-            let (seed, drawings) = options_of(options)?;
+            let Options { seed, drawings, texts } = options_of(options)?;
             println!("{}, seed {seed}", theirs::NOTE);
-            let replayed = stored::replay(&stored::folder());
-            Some(check::check(seed, drawings) && replayed)
+            let stored = [stored::replay(&stored::folder()), cases::check(&cases::folder())];
+            let made = [check::check(seed, drawings), check_texts::check(seed, texts)];
+            Some(stored == [true; 2] && made == [true; 2])
+        }
+        ["texts", options @ ..] => {
+            let Options { seed, texts, .. } = options_of(options)?;
+            Some(check_texts::check(seed, texts))
         }
         ["replay"] => Some(stored::replay(&stored::folder())),
         ["replay", folder] => Some(stored::replay(Path::new(folder))),
+        ["cases"] => Some(cases::store(&cases::folder())),
+        ["cases", folder] => Some(cases::store(Path::new(folder))),
         ["bench" | "store"] => Some(with_rust(words[0], &stored::folder())),
         ["store", folder] => Some(with_rust("store", Path::new(folder))),
         _ => None,
     }
 }
 
-fn options_of(options: &[&str]) -> Option<(u64, usize)> {
-    let (mut seed, mut drawings) = (1, check::DEFAULT_DRAWINGS);
+fn options_of(options: &[&str]) -> Option<Options> {
+    let mut found = Options { seed: 1, drawings: check::DEFAULT_DRAWINGS, texts: check_texts::DEFAULT_TEXTS };
     for option in options.chunks(2) {
         match option {
-            ["--seed", value] => seed = value.parse().ok()?,
-            ["--drawings", value] => drawings = value.parse().ok()?,
+            ["--seed", value] => found.seed = value.parse().ok()?,
+            ["--drawings", value] => found.drawings = value.parse().ok()?,
+            ["--texts", value] => found.texts = value.parse().ok()?,
             _ => return None,
         }
     }
-    Some((seed, drawings))
+    Some(found)
 }
 
 #[cfg(feature = "rust")]

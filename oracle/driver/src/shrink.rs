@@ -1,4 +1,4 @@
-//! Makes a drawing that shows a difference smaller.
+//! Makes a drawing or a text that shows a difference smaller.
 
 use crate::case::Difference;
 use crate::compare::compare;
@@ -7,18 +7,25 @@ use crate::random::Random;
 use crate::tally::Tally;
 use std::collections::HashMap;
 
-/// How many smaller drawings are tried at most.
+/// How many smaller ones are tried at most.
 const TRIES: usize = 1000;
 
 /// Leaves out segments, windings and lines as long as some difference remains, not always the same one. Every rule is
 /// tried, however large the drawing.
-pub fn shrunk(mut found: Difference, random: &Random) -> Difference {
+pub fn shrunk(found: Difference, random: &Random) -> Difference {
+    let differs = |numbers: Vec<i32>| compare(&numbers, usize::MAX, &mut random.clone(), &mut Tally::default()).err();
+    smallest(found, |found| Box::new(smaller(&found.numbers)), differs)
+}
+
+/// Goes on from the first smaller one that differs, as long as there is one.
+pub fn smallest<D, T>(
+    mut found: D,
+    smaller: impl Fn(&D) -> Box<dyn Iterator<Item = T> + '_>,
+    differs: impl Fn(T) -> Option<D>,
+) -> D {
     let mut tries = TRIES;
     loop {
-        let mut candidates = smaller(&found.numbers).take(tries).inspect(|_| tries -= 1);
-        let again = candidates
-            .find_map(|numbers| compare(&numbers, usize::MAX, &mut random.clone(), &mut Tally::default()).err());
-        drop(candidates);
+        let again = smaller(&found).take(tries).inspect(|_| tries -= 1).find_map(&differs);
         match again {
             Some(smaller) => found = smaller,
             None => return found,
@@ -26,15 +33,22 @@ pub fn shrunk(mut found: Difference, random: &Random) -> Difference {
     }
 }
 
-/// Runs of segments left out, the longest first; then cycles of windings taken away; then lines.
-fn smaller(drawing: &[i32]) -> impl Iterator<Item = Vec<i32>> + '_ {
-    let n = drawing.len() / WIDTH;
+/// The list with a run of pieces left out, the longest runs first. A piece lies between two neighbouring cuts.
+pub fn shorter<T: Clone>(list: &[T], cuts: Vec<usize>) -> impl Iterator<Item = Vec<T>> + '_ {
+    let n = cuts.len() - 1;
     let lengths = (0..usize::BITS).map(move |times| n >> times).take_while(|&length| length > 0);
     let runs = lengths.flat_map(move |length| (0..=n - length).step_by(length).map(move |from| (from, from + length)));
-    let without = |(from, to): (usize, usize)| [&drawing[..from * WIDTH], &drawing[to * WIDTH..]].concat();
+    runs.map(move |(from, to)| [&list[..cuts[from]], &list[cuts[to]..]].concat())
+}
+
+/// Runs of segments left out; then cycles of windings taken away; then lines.
+fn smaller(drawing: &[i32]) -> impl Iterator<Item = Vec<i32>> + '_ {
+    let n = drawing.len() / WIDTH;
     let unwound = (0..n).filter_map(|place| without_cycle(read(drawing), place));
     let unlined = (0..n).flat_map(|place| [1, 2].map(|bit| (place, bit)));
-    runs.map(without).chain(unwound).chain(unlined.filter_map(|(place, bit)| without_line(read(drawing), place, bit)))
+    let unlined = unlined.filter_map(|(place, bit)| without_line(read(drawing), place, bit));
+    let segments = (0..=n).map(|place| place * WIDTH).collect();
+    shorter(drawing, segments).chain(unwound).chain(unlined)
 }
 
 /// Takes the winding of one segment away along a cycle through it, so that all points stay as they were.

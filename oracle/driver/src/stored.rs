@@ -4,13 +4,14 @@
 
 use crate::drawing::{commas, MOST_SEGMENTS};
 use crate::output::{Output, EACH};
+use crate::places::in_repository;
 use jumperclay::raw;
 use std::path::{Path, PathBuf};
 use std::{fs, io};
 
 /// Where the program that replays them has them.
 pub fn folder() -> PathBuf {
-    PathBuf::from(env!("CARGO_MANIFEST_DIR")).join("../../crates/replay")
+    in_repository("crates/replay")
 }
 
 fn read(folder: &Path) -> io::Result<(String, String)> {

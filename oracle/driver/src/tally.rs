@@ -90,3 +90,11 @@ impl Tally {
         self.marks.print("clip runs with", ["runs"]);
     }
 }
+
+/// Whether nothing is missing that should have occurred. Says what is.
+pub fn has_all(missing: &[String]) -> bool {
+    if !missing.is_empty() {
+        println!("TOO LITTLE: never occurred: {}", missing.join(", "));
+    }
+    missing.is_empty()
+}

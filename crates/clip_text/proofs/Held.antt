@@ -1,0 +1,81 @@
+-- An accepted run's paths stand in its lists. Assumes nothing.
+use mathlib.Core.Path.{_≡_, refl, sym, ap, subst, _∙_}
+use mathlib.Core.Logic.{inl, inr}
+use mathlib.Core.List.{List, [], _∷_, map, flatten}
+use Prim.Native.Nat.{ℕ, _+_, _*_, _≤_}
+use native.Mathlib.Omega.{arith}
+use lib.ListN.{length, length-append, length-map}
+use lib.IntN.{ℤ}
+use Rattle.geom.specs.declared.Point.{Point}
+use Rattle.segm.specs.Lists.{tally}
+use Rattle.segm.specs.Segments.{width, segments}
+use Rattle.segm.proofs.Lists.{length-written, take-written}
+use Rattle.segm.proofs.Segments.{length-segments}
+use Rattle.checks.specs.declared.Verdict.{Verdict}
+use Rattle.checks.specs.declared.Verdict.the-variants as verdict-is
+use Rattle.checks.specs.Verdict.{verdict}
+use Rattle.checks.specs.Runs.{lent, clipRun}
+use Rattle.checks.proofs.Good.{verdict-room}
+use Rattle.build.specs.Fills.{ruleOf}
+use Rattle.build.specs.Links.{filterOf}
+use Rattle.string_clip.specs.declared.Clipped.the-variants.{Refused}
+use Rattle.string_clip.specs.Paths.{clipPaths}
+use Rattle.string_clip.specs.Claim.{Tells}
+use Rattle.string_clip.specs.Run.{totals, coordinates, Outcome, answered, clipOutcome, told}
+use Rattle.string_clip.proofs.ReadBack.{length-coordinates}
+use Rattle.string_clip.proofs.Together.{accepted-tells, accepted-outcome}
+use Rattle.text.specs.Grammar.{Parsed, BadLine, Drawn, parsed}
+use Rattle.clip_text.specs.Printed.{Held}
+use Rattle.clip_text.specs.Answer.{runOn, textOutcome}
+
+tally-lengths : {A : Type 0} (paths : List (List A)) → tally (λ n. n) (map length paths) ≡ length (flatten paths)
+unfolding tally flatten
+tally-lengths [] = refl
+tally-lengths (l ∷ paths) = ap (length l +_) (tally-lengths paths) ∙ sym (length-append l (flatten paths))
+
+-- what a run writes stands there
+written-held : (paths : List (List Point)) (points : List ℤ) (lengths : List ℕ) → 2 * length (flatten paths) ≤ length points → length paths ≤ length lengths
+    → (let o = answered verdict-is.Accepted paths points lengths in Held (length paths) (o .points) (o .lengths))
+written-held paths points lengths h k =
+    let n = length-map paths length in
+    let m = length-coordinates (flatten paths) in
+    let p = length-written (coordinates (flatten paths)) points (omega (arith, m, h)) in
+    let l = length-written (map length paths) lengths (omega (arith, n, k)) in
+    record {
+      few-paths = omega (arith, l, k);
+      few-points = rw (take-written (map length paths) lengths (length paths) (sym n), tally-lengths paths, p) h;
+    }
+
+module _ (points : List ℤ) (lengths : List ℕ) where
+  abbrev HeldOf : Outcome → Type 0
+  HeldOf o = Held (told (o .answer) .paths) (o .points) (o .lengths)
+
+  nothing-held : Held 0 points lengths
+  unfolding tally
+  nothing-held = record { few-paths = omega arith; few-points = omega arith }
+
+  accepted-held : (numbers : List ℤ) (rule invert boundary : ℤ) → verdict (clipRun numbers rule invert boundary (length points) (length lengths)) ≡ verdict-is.Accepted
+      → HeldOf (answered verdict-is.Accepted (clipPaths (ruleOf rule) (filterOf invert boundary) (segments numbers)) points lengths)
+  unfolding totals clipRun
+  accepted-held numbers rule invert boundary e =
+      let d = segments numbers in
+      let paths = clipPaths (ruleOf rule) (filterOf invert boundary) d in
+      let tells = subst (Tells d points lengths) (accepted-outcome numbers rule invert boundary points lengths e) (accepted-tells numbers rule invert boundary points lengths e) in
+      let n = length-segments numbers in
+      let h : 2 * length (flatten paths) ≤ length points = omega (arith, n, tells .few-points, verdict-room _ e (lent (length points) 8) (inl refl)) in
+      let k : length paths ≤ length lengths = omega (arith, n, tells .few-paths, verdict-room _ e (lent (length lengths) 2) (inr (inl refl))) in
+      written-held paths points lengths h k
+
+  run-held : (numbers : List ℤ) (rule invert boundary : ℤ) → HeldOf (clipOutcome numbers rule invert boundary points lengths)
+  unfolding clipOutcome
+  run-held numbers rule invert boundary = by (verdict (clipRun numbers rule invert boundary (length points) (length lengths))) refl where
+    by : (v : Verdict) → verdict (clipRun numbers rule invert boundary (length points) (length lengths)) ≡ v → HeldOf (answered v (clipPaths (ruleOf rule) (filterOf invert boundary) (segments numbers)) points lengths)
+    by verdict-is.Accepted e = accepted-held numbers rule invert boundary e
+    by (verdict-is.Refused number place) e = nothing-held
+
+  pub text-held : (text : List ℕ) → HeldOf (textOutcome text points lengths)
+  unfolding textOutcome
+  text-held text = by (parsed width text) where
+    by : (p : Parsed) → HeldOf (runOn p points lengths)
+    by (BadLine line) = nothing-held
+    by (Drawn c numbers) = run-held numbers (c .rule) (c .invert) (c .boundary)

@@ -1,0 +1,111 @@
+-- The run decides the arm. Assumes nothing.
+use borrow.Author.Needs.{needs}
+use mathlib.Core.Path.{_≡_, sym, ap, subst, _∙_}
+use mathlib.Core.List.{List}
+use Prim.Native.Nat.{ℕ, _≤_}
+use native.Mathlib.Omega.{arith}
+use lib.ListN.{length}
+use lib.IntN.{ℤ}
+use Rattle.segm.specs.Lists.{written}
+use Rattle.string_clip.specs.declared.Clipped.{Clipped}
+use Rattle.string_clip.specs.Run.{Outcome, outcome, told, pairUp, cut, output}
+use Rattle.clip_text.specs.Printed.{Put, Held, linesOf, printed}
+use Rattle.clip_text.specs.Answer.{textOutcome}
+use Rattle.clip_text.proofs.Held.{text-held}
+use Rattle.clip_text.proofs.Puts.{put-whole}
+use Rattle.clip_text.proofs.answer_with.Statement.{statement}
+use Rattle.clip_text.proofs.answer_with.Tie as tie
+
+clip-text-requires : tie.Need-clip-text-requires
+clip-text-requires c κs = search needs
+
+-- what the run told
+module _ (c : tie.After-clip-text) where
+  abbrev s : tie.Start
+  s = c .before .before .before .before .before .before
+
+  abbrev points : List ℤ
+  points = c .clip-text .last .1 .0
+
+  abbrev lengths : List ℕ
+  lengths = c .clip-text .last .1 .1 .0
+
+  abbrev run : Outcome
+  run = textOutcome (s .args .text .now) (s .args .points .now) (s .args .lengths .now)
+
+  is : {r : Clipped} → c .clip-text .result ≡ r → outcome r points lengths ≡ run
+  is e = ap (λ (r : Clipped). outcome r points lengths) (sym e) ∙ c .clip-text .ensures
+
+  held : {r : Clipped} → c .clip-text .result ≡ r → Held (told r .paths) points lengths
+  held e = subst (λ (o : Outcome). Held (told (o .answer) .paths) (o .points) (o .lengths)) (sym (is e)) (text-held (s .args .points .now) (s .args .lengths .now) (s .args .text .now))
+
+  -- its lines stand at the front
+  whole : {r : Clipped} {k : ℕ} {old new : List ℕ} → c .clip-text .result ≡ r → Put old 0 (linesOf r (cut (told r .paths) lengths (pairUp points))) k new → k ≤ length old
+      → (k ≡ length (printed run)) × (new ≡ written (printed run) old)
+  unfolding printed output
+  whole {r = r} {k = k} {old = old} {new = new} e p h = subst (λ (l : List ℕ). (k ≡ length l) × (new ≡ written l old)) (ap printed (is e)) (put-whole p h)
+
+enum-known-t : tie.Need-enum-known-t
+enum-known-t c = search needs
+
+put-run-requires : tie.Need-put-run-requires
+put-run-requires c κs =
+    let t = c .before .before .before .before in
+    let v = t .before .before .before .before .before in
+    (held v (t .t .given .1), omega (arith, s v .pre, v .clip-text .kept .1 .0))
+
+enum-known-number : tie.Need-enum-known-number
+enum-known-number c = search needs
+
+put-refused-requires : tie.Need-put-refused-requires
+put-refused-requires c κs = search needs
+
+same-length : tie.Need-same-length
+same-length c = search needs
+
+same-length-2 : tie.Need-same-length-2
+same-length-2 c = search needs
+
+same-length-3 : tie.Need-same-length-3
+same-length-3 c = search needs
+
+returns : tie.Need-returns
+returns c =
+    let p = c .before .before in
+    let t = p .before .before .before .before .before in
+    (p .put-run .ensures .1, whole (t .before .before .before .before .before) (t .t .given .1) (p .put-run .ensures .0) (p .put-run .ensures .1))
+
+same-length-4 : tie.Need-same-length-4
+same-length-4 c = search needs
+
+same-length-5 : tie.Need-same-length-5
+same-length-5 c = search needs
+
+same-length-6 : tie.Need-same-length-6
+same-length-6 c = search needs
+
+returns-2 : tie.Need-returns-2
+returns-2 c =
+    let p = c .before .before in
+    let t = p .before .before .before in
+    let v = t .before .before .before .before .before in
+    let few : p .put-refused .result ≤ length (s v .args .out .now) = omega (arith, s v .pre, p .put-refused .ensures .1) in
+    (few, whole v (t .number .given .1) (p .put-refused .ensures .0) few)
+
+pub answer-with-spec : {M : Type 1} → statement M
+answer-with-spec =
+    tie.close
+    (tie.spec
+    clip-text-requires
+    enum-known-t
+    put-run-requires
+    enum-known-number
+    put-refused-requires
+    same-length
+    same-length-2
+    same-length-3
+    returns
+    same-length-4
+    same-length-5
+    same-length-6
+    returns-2)

@@ -1,0 +1,112 @@
+-- The lines of the points passed are put. Assumes nothing.
+use borrow.Author.Needs.{needs}
+use mathlib.Core.Path.{_≡_, refl, _∙_}
+use mathlib.Core.List.{List}
+use native.Mathlib.Omega.{arith}
+use Prim.Native.Nat.{ℕ, _+_, _*_, _-_, _≤_}
+use lib.ListN.{length, getD, drop}
+use lib.IntN.{ℤ, pos}
+use mir.Syntax.{w32}
+use Rattle.integers.proofs.Machine.{read}
+use Rattle.string_clip.specs.Run.{pairUp}
+use Rattle.clip_text.specs.Printed.{pathLines}
+use Rattle.clip_text.proofs.Pairs.{path-more, path-none}
+use Rattle.clip_text.proofs.Puts.{Left, left-all, left-less, left-none}
+use Rattle.clip_text.proofs.print.put_path.Statement.{statement}
+use Rattle.clip_text.proofs.print.put_path.Tie as tie
+
+record Passed (path : ℕ) (points : List ℤ) (old : List ℕ) (at : ℕ) (new : List ℕ) (next i : ℕ) : Type 0 where
+  put : Left (pathLines path 0 (pairUp points)) old at (pathLines path i (pairUp (drop (2 * i) points))) next new
+  inside : 2 * i ≤ length points
+  short : next ≤ at + 86 * i
+  room : length new ≡ length old
+
+abbrev Inv-loop : tie.InvT-loop
+Inv-loop path points out₀ at n next₀ i₀ out next i = Passed path points out₀ at out next i
+
+abbrev μ-loop : tie.MeasureT-loop
+μ-loop path points out₀ at n next₀ i₀ out next i = n - i
+
+loop-holds : tie.Need-loop-holds Inv-loop μ-loop
+loop-holds c =
+    let s = c .before in
+    record { put = left-all (pathLines (s .args .path) 0 (pairUp (s .args .points .now))) (s .args .out .now) (s .args .at); inside = omega arith; short = omega arith; room = refl }
+
+mul-put-point : tie.Need-mul-put-point Inv-loop μ-loop
+mul-put-point c = search needs
+
+mul-put-point-2 : tie.Need-mul-put-point-2 Inv-loop μ-loop
+mul-put-point-2 c = search needs
+
+shared-slice-copy-out-put-point : tie.Need-shared-slice-copy-out-put-point Inv-loop μ-loop
+shared-slice-copy-out-put-point c = search needs
+
+mul-put-point-3 : tie.Need-mul-put-point-3 Inv-loop μ-loop
+mul-put-point-3 c = search needs
+
+add-put-point : tie.Need-add-put-point Inv-loop μ-loop
+add-put-point c = search needs
+
+mul-put-point-4 : tie.Need-mul-put-point-4 Inv-loop μ-loop
+mul-put-point-4 c = search needs
+
+shared-slice-copy-out-put-point-2 : tie.Need-shared-slice-copy-out-put-point-2 Inv-loop μ-loop
+shared-slice-copy-out-put-point-2 c = search needs
+
+put-point-requires : tie.Need-put-point-requires Inv-loop μ-loop
+put-point-requires c κs = search needs
+
+add-i : tie.Need-add-i Inv-loop μ-loop
+add-i c = search needs
+
+loop-less : tie.Need-loop-less Inv-loop μ-loop
+loop-less c = search needs
+
+loop-again : tie.Need-loop-again Inv-loop μ-loop
+loop-again c =
+    let w = c .before .before in
+    let b = w .before .before in
+    let l = b .before .before .before in
+    let s = l .before .before in
+    let v = l .loop .inv in
+    let i = l .loop .i in
+    let points = s .args .points .now in
+    let x = read w32 (getD points (2 * i) (pos 0)) (b .before .put-point-arg .given) in
+    let y = read w32 (getD points (2 * i + 1) (pos 0)) (b .put-point-arg2 .given) in
+    record {
+      put = left-less (v .put) (path-more (s .args .path) i points x y (omega arith)) (w .put-point .ensures .0);
+      inside = omega arith;
+      short = omega (arith, w .put-point .ensures .1, v .short);
+      room = w .put-point .kept .1 .1 .1 .1 .0 ∙ v .room;
+    }
+
+same-length : tie.Need-same-length Inv-loop μ-loop
+same-length c = c .before .loop .inv .room
+
+returns : tie.Need-returns Inv-loop μ-loop
+returns c =
+    let l = c .before in
+    let s = l .before .before in
+    let v = l .loop .inv in
+    (left-none (v .put) (path-none (s .args .path) (l .loop .i) (s .args .points .now) (omega (arith, c .loop-test .left))), omega (arith, v .short, v .inside))
+
+pub put-path-spec : {M : Type 1} → statement M
+put-path-spec =
+    tie.close
+    (tie.spec
+    Inv-loop
+    μ-loop
+    loop-holds
+    mul-put-point
+    mul-put-point-2
+    shared-slice-copy-out-put-point
+    mul-put-point-3
+    add-put-point
+    mul-put-point-4
+    shared-slice-copy-out-put-point-2
+    put-point-requires
+    add-i
+    loop-less
+    loop-again
+    same-length
+    returns)

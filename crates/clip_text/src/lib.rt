@@ -1,0 +1,107 @@
+// The clip run on a comma text, and what is printed of it. Every function here is proved, and the crate assumes nothing of its own.
+// `clip_text` and `answer` have no `requires`: any bytes and any length of the lent lists get an answer.
+mod print;
+mod program;
+
+use print::put_paths;
+use print::put_refused;
+use print::put_total;
+pub use program::run;
+use string_clip::Clipped;
+use string_clip::Totals;
+use text::Choices;
+use text::Reading;
+ghost use mathlib.Core.Path.{_≡_};
+ghost use Prim.Native.Nat.{_+_, _*_, _≤_, _<_, min};
+ghost use lib.ListN.{length, take};
+ghost use Rattle.io.specs.Counts.{Counts};
+ghost use Rattle.segm.specs.Lists.{written};
+ghost use Rattle.segm.specs.Segments.{width};
+ghost use Rattle.string_clip.specs.Run.{outcome, clipOutcome, pairUp, cut};
+ghost use Rattle.string_clip.specs.declared.Clipped.the-variants.{Done};
+ghost use Rattle.clip_text.specs.Printed.{Put, Held, linesOf, printed};
+ghost use Rattle.clip_text.specs.Answer.{textOutcome, answerTo};
+
+// One number more than the largest drawing has: a text with too many is seen to have too many.
+const ROOM: usize = segm::MOST + 1;
+
+// As many numbers and lengths as the largest drawing needs.
+const POINTS: usize = 8 * 1024;
+
+const LENGTHS: usize = 2 * 1024;
+
+// The longest answer: 86 bytes for each of 4,096 points, 90 for the last line.
+pub const LONGEST: usize = 43 * POINTS + 90;
+
+fn least(a: usize, b: usize) -> usize
+    ensures { λ r. ⌜ r ≡ min a b ⌝ }
+{
+    if a < b { a } else { b }
+}
+
+// The clip run on the first n numbers of a list, or on all that it holds.
+fn clip_first(
+    numbers: &[i32],
+    n: usize,
+    c: Choices,
+    points: &mut [i32],
+    lengths: &mut [u32],
+) -> Clipped
+    ensures { λ r. ⌜ outcome r (now (points .exit)) (now (lengths .exit)) ≡ clipOutcome (take (min n (length (now (numbers .entry)))) (now (numbers .entry))) (c .rule) (c .invert) (c .boundary) (now (points .entry)) (now (lengths .entry)) ⌝ }
+{
+    let k = least(n, numbers.len());
+    string_clip::clip(&numbers[..k], c.rule, c.invert, c.boundary, points, lengths)
+}
+
+// The clip run on a text. The list `numbers` is working memory.
+fn clip_read(text: &[u8], numbers: &mut [i32], points: &mut [i32], lengths: &mut [u32]) -> Clipped
+    requires { ⌜ 1024 * width < length (now numbers) ⌝ }
+    ensures { λ r. ⌜ outcome r (now (points .exit)) (now (lengths .exit)) ≡ textOutcome (now (text .entry)) (now (points .entry)) (now (lengths .entry)) ⌝ }
+{
+    match text::read(text, numbers) {
+        Reading::Malformed(line) => Clipped::Refused(1, line),
+        Reading::Read(c, count) => clip_first(numbers, count, c, points, lengths),
+    }
+}
+
+// The clip run on a text: x, y pairs and one length a path, or the refusal, 1 for a malformed text.
+pub fn clip_text(text: &[u8], points: &mut [i32], lengths: &mut [u32]) -> Clipped
+    ensures { λ r. ⌜ outcome r (now (points .exit)) (now (lengths .exit)) ≡ textOutcome (now (text .entry)) (now (points .entry)) (now (lengths .entry)) ⌝ }
+{
+    let mut numbers = [0i32; ROOM];
+    clip_read(text, &mut numbers, points, lengths)
+}
+
+// The lines of an accepted run.
+fn put_run(t: Totals, points: &[i32], lengths: &[u32], out: &mut [u8]) -> usize
+    requires { ⌜ Held (t .paths) (now points) (now lengths) × (43 * length (now points) + 90 ≤ length (now out)) ⌝ }
+    ensures { λ r. ⌜ Put (now (out .entry)) 0 (linesOf (Done t) (cut (t .paths) (now (lengths .entry)) (pairUp (now (points .entry))))) r (now (out .exit)) ⌝ }
+    ensures { λ r. ⌜ r ≤ length (now (out .entry)) ⌝ }
+{
+    let n = t.paths;
+    let next = put_paths(points, &lengths[..n], out);
+    put_total(t, out, next)
+}
+
+// What is printed for a text. The lists `points` and `lengths` are working memory.
+fn answer_with(text: &[u8], points: &mut [i32], lengths: &mut [u32], out: &mut [u8]) -> usize
+    requires { ⌜ 43 * length (now points) + 90 ≤ length (now out) ⌝ }
+    ensures { λ r. ⌜ r ≤ length (now (out .entry)) ⌝ }
+    ensures { λ r. ⌜ (r ≡ length (printed (textOutcome (now (text .entry)) (now (points .entry)) (now (lengths .entry)))))
+        × (now (out .exit) ≡ written (printed (textOutcome (now (text .entry)) (now (points .entry)) (now (lengths .entry)))) (now (out .entry))) ⌝ }
+{
+    match clip_text(text, points, lengths) {
+        Clipped::Done(t) => put_run(t, points, lengths, out),
+        Clipped::Refused(number, place) => put_refused(number, place, out, 0),
+    }
+}
+
+// What is printed for a text, put at the front of `out`; tells how many bytes that are.
+pub fn answer(text: &[u8], out: &mut [u8; LONGEST]) -> usize
+    ensures { λ r. ⌜ Counts r (now (out .exit)) ⌝ }
+    ensures { λ r. ⌜ (r ≡ length (answerTo (now (text .entry)))) × (now (out .exit) ≡ written (answerTo (now (text .entry))) (now (out .entry))) ⌝ }
+{
+    let mut points = [0i32; POINTS];
+    let mut lengths = [0u32; LENGTHS];
+    answer_with(text, &mut points, &mut lengths, out)
+}

@@ -1,0 +1,6 @@
+pub mod Digits
+pub mod Pieces
+pub mod Laws
+pub mod Finding
+pub mod Rows
+pub mod Cases

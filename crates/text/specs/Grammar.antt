@@ -1,0 +1,84 @@
+-- The comma text: what a text holds, or its first bad line. 10 is LF, 44 the comma. Assumes nothing.
+use mathlib.Core.List.{List, [], _∷_, flatten}
+use mathlib.Core.Option.{Option, none, some}
+use mathlib.Core.Bool.{cond}
+use Prim.Native.Nat.{ℕ, zero, suc}
+use lib.Dec.{eqb, ltb}
+use lib.ListN.{length, getD}
+use lib.IntN.{ℤ, pos}
+use Rattle.text.specs.declared.Choices.{Choices}
+use Rattle.text.specs.declared.number.Field.{Field}
+use Rattle.text.specs.declared.number.Field.the-variants.{Number, Malformed}
+use Rattle.text.specs.Decimal.{fieldOf}
+
+-- ---- cutting
+-- x at the front of the first piece
+abbrev pub onto : ℕ → List (List ℕ) → List (List ℕ)
+onto x [] = (x ∷ []) ∷ []
+onto x (piece ∷ rest) = (x ∷ piece) ∷ rest
+
+-- s cut at each byte b: there is one piece more than there are such bytes
+unfoldable pub pieces : ℕ → List ℕ → List (List ℕ)
+pieces b [] = [] ∷ []
+pieces b (x ∷ s) = cond (eqb x b) ([] ∷ pieces b s) (onto x (pieces b s))
+
+-- ---- a line
+abbrev pub andRest : Field → Option (List ℤ) → Option (List ℤ)
+andRest Malformed rest = none
+andRest (Number z) none = none
+andRest (Number z) (some row) = some (z ∷ row)
+
+-- the numbers of exactly k fields, if each is a number
+unfoldable pub row : ℕ → List (List ℕ) → Option (List ℤ)
+row zero [] = some []
+row zero (f ∷ fields) = none
+row (suc k) [] = none
+row (suc k) (f ∷ fields) = andRest (fieldOf f) (row k fields)
+
+-- the first line is rule, invert, boundary, every other one a segment
+unfoldable pub fieldsIn : (width line : ℕ) → ℕ
+fieldsIn width line = cond (eqb line 1) 3 width
+
+-- ---- the lines
+-- the first bad line, or each line's numbers
+pub data Found : Type 0 where
+  Bad : ℕ → Found
+  Rows : List (List ℤ) → Found
+
+-- what follows the last LF: a last line without LF is bad
+abbrev pub afterLast : ℕ → List ℕ → Found
+afterLast line [] = Rows []
+afterLast line (b ∷ s) = Bad line
+
+abbrev pub andLines : ℕ → Option (List ℤ) → Found → Found
+andLines line none rest = Bad line
+andLines line (some r) (Bad later) = Bad later
+andLines line (some r) (Rows rows) = Rows (r ∷ rows)
+
+-- the lines of a text cut at LF, from this line on
+unfoldable pub rowsFrom : (width line : ℕ) → List (List ℕ) → Found
+rowsFrom width line [] = Bad line
+rowsFrom width line (s ∷ []) = afterLast line s
+rowsFrom width line (s ∷ t ∷ rest) = andLines line (row (fieldsIn width line) (pieces 44 s)) (rowsFrom width (suc line) (t ∷ rest))
+
+-- ---- the text
+-- the first bad line, 0 for a text too long, or the choices and the numbers
+pub data Parsed : Type 0 where
+  BadLine : ℕ → Parsed
+  Drawn : Choices → List ℤ → Parsed
+
+unfoldable pub choicesOf : List ℤ → Choices
+choicesOf l = record { rule = getD l 0 (pos 0); invert = getD l 1 (pos 0); boundary = getD l 2 (pos 0) }
+
+-- an empty text has no line: it is bad at line 1
+abbrev pub drawn : Found → Parsed
+drawn (Bad line) = BadLine line
+drawn (Rows []) = BadLine 1
+drawn (Rows (first ∷ rows)) = Drawn (choicesOf first) (flatten rows)
+
+-- how many bytes the longest text has
+abbrev pub most : ℕ
+most = 65536
+
+unfoldable pub parsed : (width : ℕ) → List ℕ → Parsed
+parsed width text = cond (ltb most (length text)) (BadLine 0) (drawn (rowsFrom width 1 (pieces 10 text)))

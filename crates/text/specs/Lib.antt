@@ -1,0 +1,4 @@
+pub mod Decimal
+pub mod Grammar
+pub mod Writing
+pub mod Storing

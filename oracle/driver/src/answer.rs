@@ -1,0 +1,44 @@
+//! What the clip program prints for a text, by document 01's prose.
+
+use crate::case::Case;
+use crate::drawing::{Point, MOST_SEGMENTS};
+use crate::output::{Output, EACH};
+use crate::prose::Refusal;
+use crate::text;
+use jumperclay::raw::Clipped;
+
+/// How long the lists are that the program lends to its run.
+const LENT: [usize; 2] = [EACH[0] * MOST_SEGMENTS, EACH[1] * MOST_SEGMENTS];
+
+pub struct Answer {
+    /// Of the refusal, 0 where there is none.
+    pub number: u64,
+    pub printed: String,
+}
+
+pub fn answer(text: &[u8]) -> Answer {
+    match paths(text) {
+        Ok(paths) => Answer { number: 0, printed: with_total(&paths) },
+        Err(Refusal { number, place }) => Answer { number, printed: format!("refused,{number},{place}\n") },
+    }
+}
+
+fn paths(text: &[u8]) -> Result<Vec<Vec<Point>>, Refusal> {
+    let (choices, numbers) = text::read(text).map_err(|place| Refusal { number: 1, place })?;
+    let case = Case::new(&numbers);
+    match case.clip_refusal(choices, LENT) {
+        Some(refusal) => Err(refusal),
+        None => Ok(case.graph(choices).walk().into_iter().map(|path| path.points).collect()),
+    }
+}
+
+/// A line for each point; last the total.
+fn with_total(paths: &[Vec<Point>]) -> String {
+    let mut lines = Vec::new();
+    for (path, points) in paths.iter().enumerate() {
+        lines.extend(points.iter().enumerate().map(|(point, (x, y))| format!("{path},{point},{x},{y}\n")));
+    }
+    let Clipped { paths, points, steps, travel, .. } = Output::of_paths(paths).counts;
+    lines.push(format!("total,{paths},{points},{steps},{travel}\n"));
+    lines.concat()
+}

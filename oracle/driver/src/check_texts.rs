@@ -1,0 +1,144 @@
+//! The clip program on many texts, beside what the prose says that it prints.
+
+use crate::answer::answer;
+use crate::blocks::in_blocks;
+use crate::case_texts;
+use crate::program::Program;
+use crate::random::Random;
+use crate::shrink::{shorter, smallest};
+use crate::table::Table;
+use crate::tally::has_all;
+use crate::texts::{Kind, KINDS};
+
+/// Blocks of a hundred texts have every kind by its share.
+const BLOCK: usize = 100;
+
+/// To start the program for each takes most of the time.
+pub const DEFAULT_TEXTS: usize = 3000;
+
+/// What a text must have been refused with. The lists that the program lends are always long enough.
+const REFUSALS: [u64; 10] = [1, 2, 3, 4, 5, 6, 7, 8, 9, 10];
+
+/// Of longer ones the two ends are shown.
+const MOST_SHOWN: usize = 2000;
+
+#[derive(Default)]
+struct Tally {
+    /// By columns: good, refused 1, refused otherwise.
+    kinds: Table<&'static str, 3>,
+    refusals: Table<u64, 1>,
+}
+
+impl Tally {
+    fn add(&mut self, kind: &'static str, number: u64) {
+        self.kinds.add(kind, number.min(2) as usize);
+        if number > 0 {
+            self.refusals.add(number, 0);
+        }
+    }
+
+    fn merge(&mut self, other: Self) {
+        self.kinds.merge(other.kinds);
+        self.refusals.merge(other.refusals);
+    }
+
+    fn print(&self) {
+        println!();
+        self.kinds.print("text for the clip program", ["good", "refused 1", "refused else"]);
+        self.refusals.print("refusal due", ["texts"]);
+        let [good, malformed, otherwise] = [0, 1, 2].map(|column| self.kinds.sum(column));
+        let all = good + malformed + otherwise;
+        println!(
+            "{all} texts given to the clip program: {good} good, {malformed} refused 1, {otherwise} refused otherwise"
+        );
+    }
+
+    fn missing(&self) -> Vec<String> {
+        let missing = REFUSALS.iter().filter(|number| !self.refusals.is_full(number));
+        missing.map(|number| format!("refusal {number} of a text")).collect()
+    }
+}
+
+/// What the program prints for a text, and what it should.
+struct Difference {
+    text: Vec<u8>,
+    expected: Vec<u8>,
+    got: Result<Vec<u8>, String>,
+}
+
+impl Difference {
+    fn report(&self) -> String {
+        let got = self.got.as_ref().map_or_else(String::clone, |got| shown(got));
+        format!("{}expected {}got {got}", shown(&self.text), shown(&self.expected))
+    }
+}
+
+/// Gives the stored cases and about this many texts to the program. False where it is not there, or prints something
+/// else, or something is missing.
+pub fn check(seed: u64, texts: usize) -> bool {
+    let Some(program) = Program::find() else { return false };
+    let work = |block, tally: &mut Tally| match block {
+        0 => check_cases(&program, tally),
+        _ => check_block(&program, seed, block, tally),
+    };
+    let (tally, failure) = in_blocks(1 + texts.div_ceil(BLOCK), work, Tally::merge);
+    tally.print();
+    if let Some(failure) = &failure {
+        failure.print(seed);
+    }
+    failure.is_none() && has_all(&tally.missing())
+}
+
+fn check_cases(program: &Program, tally: &mut Tally) -> Result<(), String> {
+    for (name, text) in case_texts::all() {
+        let number = compare(program, text).map_err(|found| format!("stored case {name}\n{}", found.report()))?;
+        tally.add("stored case", number);
+    }
+    Ok(())
+}
+
+fn check_block(program: &Program, seed: u64, block: usize, tally: &mut Tally) -> Result<(), String> {
+    for (place, Kind { name, make, share }) in KINDS.iter().enumerate() {
+        for text in 0..*share {
+            let mut random = Random::new(&[seed, block as u64, place as u64, text as u64]);
+            let compared = compare(program, make(&mut random));
+            let report = |found| format!("{name}, text {text}\n{}", shrunk(program, found).report());
+            tally.add(name, compared.map_err(report)?);
+        }
+    }
+    Ok(())
+}
+
+/// Returns the number of the refusal due, 0 for none.
+fn compare(program: &Program, text: Vec<u8>) -> Result<u64, Difference> {
+    let due = answer(&text);
+    let (expected, got) = (due.printed.into_bytes(), program.printed(&text));
+    if got.as_ref() == Ok(&expected) {
+        return Ok(due.number);
+    }
+    Err(Difference { text, expected, got })
+}
+
+/// Leaves out lines, then bytes, as long as some difference remains.
+fn shrunk(program: &Program, found: Difference) -> Difference {
+    let differs = |text| compare(program, text).err();
+    let few_lines = smallest(found, |found| Box::new(shorter(&found.text, lines(&found.text))), differs);
+    smallest(few_lines, |found| Box::new(shorter(&found.text, (0..=found.text.len()).collect())), differs)
+}
+
+/// Where lines start, and the end.
+fn lines(text: &[u8]) -> Vec<usize> {
+    let starts = (1..text.len()).filter(|&place| text[place - 1] == b'\n');
+    [0].into_iter().chain(starts).chain([text.len()]).collect()
+}
+
+/// Bytes that do not print are escaped; a line is shown in a line.
+fn shown(bytes: &[u8]) -> String {
+    let show = |part: &[u8]| part.escape_ascii().to_string().replace("\\n", "\\n\n");
+    let half = MOST_SHOWN / 2;
+    let all = match bytes.len() {
+        0..=MOST_SHOWN => show(bytes),
+        length => format!("{}\n...\n{}", show(&bytes[..half]), show(&bytes[length - half..])),
+    };
+    format!("{} bytes:\n{}\n", bytes.len(), all.trim_end())
+}

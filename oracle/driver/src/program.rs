@@ -1,0 +1,43 @@
+//! The clip program, run as its users run it.
+
+use crate::places::in_repository;
+use std::io::{self, Write};
+use std::path::PathBuf;
+use std::process::{Command, Output, Stdio};
+use std::thread;
+
+pub struct Program {
+    path: PathBuf,
+}
+
+impl Program {
+    /// Where the prover puts it; none, said so, where it is not there.
+    pub fn find() -> Option<Self> {
+        let path = in_repository("target/bin/clip");
+        let is_there = path.is_file();
+        if !is_there {
+            println!("the clip program is NOT at {}: rt check clip makes it", path.display());
+        }
+        is_there.then_some(Self { path })
+    }
+
+    /// What it prints on standard output for a text on standard input; Err says what went wrong.
+    pub fn printed(&self, text: &[u8]) -> Result<Vec<u8>, String> {
+        match self.run(text) {
+            Ok(Output { status, stdout, .. }) if status.success() => Ok(stdout),
+            Ok(Output { status, stdout, .. }) => Err(format!("{}\n{status}", stdout.escape_ascii())),
+            Err(error) => Err(error.to_string()),
+        }
+    }
+
+    fn run(&self, text: &[u8]) -> io::Result<Output> {
+        let mut command = Command::new(&self.path);
+        let mut child = command.stdin(Stdio::piped()).stdout(Stdio::piped()).spawn()?;
+        let mut input = child.stdin.take().expect("it is piped");
+        thread::scope(|scope| {
+            // What comes after the most bytes need not be read, so writing may fail.
+            scope.spawn(move || input.write_all(text).ok());
+            child.wait_with_output()
+        })
+    }
+}
