@@ -4,4 +4,4 @@ pub mod Pairs
 pub mod Held
 pub mod TextRuns
 pub mod AcceptedText
-pub mod PrintedCases
+pub mod Cases

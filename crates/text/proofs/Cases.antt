@@ -1,40 +1,76 @@
 -- Numbers and texts by computing. Assumes nothing.
 use mathlib.Core.Path.{_≡_, refl}
-use mathlib.Core.List.{[], _∷_, flatten}
-use lib.IntN.{pos, negsuc}
+use mathlib.Core.List.{List, [], _∷_, flatten}
+use Prim.Native.String.{String}
+use lib.IntN.{ℤ, pos, negsuc}
+use Rattle.text.specs.declared.number.Field.{Field}
 use Rattle.text.specs.declared.number.Field.the-variants.{Number, Malformed}
 use Rattle.text.specs.Decimal.{isDigit, worth, positive, fieldOf, digits, decimal, signed}
-use Rattle.text.specs.Grammar.{pieces, row, fieldsIn, rowsFrom, BadLine, Drawn, choicesOf, parsed}
+use Rattle.text.specs.Grammar.{pieces, row, fieldsIn, rowsFrom, Parsed, BadLine, Drawn, choicesOf, parsed}
+use Rattle.text.proofs.Spelled.{bytes}
 
-one-zero : fieldOf (48 ∷ []) ≡ Number (pos 0)
-unfolding fieldOf
-one-zero = refl
+abbrev field : String → Field
+field s = fieldOf (bytes s)
 
-leading-zero : fieldOf (48 ∷ 49 ∷ []) ≡ Malformed
-unfolding fieldOf
-leading-zero = refl
+abbrev text : String → Parsed
+text s = parsed 6 (bytes s)
 
-minus-zero : fieldOf (45 ∷ 48 ∷ []) ≡ Malformed
-unfolding fieldOf positive
-minus-zero = refl
+abbrev drawn : (rule invert boundary : ℤ) → List ℤ → Parsed
+drawn rule invert boundary = Drawn (record { rule = rule; invert = invert; boundary = boundary })
 
-minus-twelve : fieldOf (45 ∷ 49 ∷ 50 ∷ []) ≡ Number (negsuc 11)
-unfolding fieldOf positive worth isDigit
-minus-twelve = refl
+pub record Cases : Type 0 where
+  -- numbers
+  pub zero : field "0" ≡ Number (pos 0)
+  pub nine-digits : field "-999999999" ≡ Number (negsuc 999999998)
+  pub ten-digits : field "1000000000" ≡ Malformed
+  pub leading-zero : field "01" ≡ Malformed
+  pub minus-zero : field "-0" ≡ Malformed
+  pub lone-minus : field "-" ≡ Malformed
+  pub two-minuses : field "--1" ≡ Malformed
+  pub plus : field "+1" ≡ Malformed
+  pub blank : field " 1" ≡ Malformed
+  pub no-byte : field "" ≡ Malformed
+  pub written : signed (negsuc 1029) ≡ bytes "-1030"
+  -- texts
+  pub no-segments : text "1,0,1\n" ≡ drawn (pos 1) (pos 0) (pos 1) []
+  pub one-segment : text "4,-1,0\n0,0,2,0,0,3\n" ≡ drawn (pos 4) (negsuc 0) (pos 0) (pos 0 ∷ pos 0 ∷ pos 2 ∷ pos 0 ∷ pos 0 ∷ pos 3 ∷ [])
+  pub empty : text "" ≡ BadLine 1
+  pub lone-end : text "\n" ≡ BadLine 1
+  pub first-unended : text "1,0,1" ≡ BadLine 1
+  pub first-short : text "1,0\n0,0,2,0,0,3\n" ≡ BadLine 1
+  pub last-unended : text "1,0,1\n0,0,2,0,0,3" ≡ BadLine 2
+  pub five-fields : text "1,0,1\n0,0,2,0,0\n" ≡ BadLine 2
+  pub seven-fields : text "1,0,1\n0,0,2,0,0,3,0\n" ≡ BadLine 2
+  pub trailing-comma : text "1,0,1\n0,0,2,0,0,3,\n" ≡ BadLine 2
+  pub return : text "1,0,1\r\n" ≡ BadLine 1
+  pub blank-line : text "1,0,1\n\n0,0,2,0,0,3\n" ≡ BadLine 2
+  pub third-line : text "1,0,1\n0,0,2,0,0,3\n0,0,2,0,0,x\nx" ≡ BadLine 3
 
-twelve : signed (negsuc 11) ≡ 45 ∷ 49 ∷ 50 ∷ []
-unfolding signed decimal digits
-twelve = refl
-
-empty-text : parsed 6 [] ≡ BadLine 1
-unfolding parsed pieces rowsFrom
-empty-text = refl
-
--- 1,0,1 LF
-first-line : parsed 6 (49 ∷ 44 ∷ 48 ∷ 44 ∷ 49 ∷ 10 ∷ []) ≡ Drawn (record { rule = pos 1; invert = pos 0; boundary = pos 1 }) []
-unfolding parsed pieces rowsFrom row fieldsIn fieldOf positive worth isDigit choicesOf flatten
-first-line = refl
-
-no-last-end : parsed 6 (49 ∷ 44 ∷ 48 ∷ 44 ∷ 49 ∷ []) ≡ BadLine 1
-unfolding parsed pieces rowsFrom
-no-last-end = refl
+pub cases : Cases
+unfolding isDigit worth positive fieldOf digits decimal signed pieces row fieldsIn rowsFrom choicesOf parsed flatten
+cases = record {
+  zero = refl;
+  nine-digits = refl;
+  ten-digits = refl;
+  leading-zero = refl;
+  minus-zero = refl;
+  lone-minus = refl;
+  two-minuses = refl;
+  plus = refl;
+  blank = refl;
+  no-byte = refl;
+  written = refl;
+  no-segments = refl;
+  one-segment = refl;
+  empty = refl;
+  lone-end = refl;
+  first-unended = refl;
+  first-short = refl;
+  last-unended = refl;
+  five-fields = refl;
+  seven-fields = refl;
+  trailing-comma = refl;
+  return = refl;
+  blank-line = refl;
+  third-line = refl;
+}

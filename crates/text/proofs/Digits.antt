@@ -6,8 +6,8 @@ use mathlib.Core.Logic.{inl, inr}
 use Prim.Native.Nat.{ℕ, zero, suc, _+_, _*_, _-_, _/_, _%_, _^_, _<_, _≤_}
 use native.Mathlib.Nat.{pow-suc, pow-le-pow-right, mul-le-mul-right}
 use native.Mathlib.Omega.{arith}
-use borrow.Author.Tests.{ltb-true, ltb-false, eqb-true, eqb-false, lt-ltb, le-ltb, ne-eqb}
-use lib.Dec.{eqb, ltb, lit<, eqb·suc-zero}
+use borrow.Author.Tests.{ltb-true, ltb-false, leb-true, eqb-true, eqb-false, lt-ltb, le-ltb, le-leb, ne-eqb}
+use lib.Dec.{eqb, leb, ltb, lit<, eqb·suc-zero}
 use lib.ListN.{length}
 use lib.IntN.{ℤ, pos, negsuc, natAbs}
 use Rattle.integers.proofs.Booleans.{both, both-l, both-r, neither, nor-l, nor-r}
@@ -59,7 +59,7 @@ bytes-wrote (more {n = n} {s = s} l w) h x m = bytes-wrote w front x m
 worth-more : (v d u : ℕ) (s : List ℕ) → d < 10 → v * 10 + d ≡ u → worth v ((48 + d) ∷ s) ≡ worth u s
 unfolding worth isDigit
 worth-more v d u s h q =
-    let digit : isDigit (48 + d) ≡ true = both (lt-ltb 47 (48 + d) (omega arith)) (lt-ltb (48 + d) 58 (omega arith)) in
+    let digit : isDigit (48 + d) ≡ true = both (le-leb 48 (48 + d) (omega arith)) (le-leb (48 + d) 57 (omega arith)) in
     let e : 48 + d - 48 ≡ d = omega arith in
     rw (digit, e, q)
 
@@ -103,13 +103,17 @@ field-signed (pos (suc n)) h =
 field-signed (negsuc n) h = ap (unlessZero true) (positive-decimal (suc n) (omega arith) h)
 
 -- ---- read, then written
+pub digit : (b : ℕ) → isDigit b ≡ true → (48 ≤ b) × (b ≤ 57)
+unfolding isDigit
+digit b e = (leb-true 48 b (both-l (leb 48 b) (leb b 57) e), leb-true b 57 (both-r (leb 48 b) (leb b 57) e))
+
 -- how digits are read, after digits worth v
 data Reads : ℕ → List ℕ → ℕ → Type 0 where
   end : {v : ℕ} → Reads v [] v
-  next : {v b m : ℕ} {s : List ℕ} → 48 ≤ b → b < 58 → Reads (v * 10 + (b - 48)) s m → Reads v (b ∷ s) m
+  next : {v b m : ℕ} {s : List ℕ} → 48 ≤ b → b ≤ 57 → Reads (v * 10 + (b - 48)) s m → Reads v (b ∷ s) m
 
 reads : (v : ℕ) (s : List ℕ) → 0 < worth v s → Reads v s (worth v s)
-unfolding worth isDigit
+unfolding worth
 reads v [] h = end
 reads v (b ∷ s) h = go (isDigit b) refl h (reads (v * 10 + (b - 48)) s)
   where
@@ -117,7 +121,7 @@ reads v (b ∷ s) h = go (isDigit b) refl h (reads (v * 10 + (b - 48)) s)
     u = worth (v * 10 + (b - 48)) s
 
     go : (t : Bool) → isDigit b ≡ t → 0 < cond t u 0 → (0 < u → Reads (v * 10 + (b - 48)) s u) → Reads v (b ∷ s) (cond t u 0)
-    go true e p r = next (ltb-true 47 b (both-l (ltb 47 b) (ltb b 58) e)) (ltb-true b 58 (both-r (ltb 47 b) (ltb b 58) e)) (r p)
+    go true e p r = let d = digit b e in next (d .0) (d .1) (r p)
     go false e p r = absurd (omega arith)
 
 below-reads : {v m : ℕ} {s : List ℕ} → Reads v s m → m < suc v * 10 ^ length s
@@ -208,11 +212,6 @@ signed-field (b ∷ s) z e = go (eqb b 45) (eqb b 48) refl refl e
 pub length-decimal : (n : ℕ) → length (decimal n) ≤ 20
 unfolding decimal
 length-decimal n = length-wrote (wrote 20 n [])
-
-pub length-signed : (z : ℤ) → length (signed z) ≤ 21
-unfolding signed
-length-signed (pos n) = omega (arith, length-decimal n)
-length-signed (negsuc n) = omega (arith, length-decimal (suc n))
 
 -- a number of j + 1 digits
 pub signed-short : (j : ℕ) (z : ℤ) → natAbs z < 10 ^ suc j → length (signed z) ≤ suc (suc j)

@@ -6,7 +6,7 @@ use mathlib.Core.Logic.{inl, inr}
 use mathlib.Core.Option.{Option, none, some}
 use Prim.Native.Nat.{ℕ, zero, suc, _*_, _%_, _<_, _≤_}
 use native.Mathlib.Omega.{arith}
-use borrow.Author.Tests.{ltb-false, eq-eqb, le-ltb}
+use borrow.Author.Tests.{eq-eqb, le-ltb}
 use lib.Dec.{eqb, ltb}
 use lib.ListN.{length, getD, length-append, length-map}
 use lib.IntN.{ℤ, pos, natAbs}
@@ -21,7 +21,7 @@ use Rattle.text.specs.Decimal.{fieldOf, signed}
 use Rattle.text.specs.Grammar.{pieces, andRest, row, fieldsIn, Found, Bad, Rows, andLines, rowsFrom, BadLine, Drawn, choicesOf, drawn, most, parsed}
 use Rattle.text.specs.Writing.{joined, lineOf, textOf, choiceNumbers, writing, NineDigits, AllNineDigits}
 use Rattle.text.proofs.Digits.{field-signed, signed-field, signed-short, signed-bytes}
-use Rattle.text.proofs.Pieces.{joined-pieces, pieces-cut, pieces-joined, joined-bytes, joined-long, joined-short}
+use Rattle.text.proofs.Pieces.{joined-pieces, pieces-cut, pieces-joined, joined-bytes, joined-short}
 use Rattle.text.proofs.Rows.{differ, row-length, lines-next, fields-later}
 
 -- ---- a line
@@ -166,16 +166,15 @@ pub record Holds (text : List ℕ) (c : Choices) (numbers : List ℤ) : Type 0 w
   pub drawing : Drawing
   pub is : text ≡ writing c drawing
   pub laid-out : numbers ≡ laid drawing
-  pub short : length text ≤ most
 
 pub holds : (text : List ℕ) (c : Choices) (numbers : List ℤ) → parsed width text ≡ Drawn c numbers → Holds text c numbers
 unfolding parsed writing fieldsIn
-holds text c numbers e = go (ltb most (length text)) refl e
+holds text c numbers e = go (ltb most (length text)) e
   where
-    from : (f : Found) → rowsFrom width 1 (pieces 10 text) ≡ f → drawn f ≡ Drawn c numbers → length text ≤ most → Holds text c numbers
-    from (Bad n) p a h = absurd (differ (cc))
-    from (Rows []) p a h = absurd (differ (cc))
-    from (Rows (first ∷ rows)) p a h =
+    from : (f : Found) → rowsFrom width 1 (pieces 10 text) ≡ f → drawn f ≡ Drawn c numbers → Holds text c numbers
+    from (Bad n) p a = absurd (differ (cc))
+    from (Rows []) p a = absurd (differ (cc))
+    from (Rows (first ∷ rows)) p a =
         let l = text-of-rows width 1 text (first ∷ rows) p in
         let six : map numbersOf (map front rows) ≡ rows = fitting-front 0 rows (l .fitting .1) in
         let same : choicesOf first ≡ c = cc in
@@ -185,20 +184,11 @@ holds text c numbers e = go (ltb most (length text)) refl e
           drawing = map front rows;
           is = l .is ∙ ap₂ (λ (r : List ℤ) (q : List (List ℤ)). textOf (r ∷ q)) (sym three) (sym six);
           laid-out = sym flat ∙ ap flatten (sym six) ∙ flatten-laid (map front rows);
-          short = h;
         }
 
-    go : (b : Bool) → ltb most (length text) ≡ b → cond b (BadLine 0) (drawn (rowsFrom width 1 (pieces 10 text))) ≡ Drawn c numbers → Holds text c numbers
-    go true p a = absurd (differ (cc))
-    go false p a = from (rowsFrom width 1 (pieces 10 text)) refl a (ltb-false most (length text) p)
-
--- a byte for each number, at the least
-long-rows : (rows : List (List ℤ)) → length (flatten rows) ≤ length (textOf rows)
-unfolding flatten
-long-rows [] = omega arith
-long-rows (r ∷ rows) =
-    let line : List ℕ = joined 44 (map signed r) in
-    omega (arith, length-append r (flatten rows), ap length (text-cons r rows), length-append line (10 ∷ textOf rows), joined-long 44 (map signed r), length-map r signed, long-rows rows)
+    go : (b : Bool) → cond b (BadLine 0) (drawn (rowsFrom width 1 (pieces 10 text))) ≡ Drawn c numbers → Holds text c numbers
+    go true a = absurd (differ (cc))
+    go false a = from (rowsFrom width 1 (pieces 10 text)) refl a
 
 module _ (text : List ℕ) (c : Choices) (numbers : List ℤ) (e : parsed width text ≡ Drawn c numbers) where
   pub only-writing : text ≡ writing c (segments numbers)
@@ -207,13 +197,6 @@ module _ (text : List ℕ) (c : Choices) (numbers : List ℤ) (e : parsed width 
   pub whole-numbers : whole numbers ≡ true
   unfolding whole
   whole-numbers = let h = holds text c numbers e in eq-eqb (length numbers % width) 0 (omega (arith, ap length (h .laid-out), length-laid (h .drawing)))
-
-  pub most-numbers : length numbers ≤ most
-  unfolding writing flatten
-  most-numbers =
-      let h = holds text c numbers e in
-      let rows : List (List ℤ) = map numbersOf (h .drawing) in
-      omega (arith, ap length (h .laid-out ∙ sym (flatten-laid (h .drawing))), length-append (choiceNumbers c) (flatten rows), long-rows (choiceNumbers c ∷ rows), ap length (h .is), h .short)
 
 pub one-text : (s t : List ℕ) (c : Choices) (numbers : List ℤ) → parsed width s ≡ Drawn c numbers → parsed width t ≡ Drawn c numbers → s ≡ t
 one-text s t c numbers p q = only-writing s c numbers p ∙ sym (only-writing t c numbers q)

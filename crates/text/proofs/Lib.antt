@@ -1,3 +1,4 @@
+pub mod Spelled
 pub mod Digits
 pub mod Pieces
 pub mod Laws

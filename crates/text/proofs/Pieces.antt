@@ -89,13 +89,6 @@ module _ (b : ℕ) where
       go (inr (inl e)) k = rw e pb
       go (inr (inr i)) k = k i
 
-  -- one byte for each piece but one, at the least
-  pub joined-long : (ps : List (List ℕ)) → length ps ≤ suc (length (joined b ps))
-  unfolding joined
-  joined-long [] = omega arith
-  joined-long (p ∷ []) = omega arith
-  joined-long (p ∷ q ∷ ps) = omega (arith, length-append p (b ∷ joined b (q ∷ ps)), joined-long (q ∷ ps))
-
   -- pieces of at most k bytes
   pub joined-short : (k : ℕ) (ps : List (List ℕ)) → ((p : List ℕ) → p ∈ ps → length p ≤ k) → length (joined b ps) ≤ length ps * suc k
   unfolding joined

@@ -2,7 +2,7 @@
 use mathlib.Core.List.{List, [], _∷_}
 use mathlib.Core.Bool.{Bool, true, false, _&&_, _||_, cond}
 use Prim.Native.Nat.{ℕ, zero, suc, _+_, _*_, _-_, _/_, _%_}
-use lib.Dec.{eqb, ltb}
+use lib.Dec.{eqb, leb, ltb}
 use lib.ListN.{length}
 use lib.IntN.{ℤ, pos, negsuc}
 use Rattle.text.specs.declared.number.Field.{Field}
@@ -10,7 +10,7 @@ use Rattle.text.specs.declared.number.Field.the-variants.{Number, Malfor
 
 -- ---- reading
 unfoldable pub isDigit : ℕ → Bool
-isDigit b = ltb 47 b && ltb b 58
+isDigit b = leb 48 b && leb b 57
 
 -- the value of digits that come after digits worth v; 0 if one of them is no digit
 unfoldable pub worth : ℕ → List ℕ → ℕ

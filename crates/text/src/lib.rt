@@ -32,7 +32,7 @@ pub fn read(text: &[u8], numbers: &mut [i32]) -> Reading
     if MOST < text.len() {
         return Reading::Malformed(0);
     }
-    let end = bytes::scan::find(text, 0, text.len(), 10);
+    let end = bytes::scan::find(text, 0, text.len(), b'\n');
     if end == text.len() {
         return Reading::Malformed(1);
     }

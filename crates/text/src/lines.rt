@@ -31,7 +31,7 @@ pub fn read_line(s: &[u8], k: usize, numbers: &mut [i32], at: usize) -> bool
     let mut from: usize = 0;
     let mut i: usize = 0;
     while i < k {
-        let to = bytes::scan::find(s, from, s.len(), 44);
+        let to = bytes::scan::find(s, from, s.len(), b',');
         let Field::Number(z) = number(&s[from..to]) else {
             return false;
         };
@@ -54,7 +54,7 @@ pub fn read_lines(text: &[u8], from: usize, numbers: &mut [i32]) -> Scanned
     let mut line: usize = 2;
     let mut at: usize = 0;
     while start < text.len() {
-        let end = bytes::scan::find(text, start, text.len(), 10);
+        let end = bytes::scan::find(text, start, text.len(), b'\n');
         if end == text.len() {
             return Scanned::Bad(line);
         }

@@ -11,7 +11,7 @@ pub enum Field {
 fn is_digit(b: u8) -> bool
     ensures { λ r. ⌜ r ≡ isDigit b ⌝ }
 {
-    47 < b && b < 58
+    b'0' <= b && b <= b'9'
 }
 
 // The value of at most nine digits, the first of them no 0; 0 if the bytes are no such number.
@@ -21,7 +21,7 @@ fn positive(s: &[u8]) -> u32
     if s.len() == 0 {
         return 0;
     }
-    if s[0] == 48 || 9 < s.len() {
+    if s[0] == b'0' || 9 < s.len() {
         return 0;
     }
     let mut v: u32 = 0;
@@ -31,7 +31,7 @@ fn positive(s: &[u8]) -> u32
         if !is_digit(b) {
             return 0;
         }
-        v = v * 10 + (b - 48) as u32;
+        v = v * 10 + (b - b'0') as u32;
         i += 1;
     }
     v
@@ -61,10 +61,10 @@ pub fn number(field: &[u8]) -> Field
         return Field::Malformed;
     }
     let b = field[0];
-    if b == 45 {
+    if b == b'-' {
         return unless_zero(true, positive(&field[1..]));
     }
-    if b == 48 {
+    if b == b'0' {
         if field.len() == 1 {
             return Field::Number(0);
         }

@@ -7,21 +7,18 @@ use native.Mathlib.Nat.{pow-suc, pow-le-pow-right}
 use native.Mathlib.Numerals.{add-one}
 use native.Mathlib.Omega.{arith}
 use borrow.Author.Needs.{needs}
-use borrow.Author.Tests.{ltb-true, ltb-false, eq-eqb, ne-eqb, not-true, not-false}
+use borrow.Author.Tests.{ltb-false, eq-eqb, ne-eqb, not-true, not-false}
 use lib.Dec.{eqb, ltb, lit<}
 use lib.ListN.{length, getD, drop, drop-of-length-le}
 use lib.Seq.{drop-cons}
-use Rattle.integers.proofs.Booleans.{both-l, both-r, or-l, or-r}
+use Rattle.integers.proofs.Booleans.{or-l, or-r}
 use Rattle.segm.proofs.Tallies.{cases}
 use Rattle.text.specs.Decimal.{isDigit, worth, positive}
+use Rattle.text.proofs.Digits.{digit}
 use Rattle.text.proofs.number.positive.Statement.{statement}
 use Rattle.text.proofs.number.positive.Tie as tie
 
 -- ---- laws
-digit : (b : ℕ) → isDigit b ≡ true → (48 ≤ b) × (b ≤ 57)
-unfolding isDigit
-digit b e = let low = ltb-true 47 b (both-l (ltb 47 b) (ltb b 58) e) in let high = ltb-true b 58 (both-r (ltb 47 b) (ltb b 58) e) in (omega arith, omega arith)
-
 worth-step : (s : List ℕ) (i v : ℕ) → i < length s → worth v (drop i s) ≡ cond (isDigit (getD s i 0)) (worth (v * 10 + (getD s i 0 - 48)) (drop (i + 1) s)) 0
 unfolding worth
 worth-step s i v h = rw (add-one, drop-cons s i 0)

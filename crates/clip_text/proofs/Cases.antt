@@ -1,0 +1,44 @@
+-- Texts and what is printed for them, by computing: document 01's case A, inside and outside, and refusals in their order. Assumes nothing.
+use mathlib.Core.Path.{_≡_, refl}
+use mathlib.Core.List.{flatten}
+use Prim.Native.String.{String}
+use Rattle.geom.specs.Points.{eqZ, within, ltP, eqP, coordinate, inRange, cross, between}
+use Rattle.segm.specs.Lists.{any, sum, tally, keep, written, upFrom}
+use Rattle.segm.specs.Segments.{front, segmentsOf, count, whole, segments, segmentAt, total}
+use Rattle.meetings.specs.Meetings.{side, parts, inside, sameEnds, meetsWrongly}
+use Rattle.checks.specs.Drawing.{endsInRange, rises, windingInRange, bitsInRange, fault, faultAt, meetingAt, balance, balances, unbalancedAt}
+use Rattle.checks.specs.Verdict.{wrongLength, unknownChoice, tooShort, firstFrom, first, inOrder, verdict}
+use Rattle.checks.specs.Runs.{clipRun}
+use Rattle.build.specs.Fills.{spans, above, clockwise, met, bottom, top, filled, ruleOf, fillOf, fill}
+use Rattle.build.specs.Links.{sidesSet, keepsSides, keeps, filterOf, keptLinks}
+use Rattle.graph.specs.Nodes.{node}
+use Rattle.clip_walk.specs.Walk.{has, clear, asDrawn, isLeft, taken, takenAll, bitsLeft, firstLeft, bothMoves, begins, way, over, other, fitting, goesOn, follow, pathFrom, walkFrom, walk}
+use Rattle.string_clip.specs.Paths.{through, finished, pathPoints, clipPaths, stepsFrom, stepsOfPath, stepsOf, travelOf}
+use Rattle.string_clip.specs.Run.{totals, coordinates, clipOutcome, pairUp, cut, output}
+use Rattle.text.specs.Decimal.{isDigit, worth, positive, fieldOf, digits, decimal, signed}
+use Rattle.text.specs.Grammar.{pieces, row, fieldsIn, rowsFrom, choicesOf, parsed}
+use Rattle.text.specs.Writing.{joined, lineOf}
+use Rattle.text.proofs.Spelled.{bytes}
+use Rattle.clip_text.specs.Printed.{pointLine, pathLines, pathsLines, totalLine, refusedLine, printed}
+use Rattle.clip_text.specs.Answer.{textOutcome, answerTo}
+
+-- this text has this answer
+abbrev Prints : String → String → Type 0
+Prints text answer = answerTo (bytes text) ≡ bytes answer
+
+pub record Cases : Type 0 where
+  pub inside-A : Prints "1,0,1\n-5,5,0,5,0,1\n0,0,0,5,-1,0\n0,0,10,0,1,0\n0,5,0,10,-1,0\n0,5,10,5,0,1\n0,10,10,10,-1,0\n10,0,10,5,1,0\n10,5,10,10,1,0\n10,5,15,5,0,1\n"
+      "0,0,0,5\n0,1,10,5\ntotal,1,2,1,10\n"
+  pub outside-A : Prints "1,1,1\n-5,5,0,5,0,1\n0,0,0,5,-1,0\n0,0,10,0,1,0\n0,5,0,10,-1,0\n0,5,10,5,0,1\n0,10,10,10,-1,0\n10,0,10,5,1,0\n10,5,10,10,1,0\n10,5,15,5,0,1\n"
+      "0,0,-5,5\n0,1,0,5\n1,0,10,5\n1,1,15,5\ntotal,2,4,2,10\n"
+  pub no-segments : Prints "1,0,1\n" "total,0,0,0,0\n"
+  pub malformed : Prints "1,0,1\n0,0,2,0,0,01\n" "refused,1,2\n"
+  -- a bad line before an unknown choice before a coordinate out of range
+  pub text-first : Prints "4,0,1\n16777217,0,16777218,0,0,1\n0\n" "refused,1,3\n"
+  pub choice-next : Prints "4,0,1\n16777217,0,16777218,0,0,1\n" "refused,10,0\n"
+  pub drawing-last : Prints "3,0,1\n16777217,0,16777218,0,0,1\n" "refused,3,0\n"
+  pub meeting : Prints "1,0,1\n0,0,2,0,0,1\n1,0,1,1,0,1\n" "refused,8,0\n"
+
+pub cases : Cases
+unfolding clipRun verdict inOrder wrongLength unknownChoice tooShort first firstFrom faultAt meetingAt unbalancedAt fault endsInRange rises windingInRange bitsInRange balance balances meetsWrongly parts inside sameEnds side total any sum tally keep written upFrom front segmentsOf count whole segments segmentAt eqZ within ltP eqP coordinate inRange cross between spans above clockwise met bottom top filled ruleOf fillOf fill sidesSet keepsSides keeps filterOf keptLinks node has clear asDrawn isLeft taken takenAll bitsLeft firstLeft bothMoves begins way over other fitting goesOn follow pathFrom walkFrom walk through finished pathPoints clipPaths stepsFrom stepsOfPath stepsOf travelOf totals coordinates flatten clipOutcome isDigit worth positive fieldOf digits decimal signed pieces row fieldsIn rowsFrom choicesOf parsed joined lineOf pointLine pathLines pathsLines totalLine refusedLine printed pairUp cut output textOutcome answerTo
+cases = record { inside-A = refl; outside-A = refl; no-segments = refl; malformed = refl; text-first = refl; choice-next = refl; drawing-last = refl; meeting = refl }
