@@ -1,28 +1,44 @@
--- The text of an accepted drawing is read back. Assumes nothing.
-use mathlib.Core.Path.{_≡_, refl, subst}
+-- The text of an accepted drawing is read back, and its paths are printed. Assumes nothing.
+use mathlib.Core.Path.{_≡_, refl, sym, ap, subst, _∙_}
 use mathlib.Core.Bool.{true}
 use mathlib.Core.List.{List, [], _∷_, map}
 use mathlib.Core.Logic.{inl, inr}
-use Prim.Native.Nat.{ℕ, _≤_}
+use Prim.Native.Nat.{ℕ, _*_, _≤_}
 use native.Mathlib.Omega.{arith}
+use borrow.Author.Tests.{le-ltb}
+use lib.ListN.{length, replicate, length-replicate}
 use lib.IntN.{ℤ, pos, natAbs}
-use Rattle.integers.proofs.Booleans.{both-l, both-r}
+use Rattle.integers.proofs.Booleans.{both-l, both-r, neither}
 use Rattle.integers.proofs.Order.{abs-up-to}
+use Rattle.geom.specs.declared.Point.{Point}
 use Rattle.geom.specs.Points.{within, inRange}
 use Rattle.geom.proofs.Points.{within-l, within-r, near-x, near-y}
 use Rattle.segm.specs.declared.Segment.{Segment}
-use Rattle.segm.specs.Lists.{_∈_}
-use Rattle.segm.specs.Segments.{Drawing, width, numbersOf, laid}
+use Rattle.segm.specs.Lists.{_∈_, any}
+use Rattle.segm.specs.Segments.{Drawing, width, count, segments, numbersOf, laid}
+use Rattle.segm.proofs.Segments.{length-segments}
 use Rattle.segm.proofs.Laid.{segments-laid}
 use Rattle.segm.proofs.Tallies.{in-map}
 use Rattle.checks.specs.Drawing.{endsInRange}
+use Rattle.checks.specs.declared.Verdict.the-variants.{Accepted}
+use Rattle.checks.specs.Verdict.{tooShort, verdict}
 use Rattle.checks.specs.Runs.{upTo, ruleChoice, flagChoice, clipRun}
 use Rattle.checks.specs.Accepted.{accepts, Good}
-use Rattle.checks.proofs.Good.{verdict-known, accepted-input, accepted-good}
+use Rattle.checks.proofs.Order.{passed}
+use Rattle.checks.proofs.Good.{verdict-known, accepted-input, accepted-good, accepted-run}
+use Rattle.build.specs.Fills.{ruleOf}
+use Rattle.build.specs.Links.{filterOf}
+use Rattle.string_clip.specs.declared.Clipped.the-variants.{Done}
+use Rattle.string_clip.specs.Paths.{clipPaths}
+use Rattle.string_clip.specs.Run.{totals}
+use Rattle.string_clip.proofs.ReadBack.{read-back}
+use Rattle.string_clip.proofs.Together.{accepted-outcome}
 use Rattle.text.specs.declared.Choices.{Choices}
-use Rattle.text.specs.Grammar.{Drawn, parsed}
+use Rattle.text.specs.Grammar.{Parsed, Drawn, parsed}
 use Rattle.text.specs.Writing.{choiceNumbers, writing}
 use Rattle.text.proofs.Laws.{AllSmall, fits, reads-back}
+use Rattle.clip_text.specs.Printed.{linesOf, printed}
+use Rattle.clip_text.specs.Answer.{runOn, textOutcome, answerTo}
 
 -- ---- its numbers are small
 known : (n : ℕ) (z : ℤ) → within (pos 0) (pos n) z ≡ true → natAbs z ≤ n
@@ -65,3 +81,27 @@ module _ (c : Choices) (d : Drawing) (e : accepts (laid d) (c .rule) (c .invert)
   -- an accepted drawing has a text, which holds its choices and its numbers
   pub accepted-text : parsed width (writing c d) ≡ Drawn c (laid d)
   accepted-text = reads-back c d (λ r i z m. omega (arith, small r i z m)) (fits c d (good .few) small)
+
+  -- lists for 1,024 segments are long enough for it
+  accepted-clip : (xs : List ℤ) (ns : List ℕ) → length xs ≡ 8192 → length ns ≡ 2048 → verdict (clipRun (laid d) (c .rule) (c .invert) (c .boundary) (length xs) (length ns)) ≡ Accepted
+  unfolding clipRun any tooShort
+  accepted-clip xs ns h k =
+      let n = sym (length-segments (laid d)) ∙ ap length (segments-laid d) in
+      accepted-run (laid d) (c .rule) (c .invert) (c .boundary) e _ _ (passed _ (accepted-input (laid d) (c .rule) (c .invert) (c .boundary) e) .known)
+      (neither (le-ltb (length xs) (8 * count (laid d)) (omega (arith, n, h, good .few))) (neither (le-ltb (length ns) (2 * count (laid d)) (omega (arith, n, k, good .few))) refl))
+
+  abbrev paths : Drawing → List (List Point)
+  paths = clipPaths (ruleOf (c .rule)) (filterOf (c .invert) (c .boundary))
+
+  printed-run : (xs : List ℤ) (ns : List ℕ) → length xs ≡ 8192 → length ns ≡ 2048 → printed (textOutcome (writing c d) xs ns) ≡ linesOf (Done (totals (paths d))) (paths d)
+  unfolding textOutcome printed
+  printed-run xs ns h k =
+      ap (λ (p : Parsed). printed (runOn p xs ns)) accepted-text
+      ∙ ap printed (accepted-outcome (laid d) (c .rule) (c .invert) (c .boundary) xs ns (accepted-clip xs ns h k))
+      ∙ ap (linesOf (Done (totals (paths (segments (laid d)))))) (read-back (paths (segments (laid d))) xs ns)
+      ∙ ap (λ (f : Drawing). linesOf (Done (totals (paths f))) (paths f)) (segments-laid d)
+
+  -- for the text of an accepted drawing its paths are printed, and their totals
+  pub accepted-answer : answerTo (writing c d) ≡ linesOf (Done (totals (paths d))) (paths d)
+  unfolding answerTo
+  accepted-answer = printed-run (replicate 8192 (pos 0)) (replicate 2048 0) (length-replicate 8192 (pos 0)) (length-replicate {A = ℕ} 2048 0)

@@ -14,6 +14,7 @@ abbrev pub runOn : Parsed → List ℤ → List ℕ → Outcome
 runOn (BadLine line) points lengths = outcome (Refused 1 line) points lengths
 runOn (Drawn c numbers) points lengths = clipOutcome numbers (c .rule) (c .invert) (c .boundary) points lengths
 
+-- 1 before all others: the text is read to its end first
 unfoldable pub textOutcome : List ℕ → List ℤ → List ℕ → Outcome
 textOutcome text points lengths = runOn (parsed width text) points lengths
 

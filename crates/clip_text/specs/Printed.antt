@@ -40,9 +40,11 @@ totalLine t = lineOf (totalWord ∷ decimal (t .paths) ∷ decimal (t .points) �
 abbrev pub refusedWord : List ℕ
 refusedWord = 114 ∷ 101 ∷ 102 ∷ 117 ∷ 115 ∷ 101 ∷ 100 ∷ []
 
+-- a refusal: its number and place
 unfoldable pub refusedLine : (number place : ℕ) → List ℕ
 refusedLine number place = lineOf (refusedWord ∷ decimal number ∷ decimal place ∷ [])
 
+-- all lines of an answer: the points, then the total; or the refusal
 abbrev pub linesOf : Clipped → List (List Point) → List ℕ
 linesOf (Done t) paths = pathsLines 0 paths ++ totalLine t
 linesOf (Refused number place) paths = refusedLine number place

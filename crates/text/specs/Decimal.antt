@@ -48,6 +48,7 @@ digits (suc k) n s = cond (ltb n 10) ((48 + n) ∷ s) (digits k (n / 10) ((48 + 
 unfoldable pub decimal : ℕ → List ℕ
 decimal n = digits 20 n []
 
+-- a minus if negative
 unfoldable pub signed : ℤ → List ℕ
 signed (pos n) = decimal n
 signed (negsuc n) = 45 ∷ decimal (suc n)

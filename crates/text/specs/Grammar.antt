@@ -23,6 +23,7 @@ pieces b [] = [] ∷ []
 pieces b (x ∷ s) = cond (eqb x b) ([] ∷ pieces b s) (onto x (pieces b s))
 
 -- ---- a line
+-- a number before those of the other fields
 abbrev pub andRest : Field → Option (List ℤ) → Option (List ℤ)
 andRest Malformed rest = none
 andRest (Number z) none = none
@@ -50,12 +51,13 @@ abbrev pub afterLast : ℕ → List ℕ → Found
 afterLast line [] = Rows []
 afterLast line (b ∷ s) = Bad line
 
+-- a line's numbers before those of the later lines; the first bad line decides
 abbrev pub andLines : ℕ → Option (List ℤ) → Found → Found
 andLines line none rest = Bad line
 andLines line (some r) (Bad later) = Bad later
 andLines line (some r) (Rows rows) = Rows (r ∷ rows)
 
--- the lines of a text cut at LF, from this line on
+-- the lines of a text cut at LF, from this line on. (There is always a piece, what follows the last LF)
 unfoldable pub rowsFrom : (width line : ℕ) → List (List ℕ) → Found
 rowsFrom width line [] = Bad line
 rowsFrom width line (s ∷ []) = afterLast line s
@@ -67,6 +69,7 @@ pub data Parsed : Type 0 where
   BadLine : ℕ → Parsed
   Drawn : Choices → List ℤ → Parsed
 
+-- rule, invert, boundary
 unfoldable pub choicesOf : List ℤ → Choices
 choicesOf l = record { rule = getD l 0 (pos 0); invert = getD l 1 (pos 0); boundary = getD l 2 (pos 0) }
 
@@ -80,5 +83,6 @@ drawn (Rows (first ∷ rows)) = Drawn (choicesOf first) (flatten rows)
 abbrev pub most : ℕ
 most = 65536
 
+-- read to its end, unless it is too long
 unfoldable pub parsed : (width : ℕ) → List ℕ → Parsed
 parsed width text = cond (ltb most (length text)) (BadLine 0) (drawn (rowsFrom width 1 (pieces 10 text)))

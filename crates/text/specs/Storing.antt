@@ -27,6 +27,7 @@ abbrev pub answered : Parsed → List ℤ → Outcome
 answered (BadLine line) old = outcome (Malformed line) old
 answered (Drawn c numbers) old = outcome (Read c (length numbers)) (written (take (length old) numbers) old)
 
+-- what `read` answers for a text, and the list when it returns
 unfoldable pub readOutcome : List ℕ → List ℤ → Outcome
 readOutcome text old = answered (parsed width text) old
 

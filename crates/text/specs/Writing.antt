@@ -17,6 +17,7 @@ joined b (piece ∷ next ∷ rest) = piece ++ b ∷ joined b (next ∷ rest)
 unfoldable pub lineOf : List (List ℕ) → List ℕ
 lineOf fields = joined 44 fields ++ (10 ∷ [])
 
+-- a line for each row
 unfoldable pub textOf : List (List ℤ) → List ℕ
 textOf rows = flatten (map (λ row. lineOf (map signed row)) rows)
 
