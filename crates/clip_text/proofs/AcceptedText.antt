@@ -37,7 +37,7 @@ use Rattle.text.specs.declared.Choices.{Choices}
 use Rattle.text.specs.Grammar.{Parsed, Drawn, parsed}
 use Rattle.text.specs.Writing.{choiceNumbers, writing}
 use Rattle.text.proofs.Laws.{AllSmall, fits, reads-back}
-use Rattle.clip_text.specs.Printed.{linesOf, printed}
+use Rattle.clip_print.specs.Printed.{linesOf, printed}
 use Rattle.clip_text.specs.Answer.{runOn, textOutcome, answerTo}
 
 -- ---- its numbers are small

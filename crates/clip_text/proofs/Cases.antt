@@ -19,7 +19,7 @@ use Rattle.text.specs.Decimal.{isDigit, worth, positive, fieldOf, digits, decim
 use Rattle.text.specs.Grammar.{pieces, row, fieldsIn, rowsFrom, choicesOf, parsed}
 use Rattle.text.specs.Writing.{joined, lineOf}
 use Rattle.text.proofs.Spelled.{bytes}
-use Rattle.clip_text.specs.Printed.{pointLine, pathLines, pathsLines, totalLine, refusedLine, printed}
+use Rattle.clip_print.specs.Printed.{pointLine, pathLines, pathsLines, totalLine, refusedLine, printed}
 use Rattle.clip_text.specs.Answer.{textOutcome, answerTo}
 
 -- this text has this answer

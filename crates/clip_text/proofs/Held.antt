@@ -25,7 +25,7 @@ use Rattle.string_clip.specs.Run.{totals, coordinates, Outcome, answered, clipO
 use Rattle.string_clip.proofs.ReadBack.{length-coordinates}
 use Rattle.string_clip.proofs.Together.{accepted-tells, accepted-outcome}
 use Rattle.text.specs.Grammar.{Parsed, BadLine, Drawn, parsed}
-use Rattle.clip_text.specs.Printed.{Held}
+use Rattle.clip_print.specs.Printed.{Held}
 use Rattle.clip_text.specs.Answer.{runOn, textOutcome}
 
 tally-lengths : {A : Type 0} (paths : List (List A)) → tally (λ n. n) (map length paths) ≡ length (flatten paths)

@@ -7,7 +7,7 @@ use Rattle.segm.specs.Segments.{width}
 use Rattle.string_clip.specs.declared.Clipped.the-variants.{Refused}
 use Rattle.string_clip.specs.Run.{Outcome, outcome, clipOutcome}
 use Rattle.text.specs.Grammar.{Parsed, BadLine, Drawn, parsed}
-use Rattle.clip_text.specs.Printed.{printed}
+use Rattle.clip_print.specs.Printed.{printed}
 
 -- a bad line is refusal 1 and its place; else the run on the numbers decides
 abbrev pub runOn : Parsed → List ℤ → List ℕ → Outcome

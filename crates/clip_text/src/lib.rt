@@ -1,14 +1,9 @@
 // The clip run on a comma text, and what is printed of it. Every function here is proved, and the crate assumes nothing of its own.
 // `clip_text` and `answer` have no `requires`: any bytes and any length of the lent lists get an answer.
-mod print;
 mod program;
 
-use print::put_paths;
-use print::put_refused;
-use print::put_total;
 pub use program::run;
 use string_clip::Clipped;
-use string_clip::Totals;
 use text::Choices;
 use text::Reading;
 ghost use mathlib.Core.Path.{_≡_};
@@ -17,9 +12,8 @@ ghost use lib.ListN.{length, take};
 ghost use Rattle.io.specs.Counts.{Counts};
 ghost use Rattle.segm.specs.Lists.{written};
 ghost use Rattle.segm.specs.Segments.{width};
-ghost use Rattle.string_clip.specs.Run.{outcome, clipOutcome, pairUp, cut};
-ghost use Rattle.string_clip.specs.declared.Clipped.the-variants.{Done};
-ghost use Rattle.clip_text.specs.Printed.{Put, Held, linesOf, printed};
+ghost use Rattle.string_clip.specs.Run.{outcome, clipOutcome};
+ghost use Rattle.clip_print.specs.Printed.{printed};
 ghost use Rattle.clip_text.specs.Answer.{textOutcome, answerTo};
 
 // One number more than the largest drawing has: a text with too many is seen to have too many.
@@ -72,17 +66,6 @@ pub fn clip_text(text: &[u8], points: &mut [i32], lengths: &mut [u32]) -> Clippe
     clip_read(text, &mut numbers, points, lengths)
 }
 
-// The lines of an accepted run.
-fn put_run(t: Totals, points: &[i32], lengths: &[u32], out: &mut [u8]) -> usize
-    requires { ⌜ Held (t .paths) (now points) (now lengths) × (43 * length (now points) + 90 ≤ length (now out)) ⌝ }
-    ensures { λ r. ⌜ Put (now (out .entry)) 0 (linesOf (Done t) (cut (t .paths) (now (lengths .entry)) (pairUp (now (points .entry))))) r (now (out .exit)) ⌝ }
-    ensures { λ r. ⌜ r ≤ length (now (out .entry)) ⌝ }
-{
-    let n = t.paths;
-    let next = put_paths(points, &lengths[..n], out);
-    put_total(t, out, next)
-}
-
 // What is printed for a text. The lists `points` and `lengths` are working memory.
 fn answer_with(text: &[u8], points: &mut [i32], lengths: &mut [u32], out: &mut [u8]) -> usize
     requires { ⌜ 43 * length (now points) + 90 ≤ length (now out) ⌝ }
@@ -91,8 +74,8 @@ fn answer_with(text: &[u8], points: &mut [i32], lengths: &mut [u32], out: &mut [
         × (now (out .exit) ≡ written (printed (textOutcome (now (text .entry)) (now (points .entry)) (now (lengths .entry)))) (now (out .entry))) ⌝ }
 {
     match clip_text(text, points, lengths) {
-        Clipped::Done(t) => put_run(t, points, lengths, out),
-        Clipped::Refused(number, place) => put_refused(number, place, out, 0),
+        Clipped::Done(t) => clip_print::put_run(t, points, lengths, out),
+        Clipped::Refused(number, place) => clip_print::put_refused(number, place, out),
     }
 }
 

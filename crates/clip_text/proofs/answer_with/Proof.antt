@@ -9,10 +9,10 @@ use lib.IntN.{ℤ}
 use Rattle.segm.specs.Lists.{written}
 use Rattle.string_clip.specs.declared.Clipped.{Clipped}
 use Rattle.string_clip.specs.Run.{Outcome, outcome, told, pairUp, cut, output}
-use Rattle.clip_text.specs.Printed.{Put, Held, linesOf, printed}
+use Rattle.clip_print.specs.Printed.{Put, Held, linesOf, printed}
 use Rattle.clip_text.specs.Answer.{textOutcome}
 use Rattle.clip_text.proofs.Held.{text-held}
-use Rattle.clip_text.proofs.Puts.{put-whole}
+use Rattle.clip_print.proofs.Puts.{put-whole}
 use Rattle.clip_text.proofs.answer_with.Statement.{statement}
 use Rattle.clip_text.proofs.answer_with.Tie as tie
 

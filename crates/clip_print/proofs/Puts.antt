@@ -9,7 +9,7 @@ use lib.Seq.{sets-eq}
 use Rattle.segm.specs.Lists.{written}
 use Rattle.segm.proofs.Stores.{sets-append}
 use Rattle.text.specs.Writing.{joined, lineOf}
-use Rattle.clip_text.specs.Printed.{Put}
+use Rattle.clip_print.specs.Printed.{Put}
 
 module _ {a b : List ℕ} {i j : ℕ} {s : List ℕ} (p : Put a i s j b) where
   pub put-then : {c : List ℕ} {k : ℕ} {t : List ℕ} → Put b j t k c → Put a i (s ++ t) k c

@@ -4,11 +4,11 @@ use mathlib.Core.Path.{sym, ap}
 use native.Mathlib.Omega.{arith}
 use lib.Seq.{length-take-le}
 use Rattle.string_clip.specs.Run.{pairUp}
-use Rattle.clip_text.specs.Printed.{pathsLines}
-use Rattle.clip_text.proofs.Puts.{put-then, put-same}
-use Rattle.clip_text.proofs.Pairs.{cut-first}
-use Rattle.clip_text.proofs.put_run.Statement.{statement}
-use Rattle.clip_text.proofs.put_run.Tie as tie
+use Rattle.clip_print.specs.Printed.{pathsLines}
+use Rattle.clip_print.proofs.Puts.{put-then, put-same}
+use Rattle.clip_print.proofs.Pairs.{cut-first}
+use Rattle.clip_print.proofs.put_run.Statement.{statement}
+use Rattle.clip_print.proofs.put_run.Tie as tie
 
 slice-aggregate-put-paths : tie.Need-slice-aggregate-put-paths
 slice-aggregate-put-paths c = let s = c .before .before .before in sym (length-take-le (s .args .t .paths) (s .args .lengths .now) (s .pre .0 .few-paths))

@@ -9,7 +9,7 @@ use lib.Seq.{drop-cons, drop-nil, take-nil, drop-drop}
 use lib.IntN.{ℤ, pos}
 use Rattle.geom.specs.declared.Point.{Point}
 use Rattle.string_clip.specs.Run.{pairUp, cut}
-use Rattle.clip_text.specs.Printed.{pointLine, pathLines, pathsLines}
+use Rattle.clip_print.specs.Printed.{pointLine, pathLines, pathsLines}
 
 -- one number makes no pair
 no-pair : (l : List ℤ) → length l ≤ 1 → pairUp l ≡ []

@@ -3,11 +3,11 @@ use borrow.Author.Needs.{needs}
 use mathlib.Core.Path.{_∙_}
 use native.Mathlib.Omega.{arith}
 use Rattle.text.specs.Decimal.{decimal}
-use Rattle.clip_text.specs.Printed.{Put}
-use Rattle.clip_text.proofs.IoDigits.{at-most-20, io-decimal}
+use Rattle.clip_print.specs.Printed.{Put}
+use Rattle.clip_print.proofs.IoDigits.{at-most-20, io-decimal}
 use Rattle.text.proofs.Digits.{length-decimal}
-use Rattle.clip_text.proofs.print.put_decimal.Statement.{statement}
-use Rattle.clip_text.proofs.print.put_decimal.Tie as tie
+use Rattle.clip_print.proofs.put_decimal.Statement.{statement}
+use Rattle.clip_print.proofs.put_decimal.Tie as tie
 
 decimal-requires : tie.Need-decimal-requires
 decimal-requires c κs = search needs

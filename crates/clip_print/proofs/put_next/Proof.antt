@@ -1,9 +1,9 @@
 -- A comma, then the number. Assumes nothing.
 use borrow.Author.Needs.{needs}
 use native.Mathlib.Omega.{arith}
-use Rattle.clip_text.proofs.Puts.{put-then}
-use Rattle.clip_text.proofs.print.put_next.Statement.{statement}
-use Rattle.clip_text.proofs.print.put_next.Tie as tie
+use Rattle.clip_print.proofs.Puts.{put-then}
+use Rattle.clip_print.proofs.put_next.Statement.{statement}
+use Rattle.clip_print.proofs.put_next.Tie as tie
 
 put-byte-requires : tie.Need-put-byte-requires
 put-byte-requires c κs = search needs

@@ -6,9 +6,9 @@ use native.Mathlib.Omega.{arith}
 use lib.IntN.{ℤ}
 use mir.Facts.{toZ-ofZ}
 use Rattle.text.specs.Decimal.{signed}
-use Rattle.clip_text.proofs.Puts.{put-then, put-same}
-use Rattle.clip_text.proofs.print.put_next_signed.Statement.{statement}
-use Rattle.clip_text.proofs.print.put_next_signed.Tie as tie
+use Rattle.clip_print.proofs.Puts.{put-then, put-same}
+use Rattle.clip_print.proofs.put_next_signed.Statement.{statement}
+use Rattle.clip_print.proofs.put_next_signed.Tie as tie
 
 put-byte-requires : tie.Need-put-byte-requires
 put-byte-requires c κs = search needs

@@ -1,12 +1,14 @@
-// The printed lines of a clip run, put into a lent list of bytes.
+// The printed lines of a clip run, put into a lent list of bytes. Every function here is proved, and the crate assumes nothing of its own.
+// They ask for room: 86 bytes a point, 90 for the total, 50 for a refusal.
 use string_clip::Totals;
 ghost use Prim.Native.Nat.{_+_, _*_, _≤_};
 ghost use mathlib.Core.List.{[], _∷_};
 ghost use lib.ListN.{length};
 ghost use Rattle.segm.specs.Lists.{tally};
+ghost use Rattle.string_clip.specs.declared.Clipped.the-variants.{Done};
 ghost use Rattle.string_clip.specs.Run.{pairUp, cut};
 ghost use Rattle.text.specs.Decimal.{decimal, signed};
-ghost use Rattle.clip_text.specs.Printed.{Put, pointLine, pathLines, pathsLines, totalLine, refusedLine};
+ghost use Rattle.clip_print.specs.Printed.{Put, Held, pointLine, pathLines, pathsLines, totalLine, refusedLine, linesOf};
 
 fn put_byte(b: u8, out: &mut [u8], at: usize) -> usize
     requires { ⌜ at + 1 ≤ length (now out) ⌝ }
@@ -101,7 +103,7 @@ fn put_path(path: usize, points: &[i32], out: &mut [u8], at: usize) -> usize
 }
 
 // The lines of all paths, each with as many points as its length says.
-pub fn put_paths(points: &[i32], lengths: &[u32], out: &mut [u8]) -> usize
+fn put_paths(points: &[i32], lengths: &[u32], out: &mut [u8]) -> usize
     requires { ⌜ (2 * tally (λ n. n) (now lengths) ≤ length (now points)) × (43 * length (now points) ≤ length (now out)) ⌝ }
     ensures { λ r. ⌜ Put (now (out .entry)) 0 (pathsLines 0 (cut (length (now (lengths .entry))) (now (lengths .entry)) (pairUp (now (points .entry))))) r (now (out .exit)) ⌝ }
     ensures { λ r. ⌜ r ≤ 43 * length (now (points .entry)) ⌝ }
@@ -119,7 +121,7 @@ pub fn put_paths(points: &[i32], lengths: &[u32], out: &mut [u8]) -> usize
 }
 
 // The last line has at most 90 bytes.
-pub fn put_total(t: Totals, out: &mut [u8], at: usize) -> usize
+fn put_total(t: Totals, out: &mut [u8], at: usize) -> usize
     requires { ⌜ at + 90 ≤ length (now out) ⌝ }
     ensures { λ r. ⌜ Put (now (out .entry)) at (totalLine t) r (now (out .exit)) ⌝ }
     ensures { λ r. ⌜ r ≤ at + 90 ⌝ }
@@ -132,12 +134,24 @@ pub fn put_total(t: Totals, out: &mut [u8], at: usize) -> usize
     put_byte(b'\n', out, e)
 }
 
-pub fn put_refused(number: u32, place: usize, out: &mut [u8], at: usize) -> usize
-    requires { ⌜ at + 50 ≤ length (now out) ⌝ }
-    ensures { λ r. ⌜ Put (now (out .entry)) at (refusedLine number place) r (now (out .exit)) ⌝ }
-    ensures { λ r. ⌜ r ≤ at + 50 ⌝ }
+// The lines of an accepted run.
+pub fn put_run(t: Totals, points: &[i32], lengths: &[u32], out: &mut [u8]) -> usize
+    requires { ⌜ Held (t .paths) (now points) (now lengths) × (43 * length (now points) + 90 ≤ length (now out)) ⌝ }
+    ensures { λ r. ⌜ Put (now (out .entry)) 0 (linesOf (Done t) (cut (t .paths) (now (lengths .entry)) (pairUp (now (points .entry))))) r (now (out .exit)) ⌝ }
+    ensures { λ r. ⌜ r ≤ length (now (out .entry)) ⌝ }
 {
-    let a = put_bytes(b"refused", out, at);
+    let n = t.paths;
+    let next = put_paths(points, &lengths[..n], out);
+    put_total(t, out, next)
+}
+
+// The one line of a refused run.
+pub fn put_refused(number: u32, place: usize, out: &mut [u8]) -> usize
+    requires { ⌜ 50 ≤ length (now out) ⌝ }
+    ensures { λ r. ⌜ Put (now (out .entry)) 0 (refusedLine number place) r (now (out .exit)) ⌝ }
+    ensures { λ r. ⌜ r ≤ 50 ⌝ }
+{
+    let a = put_bytes(b"refused", out, 0);
     let b = put_next(number as u64, out, a);
     let c = put_next(place as u64, out, b);
     put_byte(b'\n', out, c)

@@ -5,10 +5,10 @@ use native.Mathlib.Omega.{arith}
 use lib.IntN.{ℤ, pos, natAbs, _-ℤ_}
 use mir.Facts.{toZ-ofZ}
 use Rattle.integers.proofs.Machine.{any, lit, flag-lt}
-use Rattle.clip_text.proofs.IoDigits.{signed-below, signed-from}
-use Rattle.clip_text.proofs.Puts.{put-then, put-same}
-use Rattle.clip_text.proofs.print.put_signed.Statement.{statement}
-use Rattle.clip_text.proofs.print.put_signed.Tie as tie
+use Rattle.clip_print.proofs.IoDigits.{signed-below, signed-from}
+use Rattle.clip_print.proofs.Puts.{put-then, put-same}
+use Rattle.clip_print.proofs.put_signed.Statement.{statement}
+use Rattle.clip_print.proofs.put_signed.Tie as tie
 
 distance-requires : tie.Need-distance-requires
 distance-requires c κs = search needs

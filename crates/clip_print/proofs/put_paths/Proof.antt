@@ -8,10 +8,10 @@ use lib.ListN.{length, getD, take, drop, length-take}
 use lib.IntN.{ℤ}
 use Rattle.segm.specs.Lists.{tally}
 use Rattle.segm.proofs.Tallies.{tally-take, tally-part}
-use Rattle.clip_text.proofs.Pairs.{linesFrom, paths-more, paths-none}
-use Rattle.clip_text.proofs.Puts.{Left, left-all, left-less, left-none}
-use Rattle.clip_text.proofs.print.put_paths.Statement.{statement}
-use Rattle.clip_text.proofs.print.put_paths.Tie as tie
+use Rattle.clip_print.proofs.Pairs.{linesFrom, paths-more, paths-none}
+use Rattle.clip_print.proofs.Puts.{Left, left-all, left-less, left-none}
+use Rattle.clip_print.proofs.put_paths.Statement.{statement}
+use Rattle.clip_print.proofs.put_paths.Tie as tie
 
 record Passed (points : List ℤ) (lengths old new : List ℕ) (next from k : ℕ) : Type 0 where
   put : Left (linesFrom 0 0 points lengths) old 0 (linesFrom k from points lengths) next new

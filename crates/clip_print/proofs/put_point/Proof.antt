@@ -4,10 +4,10 @@ use mathlib.Core.Path.{ap₂}
 use native.Mathlib.Omega.{arith}
 use lib.IntN.{ℤ}
 use mir.Facts.{toZ-ofZ}
-use Rattle.clip_text.specs.Printed.{pointLine}
-use Rattle.clip_text.proofs.Puts.{put-same, first-field, next-field, end-line}
-use Rattle.clip_text.proofs.print.put_point.Statement.{statement}
-use Rattle.clip_text.proofs.print.put_point.Tie as tie
+use Rattle.clip_print.specs.Printed.{pointLine}
+use Rattle.clip_print.proofs.Puts.{put-same, first-field, next-field, end-line}
+use Rattle.clip_print.proofs.put_point.Statement.{statement}
+use Rattle.clip_print.proofs.put_point.Tie as tie
 
 put-decimal-requires : tie.Need-put-decimal-requires
 put-decimal-requires c κs = search needs

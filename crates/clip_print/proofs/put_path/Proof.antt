@@ -9,11 +9,11 @@ use lib.IntN.{ℤ, pos}
 use mir.Syntax.{w32}
 use Rattle.integers.proofs.Machine.{read}
 use Rattle.string_clip.specs.Run.{pairUp}
-use Rattle.clip_text.specs.Printed.{pathLines}
-use Rattle.clip_text.proofs.Pairs.{path-more, path-none}
-use Rattle.clip_text.proofs.Puts.{Left, left-all, left-less, left-none}
-use Rattle.clip_text.proofs.print.put_path.Statement.{statement}
-use Rattle.clip_text.proofs.print.put_path.Tie as tie
+use Rattle.clip_print.specs.Printed.{pathLines}
+use Rattle.clip_print.proofs.Pairs.{path-more, path-none}
+use Rattle.clip_print.proofs.Puts.{Left, left-all, left-less, left-none}
+use Rattle.clip_print.proofs.put_path.Statement.{statement}
+use Rattle.clip_print.proofs.put_path.Tie as tie
 
 record Passed (path : ℕ) (points : List ℤ) (old : List ℕ) (at : ℕ) (new : List ℕ) (next i : ℕ) : Type 0 where
   put : Left (pathLines path 0 (pairUp points)) old at (pathLines path i (pairUp (drop (2 * i) points))) next new

@@ -1,10 +1,10 @@
 -- Field by field, then LF. Assumes nothing.
 use borrow.Author.Needs.{needs}
 use native.Mathlib.Omega.{arith}
-use Rattle.clip_text.specs.Printed.{totalLine}
-use Rattle.clip_text.proofs.Puts.{first-field, next-field, end-line}
-use Rattle.clip_text.proofs.print.put_total.Statement.{statement}
-use Rattle.clip_text.proofs.print.put_total.Tie as tie
+use Rattle.clip_print.specs.Printed.{totalLine}
+use Rattle.clip_print.proofs.Puts.{first-field, next-field, end-line}
+use Rattle.clip_print.proofs.put_total.Statement.{statement}
+use Rattle.clip_print.proofs.put_total.Tie as tie
 
 slice-aggregate-put-bytes : tie.Need-slice-aggregate-put-bytes
 slice-aggregate-put-bytes c = search needs
