@@ -9,7 +9,7 @@ use native.Mathlib.Decide.{decLe}
 use borrow.Author.Tests.{lt-ltb, le-ltb}
 use lib.IntN.{ℤ, pos, negsuc, natAbs, _-ℤ_, +ℤ-idr}
 use lib.Signed.{ltZ}
-use Rattle.text.specs.Decimal.{digits, decimal, signed}
+use Rattle.decimal.specs.Decimal.{digits, decimal, signed}
 use Rattle.io.specs.Digits.{glyph, Fewest}
 use Rattle.io.specs.Digits.{digits as ioDigits}
 

@@ -11,7 +11,7 @@ use Rattle.string_clip.specs.declared.Totals.{Totals}
 use Rattle.string_clip.specs.declared.Clipped.{Clipped}
 use Rattle.string_clip.specs.declared.Clipped.the-variants.{Done, Refused}
 use Rattle.string_clip.specs.Run.{Outcome, output}
-use Rattle.text.specs.Decimal.{decimal, signed}
+use Rattle.decimal.specs.Decimal.{decimal, signed}
 use Rattle.text.specs.Writing.{lineOf}
 
 -- path, point, x, y

@@ -7,7 +7,7 @@ ghost use lib.ListN.{length};
 ghost use Rattle.segm.specs.Lists.{tally};
 ghost use Rattle.string_clip.specs.declared.Clipped.the-variants.{Done};
 ghost use Rattle.string_clip.specs.Run.{pairUp, cut};
-ghost use Rattle.text.specs.Decimal.{decimal, signed};
+ghost use Rattle.decimal.specs.Decimal.{decimal, signed};
 ghost use Rattle.clip_print.specs.Printed.{Put, Held, pointLine, pathLines, pathsLines, totalLine, refusedLine, linesOf};
 
 fn put_byte(b: u8, out: &mut [u8], at: usize) -> usize

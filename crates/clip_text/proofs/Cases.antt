@@ -15,10 +15,10 @@ use Rattle.graph.specs.Nodes.{node}
 use Rattle.clip_walk.specs.Walk.{has, clear, asDrawn, isLeft, taken, takenAll, bitsLeft, firstLeft, bothMoves, begins, way, over, other, fitting, goesOn, follow, pathFrom, walkFrom, walk}
 use Rattle.string_clip.specs.Paths.{through, finished, pathPoints, clipPaths, stepsFrom, stepsOfPath, stepsOf, travelOf}
 use Rattle.string_clip.specs.Run.{totals, coordinates, clipOutcome, pairUp, cut, output}
-use Rattle.text.specs.Decimal.{isDigit, worth, positive, fieldOf, digits, decimal, signed}
+use Rattle.decimal.specs.Decimal.{isDigit, worth, positive, fieldOf, digits, decimal, signed}
 use Rattle.text.specs.Grammar.{pieces, row, fieldsIn, rowsFrom, choicesOf, parsed}
 use Rattle.text.specs.Writing.{joined, lineOf}
-use Rattle.text.proofs.Spelled.{bytes}
+use Rattle.decimal.proofs.Spelled.{bytes}
 use Rattle.clip_print.specs.Printed.{pointLine, pathLines, pathsLines, totalLine, refusedLine, printed}
 use Rattle.clip_text.specs.Answer.{textOutcome, answerTo}
 

@@ -1,16 +1,11 @@
--- Numbers and texts by computing. Assumes nothing.
+-- Texts by computing. Assumes nothing.
 use mathlib.Core.Path.{_≡_, refl}
 use mathlib.Core.List.{List, [], _∷_, flatten}
 use Prim.Native.String.{String}
 use lib.IntN.{ℤ, pos, negsuc}
-use Rattle.text.specs.declared.number.Field.{Field}
-use Rattle.text.specs.declared.number.Field.the-variants.{Number, Malformed}
-use Rattle.text.specs.Decimal.{isDigit, worth, positive, fieldOf, digits, decimal, signed}
+use Rattle.decimal.specs.Decimal.{isDigit, worth, positive, fieldOf}
 use Rattle.text.specs.Grammar.{pieces, row, fieldsIn, rowsFrom, Parsed, BadLine, Drawn, choicesOf, parsed}
-use Rattle.text.proofs.Spelled.{bytes}
-
-abbrev field : String → Field
-field s = fieldOf (bytes s)
+use Rattle.decimal.proofs.Spelled.{bytes}
 
 abbrev text : String → Parsed
 text s = parsed 6 (bytes s)
@@ -19,19 +14,6 @@ abbrev drawn : (rule invert boundary : ℤ) → List ℤ → Parsed
 drawn rule invert boundary = Drawn (record { rule = rule; invert = invert; boundary = boundary })
 
 pub record Cases : Type 0 where
-  -- numbers
-  pub zero : field "0" ≡ Number (pos 0)
-  pub nine-digits : field "-999999999" ≡ Number (negsuc 999999998)
-  pub ten-digits : field "1000000000" ≡ Malformed
-  pub leading-zero : field "01" ≡ Malformed
-  pub minus-zero : field "-0" ≡ Malformed
-  pub lone-minus : field "-" ≡ Malformed
-  pub two-minuses : field "--1" ≡ Malformed
-  pub plus : field "+1" ≡ Malformed
-  pub blank : field " 1" ≡ Malformed
-  pub no-byte : field "" ≡ Malformed
-  pub written : signed (negsuc 1029) ≡ bytes "-1030"
-  -- texts
   pub no-segments : text "1,0,1\n" ≡ drawn (pos 1) (pos 0) (pos 1) []
   pub one-segment : text "4,-1,0\n0,0,2,0,0,3\n" ≡ drawn (pos 4) (negsuc 0) (pos 0) (pos 0 ∷ pos 0 ∷ pos 2 ∷ pos 0 ∷ pos 0 ∷ pos 3 ∷ [])
   pub empty : text "" ≡ BadLine 1
@@ -47,30 +29,5 @@ pub record Cases : Type 0 where
   pub third-line : text "1,0,1\n0,0,2,0,0,3\n0,0,2,0,0,x\nx" ≡ BadLine 3
 
 pub cases : Cases
-unfolding isDigit worth positive fieldOf digits decimal signed pieces row fieldsIn rowsFrom choicesOf parsed flatten
-cases = record {
-  zero = refl;
-  nine-digits = refl;
-  ten-digits = refl;
-  leading-zero = refl;
-  minus-zero = refl;
-  lone-minus = refl;
-  two-minuses = refl;
-  plus = refl;
-  blank = refl;
-  no-byte = refl;
-  written = refl;
-  no-segments = refl;
-  one-segment = refl;
-  empty = refl;
-  lone-end = refl;
-  first-unended = refl;
-  first-short = refl;
-  last-unended = refl;
-  five-fields = refl;
-  seven-fields = refl;
-  trailing-comma = refl;
-  return = refl;
-  blank-line = refl;
-  third-line = refl;
-}
+unfolding isDigit worth positive fieldOf pieces row fieldsIn rowsFrom choicesOf parsed flatten
+cases = record { no-segments = refl; one-segment = refl; empty = refl; lone-end = refl; first-unended = refl; first-short = refl; last-unended = refl; five-fields = refl; seven-fields = refl; trailing-comma = refl; return = refl; blank-line = refl; third-line = refl }

@@ -15,12 +15,12 @@ use Rattle.segm.specs.Segments.{Drawing, width, front, segments, whole, numbers
 use Rattle.segm.proofs.Tallies.{in-map}
 use Rattle.segm.proofs.Laid.{length-laid, segments-laid}
 use Rattle.text.specs.declared.Choices.{Choices}
-use Rattle.text.specs.declared.number.Field.{Field}
-use Rattle.text.specs.declared.number.Field.the-variants.{Number, Malformed}
-use Rattle.text.specs.Decimal.{fieldOf, signed}
+use Rattle.decimal.specs.declared.Field.{Field}
+use Rattle.decimal.specs.declared.Field.the-variants.{Number, Malformed}
+use Rattle.decimal.specs.Decimal.{NineDigits, fieldOf, signed}
 use Rattle.text.specs.Grammar.{pieces, andRest, row, fieldsIn, Found, Bad, Rows, andLines, rowsFrom, BadLine, Drawn, choicesOf, drawn, most, parsed}
-use Rattle.text.specs.Writing.{joined, lineOf, textOf, choiceNumbers, writing, NineDigits, AllNineDigits}
-use Rattle.text.proofs.Digits.{field-signed, signed-field, signed-short, signed-bytes}
+use Rattle.text.specs.Writing.{joined, lineOf, textOf, choiceNumbers, writing, AllNineDigits}
+use Rattle.decimal.proofs.Digits.{field-signed, signed-field, signed-short, signed-bytes}
 use Rattle.text.proofs.Pieces.{joined-pieces, pieces-cut, pieces-joined, joined-bytes, joined-short}
 use Rattle.text.proofs.Rows.{differ, row-length, lines-next, fields-later}
 

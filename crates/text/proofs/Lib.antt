@@ -1,5 +1,3 @@
-pub mod Spelled
-pub mod Digits
 pub mod Pieces
 pub mod Laws
 pub mod Finding

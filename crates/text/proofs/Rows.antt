@@ -15,9 +15,9 @@ use Rattle.segm.proofs.Stores.{sets-append, sets-front, sets-all}
 use Rattle.text.specs.declared.Reading.the-variants as reading-is
 use Rattle.text.specs.declared.lines.Scanned.{Scanned}
 use Rattle.text.specs.declared.lines.Scanned.the-variants as scanned-is
-use Rattle.text.specs.declared.number.Field.{Field}
-use Rattle.text.specs.declared.number.Field.the-variants.{Number, Malformed}
-use Rattle.text.specs.Decimal.{fieldOf}
+use Rattle.decimal.specs.declared.Field.{Field}
+use Rattle.decimal.specs.declared.Field.the-variants.{Number, Malformed}
+use Rattle.decimal.specs.Decimal.{fieldOf}
 use Rattle.text.specs.Grammar.{pieces, andRest, row, fieldsIn, Found, Bad, Rows, afterLast, andLines, rowsFrom, choicesOf, drawn}
 use Rattle.text.specs.Storing.{outcome, answered, rowStored, listIf, Nothing, Numbers, rowsStored, linesStored}
 use Rattle.text.proofs.Pieces.{Some, pieces-some}

@@ -7,9 +7,9 @@ use lib.Dec.{eqb, ltb}
 use lib.ListN.{length, getD}
 use lib.IntN.{ℤ, pos}
 use Rattle.text.specs.declared.Choices.{Choices}
-use Rattle.text.specs.declared.number.Field.{Field}
-use Rattle.text.specs.declared.number.Field.the-variants.{Number, Malformed}
-use Rattle.text.specs.Decimal.{fieldOf}
+use Rattle.decimal.specs.declared.Field.{Field}
+use Rattle.decimal.specs.declared.Field.the-variants.{Number, Malformed}
+use Rattle.decimal.specs.Decimal.{fieldOf}
 
 -- ---- cutting
 -- x at the front of the first piece

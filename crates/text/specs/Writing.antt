@@ -1,11 +1,11 @@
 -- Fields, lines and drawings as bytes: 10 is LF, 44 the comma. Assumes nothing.
 use mathlib.Core.List.{List, [], _∷_, _++_, map, flatten}
-use Prim.Native.Nat.{ℕ, _^_, _<_}
-use lib.IntN.{ℤ, natAbs}
+use Prim.Native.Nat.{ℕ}
+use lib.IntN.{ℤ}
 use Rattle.segm.specs.Lists.{_∈_}
 use Rattle.segm.specs.Segments.{Drawing, numbersOf}
 use Rattle.text.specs.declared.Choices.{Choices}
-use Rattle.text.specs.Decimal.{signed}
+use Rattle.decimal.specs.Decimal.{signed, NineDigits}
 
 -- pieces with a byte b between
 unfoldable pub joined : ℕ → List (List ℕ) → List ℕ
@@ -28,10 +28,6 @@ choiceNumbers c = c .rule ∷ c .invert ∷ c .boundary ∷ []
 unfoldable pub writing : Choices → Drawing → List ℕ
 writing c d = textOf (choiceNumbers c ∷ map numbersOf d)
 
--- at most nine digits
-abbrev pub NineDigits : ℤ → Type 0
-NineDigits z = natAbs z < 10 ^ 9
-
--- each number of each row
+-- at most nine digits in each number of each row
 abbrev pub AllNineDigits : List (List ℤ) → Type 0
 AllNineDigits rows = (row : List ℤ) → row ∈ rows → (z : ℤ) → z ∈ row → NineDigits z

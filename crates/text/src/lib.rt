@@ -1,7 +1,6 @@
 // The comma text: lines that end in LF, first `rule,invert,boundary`, then a segment's numbers each. Every function here is proved, and the crate assumes
 // nothing of its own. `read` has no `requires`: any bytes and any length of the lent list get an answer.
 mod lines;
-mod number;
 
 use lines::Scanned;
 use lines::read_line;

@@ -1,6 +1,5 @@
 // The lines of a text.
-use super::number::Field;
-use super::number::number;
+use decimal::Field;
 ghost use mathlib.Core.Path.{_≡_};
 ghost use Prim.Native.Nat.{_*_, _≤_};
 ghost use lib.ListN.{length, drop, set};
@@ -32,7 +31,7 @@ pub fn read_line(s: &[u8], k: usize, numbers: &mut [i32], at: usize) -> bool
     let mut i: usize = 0;
     while i < k {
         let to = bytes::scan::find(s, from, s.len(), b',');
-        let Field::Number(z) = number(&s[from..to]) else {
+        let Field::Number(z) = decimal::number(&s[from..to]) else {
             return false;
         };
         store(numbers, at + i, z);

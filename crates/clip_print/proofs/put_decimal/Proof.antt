@@ -2,10 +2,10 @@
 use borrow.Author.Needs.{needs}
 use mathlib.Core.Path.{_∙_}
 use native.Mathlib.Omega.{arith}
-use Rattle.text.specs.Decimal.{decimal}
+use Rattle.decimal.specs.Decimal.{decimal}
 use Rattle.clip_print.specs.Printed.{Put}
 use Rattle.clip_print.proofs.IoDigits.{at-most-20, io-decimal}
-use Rattle.text.proofs.Digits.{length-decimal}
+use Rattle.decimal.proofs.Digits.{length-decimal}
 use Rattle.clip_print.proofs.put_decimal.Statement.{statement}
 use Rattle.clip_print.proofs.put_decimal.Tie as tie
 

@@ -5,7 +5,7 @@ use mathlib.Core.List.{_∷_}
 use native.Mathlib.Omega.{arith}
 use lib.IntN.{ℤ}
 use mir.Facts.{toZ-ofZ}
-use Rattle.text.specs.Decimal.{signed}
+use Rattle.decimal.specs.Decimal.{signed}
 use Rattle.clip_print.proofs.Puts.{put-then, put-same}
 use Rattle.clip_print.proofs.put_next_signed.Statement.{statement}
 use Rattle.clip_print.proofs.put_next_signed.Tie as tie

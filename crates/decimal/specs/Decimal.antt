@@ -1,12 +1,12 @@
 -- Whole numbers as bytes: 48 to 57 are the digits, 45 is the minus. Assumes nothing.
 use mathlib.Core.List.{List, [], _∷_}
 use mathlib.Core.Bool.{Bool, true, false, _&&_, _||_, cond}
-use Prim.Native.Nat.{ℕ, zero, suc, _+_, _*_, _-_, _/_, _%_}
+use Prim.Native.Nat.{ℕ, zero, suc, _+_, _*_, _-_, _/_, _%_, _^_, _<_}
 use lib.Dec.{eqb, leb, ltb}
 use lib.ListN.{length}
-use lib.IntN.{ℤ, pos, negsuc}
-use Rattle.text.specs.declared.number.Field.{Field}
-use Rattle.text.specs.declared.number.Field.the-variants.{Number, Malformed}
+use lib.IntN.{ℤ, pos, negsuc, natAbs}
+use Rattle.decimal.specs.declared.Field.{Field}
+use Rattle.decimal.specs.declared.Field.the-variants.{Number, Malformed}
 
 -- ---- reading
 unfoldable pub isDigit : ℕ → Bool
@@ -52,3 +52,7 @@ decimal n = digits 20 n []
 unfoldable pub signed : ℤ → List ℕ
 signed (pos n) = decimal n
 signed (negsuc n) = 45 ∷ decimal (suc n)
+
+-- at most nine digits
+abbrev pub NineDigits : ℤ → Type 0
+NineDigits z = natAbs z < 10 ^ 9

@@ -10,10 +10,10 @@ use lib.Dec.{eqb, eqb·suc-suc}
 use lib.ListN.{length, getD, drop, length-drop}
 use lib.Seq.{take-all}
 use lib.IntN.{pos}
-use Rattle.text.specs.declared.number.Field.the-variants.{Number, Malformed}
-use Rattle.text.specs.Decimal.{positive, unlessZero, fieldOf}
-use Rattle.text.proofs.number.number.Statement.{statement}
-use Rattle.text.proofs.number.number.Tie as tie
+use Rattle.decimal.specs.declared.Field.the-variants.{Number, Malformed}
+use Rattle.decimal.specs.Decimal.{positive, unlessZero, fieldOf}
+use Rattle.decimal.proofs.number.Statement.{statement}
+use Rattle.decimal.proofs.number.Tie as tie
 
 none-is : (s : List ℕ) → length s ≡ 0 → fieldOf s ≡ Malformed
 unfolding fieldOf

@@ -1,8 +1,8 @@
 -- From 48 on the second test decides. Assumes nothing.
 use borrow.Author.Tests.{le-leb, lt-leb}
-use Rattle.text.specs.Decimal.{isDigit}
-use Rattle.text.proofs.number.is_digit.Statement.{statement}
-use Rattle.text.proofs.number.is_digit.Tie as tie
+use Rattle.decimal.specs.Decimal.{isDigit}
+use Rattle.decimal.proofs.is_digit.Statement.{statement}
+use Rattle.decimal.proofs.is_digit.Tie as tie
 
 returns : tie.Need-returns
 unfolding isDigit

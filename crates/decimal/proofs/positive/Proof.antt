@@ -13,10 +13,10 @@ use lib.ListN.{length, getD, drop, drop-of-length-le}
 use lib.Seq.{drop-cons}
 use Rattle.integers.proofs.Booleans.{or-l, or-r}
 use Rattle.segm.proofs.Tallies.{cases}
-use Rattle.text.specs.Decimal.{isDigit, worth, positive}
-use Rattle.text.proofs.Digits.{digit}
-use Rattle.text.proofs.number.positive.Statement.{statement}
-use Rattle.text.proofs.number.positive.Tie as tie
+use Rattle.decimal.specs.Decimal.{isDigit, worth, positive}
+use Rattle.decimal.proofs.Digits.{digit}
+use Rattle.decimal.proofs.positive.Statement.{statement}
+use Rattle.decimal.proofs.positive.Tie as tie
 
 -- ---- laws
 worth-step : (s : List ℕ) (i v : ℕ) → i < length s → worth v (drop i s) ≡ cond (isDigit (getD s i 0)) (worth (v * 10 + (getD s i 0 - 48)) (drop (i + 1) s)) 0

@@ -10,10 +10,10 @@ use mir.Syntax.{w32}
 use mir.Val.{toZ}
 use mir.Facts.{toZ-pos}
 use Rattle.integers.proofs.Machine.{Val, Is, lit, sub, ret}
-use Rattle.text.specs.declared.number.Field.the-variants.{Number}
-use Rattle.text.specs.Decimal.{unlessZero}
-use Rattle.text.proofs.number.unless_zero.Statement.{statement}
-use Rattle.text.proofs.number.unless_zero.Tie as tie
+use Rattle.decimal.specs.declared.Field.the-variants.{Number}
+use Rattle.decimal.specs.Decimal.{unlessZero}
+use Rattle.decimal.proofs.unless_zero.Statement.{statement}
+use Rattle.decimal.proofs.unless_zero.Tie as tie
 
 value : (v : ℕ) → v < 10 ^ 9 → Val (10 ^ 9) (toZ w32 v) (pos v)
 value v h = record { is = toZ-pos w32 (omega arith); bound = omega arith }

@@ -1,8 +1,9 @@
-// A field's number.
+// Numbers as bytes. Every function here is proved, and the crate assumes nothing of its own.
 ghost use mathlib.Core.Path.{_≡_};
 ghost use Prim.Native.Nat.{_^_, _<_};
-ghost use Rattle.text.specs.Decimal.{isDigit, positive, unlessZero, fieldOf};
+ghost use Rattle.decimal.specs.Decimal.{isDigit, positive, unlessZero, fieldOf};
 
+// What a field of a text holds.
 pub enum Field {
     Number(i32),
     Malformed,
