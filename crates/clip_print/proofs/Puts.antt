@@ -4,10 +4,10 @@ use mathlib.Core.List.{List, [], _∷_, _++_, append-assoc, append-nil}
 use Prim.Native.Nat.{ℕ, _+_, _≤_}
 use native.Mathlib.Nat.{zero-add}
 use native.Mathlib.Omega.{arith}
-use lib.ListN.{length, drop, length-append}
-use lib.Seq.{sets-eq}
+use lib.ListN.{length, length-append}
+use lib.Seq.{take-all}
 use Rattle.segm.specs.Lists.{written}
-use Rattle.segm.proofs.Stores.{sets-append}
+use Rattle.segm.proofs.Stores.{sets-append, sets-front}
 use Rattle.text.specs.Writing.{joined, lineOf}
 use Rattle.clip_print.specs.Printed.{Put}
 
@@ -24,10 +24,9 @@ module _ {a b : List ℕ} {i j : ℕ} {s : List ℕ} (p : Put a i s j b) where
 
 -- what stands at the front of a list that has room
 pub put-whole : {old s new : List ℕ} {r : ℕ} → Put old 0 s r new → r ≤ length old → (r ≡ length s) × (new ≡ written s old)
-unfolding written
 put-whole {old = old} {s = s} p h =
     let n = p .place ∙ zero-add (length s) in
-    (n, p .list ∙ sets-eq s old 0 (omega (arith, n, h)) ∙ ap (λ (k : ℕ). s ++ drop k old) (zero-add (length s)))
+    (n, p .list ∙ sets-front s old ∙ ap (λ (l : List ℕ). written l old) (take-all (length old) s (omega (arith, n, h))))
 
 -- ---- a whole of which a rest is left to put
 pub record Left (whole old : List ℕ) (at : ℕ) (rest : List ℕ) (next : ℕ) (new : List ℕ) : Type 0 where

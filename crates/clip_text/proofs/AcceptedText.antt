@@ -1,27 +1,25 @@
 -- The text of an accepted drawing is read back, and its paths are printed. Assumes nothing.
-use mathlib.Core.Path.{_≡_, refl, sym, ap, subst, _∙_}
+use mathlib.Core.Path.{_≡_, refl, ap, subst, _∙_}
 use mathlib.Core.Bool.{true}
 use mathlib.Core.List.{List, [], _∷_, map}
 use mathlib.Core.Logic.{inl, inr}
-use Prim.Native.Nat.{ℕ, _*_, _≤_}
+use Prim.Native.Nat.{ℕ, _≤_}
 use native.Mathlib.Omega.{arith}
-use borrow.Author.Tests.{le-ltb}
 use lib.ListN.{length, replicate, length-replicate}
 use lib.IntN.{ℤ, pos, natAbs}
-use Rattle.integers.proofs.Booleans.{both-l, both-r, neither}
+use Rattle.integers.proofs.Booleans.{both-l, both-r}
 use Rattle.integers.proofs.Order.{abs-up-to}
 use Rattle.geom.specs.declared.Point.{Point}
 use Rattle.geom.specs.Points.{within, inRange}
 use Rattle.geom.proofs.Points.{within-l, within-r, near-x, near-y}
 use Rattle.segm.specs.declared.Segment.{Segment}
-use Rattle.segm.specs.Lists.{_∈_, any}
-use Rattle.segm.specs.Segments.{Drawing, width, count, segments, numbersOf, laid}
-use Rattle.segm.proofs.Segments.{length-segments}
+use Rattle.segm.specs.Lists.{_∈_}
+use Rattle.segm.specs.Segments.{Drawing, width, segments, numbersOf, laid}
 use Rattle.segm.proofs.Laid.{segments-laid}
 use Rattle.segm.proofs.Tallies.{in-map}
 use Rattle.checks.specs.Drawing.{endsInRange}
 use Rattle.checks.specs.declared.Verdict.the-variants.{Accepted}
-use Rattle.checks.specs.Verdict.{tooShort, verdict}
+use Rattle.checks.specs.Verdict.{verdict}
 use Rattle.checks.specs.Runs.{upTo, ruleChoice, flagChoice, clipRun}
 use Rattle.checks.specs.Accepted.{accepts, Good}
 use Rattle.checks.proofs.Order.{passed}
@@ -29,10 +27,11 @@ use Rattle.checks.proofs.Good.{verdict-known, accepted-input, accepted-good, ac
 use Rattle.build.specs.Fills.{ruleOf}
 use Rattle.build.specs.Links.{filterOf}
 use Rattle.string_clip.specs.declared.Clipped.the-variants.{Done}
+use Rattle.string_clip.specs.Claim.{Room}
 use Rattle.string_clip.specs.Paths.{clipPaths}
 use Rattle.string_clip.specs.Run.{totals}
 use Rattle.string_clip.proofs.ReadBack.{read-back}
-use Rattle.string_clip.proofs.Together.{accepted-outcome}
+use Rattle.string_clip.proofs.Together.{accepted-outcome, room-long}
 use Rattle.text.specs.declared.Choices.{Choices}
 use Rattle.text.specs.Grammar.{Parsed, Drawn, parsed}
 use Rattle.text.specs.Writing.{choiceNumbers, writing}
@@ -84,11 +83,11 @@ module _ (c : Choices) (d : Drawing) (e : accepts (laid d) (c .rule) (c .invert)
 
   -- lists for 1,024 segments are long enough for it
   accepted-clip : (xs : List ℤ) (ns : List ℕ) → length xs ≡ 8192 → length ns ≡ 2048 → verdict (clipRun (laid d) (c .rule) (c .invert) (c .boundary) (length xs) (length ns)) ≡ Accepted
-  unfolding clipRun any tooShort
+  unfolding clipRun
   accepted-clip xs ns h k =
-      let n = sym (length-segments (laid d)) ∙ ap length (segments-laid d) in
-      accepted-run (laid d) (c .rule) (c .invert) (c .boundary) e _ _ (passed _ (accepted-input (laid d) (c .rule) (c .invert) (c .boundary) e) .known)
-      (neither (le-ltb (length xs) (8 * count (laid d)) (omega (arith, n, h, good .few))) (neither (le-ltb (length ns) (2 * count (laid d)) (omega (arith, n, k, good .few))) refl))
+      let n = ap length (segments-laid d) in
+      let room : Room (laid d) xs ns = record { points-fit = omega (arith, n, h, good .few); lengths-fit = omega (arith, n, k, good .few) } in
+      accepted-run (laid d) (c .rule) (c .invert) (c .boundary) e _ _ (passed _ (accepted-input (laid d) (c .rule) (c .invert) (c .boundary) e) .known) (room-long (laid d) xs ns room)
 
   abbrev paths : Drawing → List (List Point)
   paths = clipPaths (ruleOf (c .rule)) (filterOf (c .invert) (c .boundary))

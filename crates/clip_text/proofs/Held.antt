@@ -1,6 +1,5 @@
 -- An accepted run's paths stand in its lists. Assumes nothing.
 use mathlib.Core.Path.{_≡_, refl, sym, ap, subst, _∙_}
-use mathlib.Core.Logic.{inl, inr}
 use mathlib.Core.List.{List, [], _∷_, map, flatten}
 use Prim.Native.Nat.{ℕ, _+_, _*_, _≤_}
 use native.Mathlib.Omega.{arith}
@@ -10,12 +9,10 @@ use Rattle.geom.specs.declared.Point.{Point}
 use Rattle.segm.specs.Lists.{tally}
 use Rattle.segm.specs.Segments.{width, segments}
 use Rattle.segm.proofs.Lists.{length-written, take-written}
-use Rattle.segm.proofs.Segments.{length-segments}
 use Rattle.checks.specs.declared.Verdict.{Verdict}
 use Rattle.checks.specs.declared.Verdict.the-variants as verdict-is
 use Rattle.checks.specs.Verdict.{verdict}
-use Rattle.checks.specs.Runs.{lent, clipRun}
-use Rattle.checks.proofs.Good.{verdict-room}
+use Rattle.checks.specs.Runs.{clipRun}
 use Rattle.build.specs.Fills.{ruleOf}
 use Rattle.build.specs.Links.{filterOf}
 use Rattle.string_clip.specs.declared.Clipped.the-variants.{Refused}
@@ -23,7 +20,7 @@ use Rattle.string_clip.specs.Paths.{clipPaths}
 use Rattle.string_clip.specs.Claim.{Tells}
 use Rattle.string_clip.specs.Run.{totals, coordinates, Outcome, answered, clipOutcome, told}
 use Rattle.string_clip.proofs.ReadBack.{length-coordinates}
-use Rattle.string_clip.proofs.Together.{accepted-tells, accepted-outcome}
+use Rattle.string_clip.proofs.Together.{accepted-outcome, accepted-room, accepted-tells}
 use Rattle.text.specs.Grammar.{Parsed, BadLine, Drawn, parsed}
 use Rattle.clip_print.specs.Printed.{Held}
 use Rattle.clip_text.specs.Answer.{runOn, textOutcome}
@@ -56,14 +53,14 @@ module _ (points : List ℤ) (lengths : List ℕ) where
 
   accepted-held : (numbers : List ℤ) (rule invert boundary : ℤ) → verdict (clipRun numbers rule invert boundary (length points) (length lengths)) ≡ verdict-is.Accepted
       → HeldOf (answered verdict-is.Accepted (clipPaths (ruleOf rule) (filterOf invert boundary) (segments numbers)) points lengths)
-  unfolding totals clipRun
+  unfolding totals
   accepted-held numbers rule invert boundary e =
       let d = segments numbers in
       let paths = clipPaths (ruleOf rule) (filterOf invert boundary) d in
       let tells = subst (Tells d points lengths) (accepted-outcome numbers rule invert boundary points lengths e) (accepted-tells numbers rule invert boundary points lengths e) in
-      let n = length-segments numbers in
-      let h : 2 * length (flatten paths) ≤ length points = omega (arith, n, tells .few-points, verdict-room _ e (lent (length points) 8) (inl refl)) in
-      let k : length paths ≤ length lengths = omega (arith, n, tells .few-paths, verdict-room _ e (lent (length lengths) 2) (inr (inl refl))) in
+      let room = accepted-room numbers rule invert boundary points lengths e in
+      let h : 2 * length (flatten paths) ≤ length points = omega (arith, tells .few-points, room .points-fit) in
+      let k : length paths ≤ length lengths = omega (arith, tells .few-paths, room .lengths-fit) in
       written-held paths points lengths h k
 
   run-held : (numbers : List ℤ) (rule invert boundary : ℤ) → HeldOf (clipOutcome numbers rule invert boundary points lengths)

@@ -149,13 +149,15 @@ module _ (numbers : List ℤ) (rule invert boundary : ℤ) (xs : List ℤ) (ns :
   unfolding clipOutcome
   accepted-outcome = rw e
 
-  pub accepted-tells : Tells (segments numbers) xs ns (clipOutcome numbers rule invert boundary xs ns)
+  pub accepted-room : Room numbers xs ns
   unfolding clipRun
-  accepted-tells =
-      let d = segments numbers in
-      let h : 8 * length d ≤ length xs = omega (arith, length-segments numbers, verdict-room _ e (lent (length xs) 8) (inl refl)) in
-      let k : 2 * length d ≤ length ns = omega (arith, length-segments numbers, verdict-room _ e (lent (length ns) 2) (inr (inl refl))) in
-      rw accepted-outcome (run-tells d accepted-drawing (ruleOf rule) (filterOf invert boundary) xs ns h k)
+  accepted-room = record {
+    points-fit = omega (arith, length-segments numbers, verdict-room _ e (lent (length xs) 8) (inl refl));
+    lengths-fit = omega (arith, length-segments numbers, verdict-room _ e (lent (length ns) 2) (inr (inl refl)));
+  }
+
+  pub accepted-tells : Tells (segments numbers) xs ns (clipOutcome numbers rule invert boundary xs ns)
+  accepted-tells = rw accepted-outcome (run-tells (segments numbers) accepted-drawing (ruleOf rule) (filterOf invert boundary) xs ns (accepted-room .points-fit) (accepted-room .lengths-fit))
 
 module _ (numbers : List ℤ) (rule boundary : ℤ) (xs₀ xs₁ : List ℤ) (ns₀ ns₁ : List ℕ) where
   abbrev inside : Outcome
@@ -174,7 +176,7 @@ module _ (numbers : List ℤ) (rule boundary : ℤ) (xs₀ xs₁ : List ℤ) (ns
   )
 
 -- ---- the theorem
-room-long : (numbers xs : List ℤ) (ns : List ℕ) → Room numbers xs ns → any (tooShort (count numbers)) (lent (length xs) 8 ∷ lent (length ns) 2 ∷ []) ≡ false
+pub room-long : (numbers xs : List ℤ) (ns : List ℕ) → Room numbers xs ns → any (tooShort (count numbers)) (lent (length xs) 8 ∷ lent (length ns) 2 ∷ []) ≡ false
 unfolding any tooShort
 room-long numbers xs ns r = neither
     (le-ltb (length xs) (8 * count numbers) (omega (arith, length-segments numbers, r .points-fit)))
