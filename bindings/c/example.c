@@ -1,4 +1,5 @@
-/* The fills of a square that a line cuts, the line inside and outside of it, and refusals:
+/* The fills of a square that a line cuts, the line inside and outside of it, the two halves, the loops of a
+   line that touches itself, and refusals:
    cc -Ibindings/c bindings/c/example.c -Ltarget/staticlib -loverlay -o example */
 
 #include "overlay.h"
@@ -38,6 +39,15 @@ static void print_fills(size_t numbers) {
     printf("\n");
 }
 
+/* The points of one path on a line, after which the next path begins. */
+static const int32_t *print_path(const int32_t *point, uint32_t length) {
+    for (uint32_t k = 0; k < length; k++, point += 2) {
+        printf(k == 0 ? "(%" PRId32 ",%" PRId32 ")" : " (%" PRId32 ",%" PRId32 ")", point[0], point[1]);
+    }
+    printf("\n");
+    return point;
+}
+
 /* Each path on a line of its own, then the totals. */
 static void print_clip(int32_t invert) {
     int32_t points[8 * SEGMENTS];
@@ -49,13 +59,46 @@ static void print_clip(int32_t invert) {
     }
     const int32_t *point = points;
     for (uint64_t i = 0; i < clipped.paths; i++) {
-        for (uint32_t k = 0; k < lengths[i]; k++, point += 2) {
-            printf(k == 0 ? "(%" PRId32 ",%" PRId32 ")" : " (%" PRId32 ",%" PRId32 ")", point[0], point[1]);
-        }
-        printf("\n");
+        point = print_path(point, lengths[i]);
     }
     printf("%" PRIu64 " paths, %" PRIu64 " points, %" PRIu64 " steps, travel %" PRIu64 "\n", clipped.paths,
            clipped.points, clipped.steps, clipped.travel);
+}
+
+/* The pieces of at least this area, each with its role. */
+static void print_slice(int32_t direction, uint64_t min_area) {
+    int32_t points[4 * SEGMENTS];
+    uint32_t lengths[2 * SEGMENTS];
+    uint8_t roles[2 * SEGMENTS];
+    struct overlay_sliced sliced =
+        overlay_slice(drawing, NUMBERS, NON_ZERO, direction, min_area, points, 4 * SEGMENTS, lengths,
+                      2 * SEGMENTS, roles, 2 * SEGMENTS);
+    if (refused(sliced.number, sliced.place)) {
+        return;
+    }
+    const int32_t *point = points;
+    for (uint64_t i = 0; i < sliced.contours; i++) {
+        printf(roles[i] == 1 ? "hole " : "piece ");
+        point = print_path(point, lengths[i]);
+    }
+    printf("%" PRIu64 " contours, %" PRIu64 " points\n", sliced.contours, sliced.points);
+}
+
+/* The loops of two triangles that touch at (0,0), with another x for the second point. */
+static void print_split(int32_t x) {
+    enum { POINTS = 6 };
+    int32_t points[2 * POINTS] = {0, 0, x, 0, 4, 4, 0, 0, -4, 0, -4, -4};
+    int32_t out[2 * POINTS];
+    uint32_t lengths[POINTS];
+    struct overlay_looped looped = overlay_split(points, 2 * POINTS, 0, out, 2 * POINTS, lengths, POINTS);
+    if (refused(looped.number, looped.place)) {
+        return;
+    }
+    const int32_t *point = out;
+    for (uint64_t i = 0; i < looped.loops; i++) {
+        point = print_path(point, lengths[i]);
+    }
+    printf("%" PRIu64 " loops, %" PRIu64 " points\n", looped.loops, looped.points);
 }
 
 int main(void) {
@@ -64,5 +107,10 @@ int main(void) {
     print_clip(0);
     print_clip(1);
     print_clip(2);
+    print_slice(0, 0);
+    print_slice(1, 50);
+    print_slice(0, 51);
+    print_split(4);
+    print_split(16777217);
     return 0;
 }

@@ -17,7 +17,9 @@
       7  a is less than the previous segment's a (place)
       8  two segments meet wrongly (place: the lower one's)
       9  the drawing does not balance (place: the lowest segment touching an unbalanced point)
-   3 to 7 are tried segment by segment, the lowest number first within one.
+     12  a slice walk finds no move
+   3 to 7 are tried segment by segment, the lowest number first within one. overlay_split takes points
+   instead of a drawing, and refuses by 2, 11 and 3 only, as said there.
 
    A list is passed as a pointer and its number of entries. No pointer may be NULL, not even for a list
    of no entries: pass the address of anything. Lists of one call must not overlap. Entries past the
@@ -65,6 +67,41 @@ struct overlay_clipped {
 struct overlay_clipped overlay_clip(const int32_t *segments, size_t segments_len, int32_t rule,
                                     int32_t invert, int32_t boundary, int32_t *points,
                                     size_t points_len, uint32_t *lengths, size_t lengths_len);
+
+struct overlay_sliced {
+    uint64_t number;
+    uint64_t place;
+    uint64_t contours;
+    uint64_t points;
+};
+
+/* The pieces that all segments, lines too, cut the dough into, as contours in order of making. Outer
+   contours run counter-clockwise if direction is 0, clockwise if it is 1; holes run the other way. A
+   min_area of 0 takes all contours, any other those whose area, halves left off, is no less.
+   `points` gets x and y of each point, contour by contour, `lengths` how many points each contour has
+   and `roles` 1 for a hole, 0 otherwise. For n segments they need 4n, 2n and 2n entries. */
+struct overlay_sliced overlay_slice(const int32_t *segments, size_t segments_len, int32_t rule,
+                                    int32_t direction, uint64_t min_area, int32_t *points,
+                                    size_t points_len, uint32_t *lengths, size_t lengths_len,
+                                    uint8_t *roles, size_t roles_len);
+
+struct overlay_looped {
+    uint64_t number;
+    uint64_t place;
+    uint64_t loops;
+    uint64_t points;
+};
+
+/* The loops of a closed line of up to 2,048 points, x and y of each: where it comes back to a point, what
+   lies between is a loop of its own. Loops of one or two points are dropped, and by min_area as above.
+   `out` gets x and y of each point, loop by loop, and `lengths` how many points each loop has. They need
+   as many entries as `points`, and one for each point. What is refused, tried in this order:
+      2  the length is odd, or there are over 2,048 points
+     11  a lent list is too short
+      3  a coordinate is not from -16,777,216 to 16,777,216 (place: the point's, from 0) */
+struct overlay_looped overlay_split(const int32_t *points, size_t points_len, uint64_t min_area,
+                                    int32_t *out, size_t out_len, uint32_t *lengths,
+                                    size_t lengths_len);
 
 #ifdef __cplusplus
 }

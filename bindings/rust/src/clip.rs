@@ -1,3 +1,4 @@
+use crate::points::{paths, Point};
 use crate::{raw, room, Refusal, Rule};
 
 /// Which lines are kept: those inside, or with `invert` those outside. A line with dough on one side only
@@ -7,9 +8,6 @@ pub struct ClipRule {
     pub invert: bool,
     pub boundary_included: bool,
 }
-
-/// x and y.
-pub type Point = (i32, i32);
 
 /// The counts of a clip. A step is two neighbouring points of one path.
 #[derive(Debug, Clone, Copy, PartialEq, Eq, Hash)]
@@ -34,10 +32,7 @@ pub fn clip(segments: &[i32], rule: Rule, clip_rule: ClipRule) -> Result<Clip, R
     let mut points = vec![0; 8 * n];
     let mut lengths = vec![0; 2 * n];
     let totals = clip_into(segments, rule, clip_rule, &mut points, &mut lengths)?;
-    let mut rest = points.chunks_exact(2).map(|pair| (pair[0], pair[1]));
-    let path = |&length: &u32| rest.by_ref().take(length as usize).collect();
-    let paths = lengths[..totals.paths].iter().map(path).collect();
-    Ok(Clip { paths, totals })
+    Ok(Clip { paths: paths(&points, &lengths[..totals.paths]), totals })
 }
 
 /// As [`clip`], into lent lists: x and y of each point, path by path, and how many points each path has.
@@ -65,7 +60,7 @@ pub fn clip_into(
 ) -> Result<Totals, Refusal> {
     let ClipRule { invert, boundary_included } = clip_rule;
     let clipped = raw::clip(segments, rule as i32, invert.into(), boundary_included.into(), points, lengths);
-    Refusal::check(clipped.number, clipped.place)?;
+    Refusal::of_drawing(clipped.number, clipped.place)?;
     Ok(Totals {
         paths: clipped.paths as usize,
         points: clipped.points as usize,

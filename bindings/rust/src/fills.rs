@@ -22,6 +22,6 @@ pub fn fills(segments: &[i32], rule: Rule) -> Result<Vec<u8>, Refusal> {
 /// ```
 pub fn fills_into(segments: &[i32], rule: Rule, fills: &mut [u8]) -> Result<usize, Refusal> {
     let filled = raw::fills(segments, rule as i32, fills);
-    Refusal::check(filled.number, filled.place)?;
+    Refusal::of_drawing(filled.number, filled.place)?;
     Ok(filled.count as usize)
 }

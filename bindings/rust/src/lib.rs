@@ -7,7 +7,7 @@
 //! Any numbers may be passed: a drawing is either answered or refused, with the reason and the place.
 //!
 //! ```
-//! use jumperclay::{clip, fills, ClipRule, Rule};
+//! use jumperclay::{clip, fills, slice, ClipRule, Direction, Rule};
 //!
 //! // A square cut in two by a line that sticks out on both sides.
 //! let drawing = [
@@ -30,17 +30,27 @@
 //! let ends = clip(&drawing, Rule::NonZero, outside)?;
 //! assert_eq!(ends.paths, [[(-5, 5), (0, 5)], [(10, 5), (15, 5)]]);
 //! assert_eq!(ends.totals.travel, 10);
+//!
+//! let halves = slice(&drawing, Rule::NonZero, Direction::CounterClockwise, 0)?;
+//! assert_eq!(halves[0].points, [(10, 0), (10, 5), (0, 5), (0, 0)]);
+//! assert_eq!(halves[1].points, [(10, 5), (10, 10), (0, 10), (0, 5)]);
 //! # Ok::<(), jumperclay::Refusal>(())
 //! ```
 
 mod clip;
 mod fills;
+mod points;
 pub mod raw;
 mod refusal;
+mod slice;
+mod split;
 
-pub use clip::{clip, clip_into, Clip, ClipRule, Point, Totals};
+pub use clip::{clip, clip_into, Clip, ClipRule, Totals};
 pub use fills::{fills, fills_into};
+pub use points::{ContourTotals, Point};
 pub use refusal::{Reason, Refusal};
+pub use slice::{slice, slice_into, Contour, Direction};
+pub use split::{split, split_into};
 
 /// Which counts are filled.
 #[derive(Debug, Clone, Copy, PartialEq, Eq, Hash)]

@@ -21,6 +21,26 @@ pub struct Clipped {
     pub travel: u64,
 }
 
+/// What [`overlay_slice`] returns. Number and place are 0 on success, all others are 0 on a refusal.
+#[repr(C)]
+#[derive(Debug, Clone, Copy, PartialEq, Eq)]
+pub struct Sliced {
+    pub number: u64,
+    pub place: u64,
+    pub contours: u64,
+    pub points: u64,
+}
+
+/// What [`overlay_split`] returns. Number and place are 0 on success, all others are 0 on a refusal.
+#[repr(C)]
+#[derive(Debug, Clone, Copy, PartialEq, Eq)]
+pub struct Looped {
+    pub number: u64,
+    pub place: u64,
+    pub loops: u64,
+    pub points: u64,
+}
+
 // Each reads and writes at most as many entries as the lengths say. Lists of one call must not overlap,
 // and no pointer may be null, also where the length is 0.
 extern "C" {
@@ -43,6 +63,30 @@ extern "C" {
         lengths: *mut u32,
         lengths_len: usize,
     ) -> Clipped;
+
+    pub fn overlay_slice(
+        segments: *const i32,
+        segments_len: usize,
+        rule: i32,
+        direction: i32,
+        min_area: u64,
+        points: *mut i32,
+        points_len: usize,
+        lengths: *mut u32,
+        lengths_len: usize,
+        roles: *mut u8,
+        roles_len: usize,
+    ) -> Sliced;
+
+    pub fn overlay_split(
+        points: *const i32,
+        points_len: usize,
+        min_area: u64,
+        out: *mut i32,
+        out_len: usize,
+        lengths: *mut u32,
+        lengths_len: usize,
+    ) -> Looped;
 }
 
 /// [`overlay_fills`] on slices.
@@ -70,6 +114,50 @@ pub fn clip(
             boundary,
             points.as_mut_ptr(),
             points.len(),
+            lengths.as_mut_ptr(),
+            lengths.len(),
+        )
+    }
+}
+
+/// [`overlay_slice`] on slices.
+pub fn slice(
+    segments: &[i32],
+    rule: i32,
+    direction: i32,
+    min_area: u64,
+    points: &mut [i32],
+    lengths: &mut [u32],
+    roles: &mut [u8],
+) -> Sliced {
+    // SAFETY: all pointers are valid for their lengths, and the borrows keep the lists apart.
+    unsafe {
+        overlay_slice(
+            segments.as_ptr(),
+            segments.len(),
+            rule,
+            direction,
+            min_area,
+            points.as_mut_ptr(),
+            points.len(),
+            lengths.as_mut_ptr(),
+            lengths.len(),
+            roles.as_mut_ptr(),
+            roles.len(),
+        )
+    }
+}
+
+/// [`overlay_split`] on slices.
+pub fn split(points: &[i32], min_area: u64, out: &mut [i32], lengths: &mut [u32]) -> Looped {
+    // SAFETY: all pointers are valid for their lengths, and the borrows keep the lists apart.
+    unsafe {
+        overlay_split(
+            points.as_ptr(),
+            points.len(),
+            min_area,
+            out.as_mut_ptr(),
+            out.len(),
             lengths.as_mut_ptr(),
             lengths.len(),
         )

@@ -1,34 +1,40 @@
 use std::error::Error;
 use std::fmt;
 
-/// What is wrong with a drawing, or with the run asked of it.
+/// What is wrong with a drawing or a list of points, or with the run asked of it.
 #[derive(Debug, Clone, Copy, PartialEq, Eq, Hash)]
 #[non_exhaustive]
 pub enum Reason {
     /// 2: the length is no multiple of six, or there are over 1,024 segments.
-    Length = 2,
+    Length,
     /// 3: a coordinate is not from -16,777,216 to 16,777,216.
-    Coordinate = 3,
+    Coordinate,
     /// 4: a is not less than b.
-    Ends = 4,
+    Ends,
     /// 5: the winding is not from -1,000 to 1,000.
-    Winding = 5,
+    Winding,
     /// 6: the line bits are not from 0 to 3.
-    LineBits = 6,
+    LineBits,
     /// 7: a is less than the previous segment's a.
-    Order = 7,
+    Order,
     /// 8: two segments meet wrongly.
-    Meeting = 8,
+    Meeting,
     /// 9: at some point the windings that start and those that end have different sums.
-    Balance = 9,
+    Balance,
     /// 10: an unknown choice.
-    Choice = 10,
+    Choice,
     /// 11: a lent list is too short.
-    ShortList = 11,
+    ShortList,
+    /// 12: a slice walk finds no move.
+    NoMove,
+    /// 2, of a list of points: the length is odd, or there are over 2,048 points.
+    PointsLength,
+    /// 3, of a list of points: a coordinate is not from -16,777,216 to 16,777,216.
+    PointCoordinate,
 }
 
 impl Reason {
-    const ALL: [Self; 10] = [
+    const OF_DRAWINGS: [Self; 11] = [
         Self::Length,
         Self::Coordinate,
         Self::Ends,
@@ -39,17 +45,32 @@ impl Reason {
         Self::Balance,
         Self::Choice,
         Self::ShortList,
+        Self::NoMove,
     ];
+    const OF_POINTS: [Self; 3] = [Self::PointsLength, Self::PointCoordinate, Self::ShortList];
 
     /// The refusal's number.
     pub fn number(self) -> u64 {
-        self as u64
+        match self {
+            Self::Length | Self::PointsLength => 2,
+            Self::Coordinate | Self::PointCoordinate => 3,
+            Self::Ends => 4,
+            Self::Winding => 5,
+            Self::LineBits => 6,
+            Self::Order => 7,
+            Self::Meeting => 8,
+            Self::Balance => 9,
+            Self::Choice => 10,
+            Self::ShortList => 11,
+            Self::NoMove => 12,
+        }
     }
 
     fn words(self) -> &'static str {
         match self {
             Self::Length => "the length is no multiple of six, or there are over 1,024 segments",
-            Self::Coordinate => "a coordinate is out of range",
+            Self::PointsLength => "the length is odd, or there are over 2,048 points",
+            Self::Coordinate | Self::PointCoordinate => "a coordinate is out of range",
             Self::Ends => "a is not less than b",
             Self::Winding => "the winding is out of range",
             Self::LineBits => "the line bits are out of range",
@@ -58,15 +79,22 @@ impl Reason {
             Self::Balance => "the drawing does not balance at one of its ends",
             Self::Choice => "a choice is unknown",
             Self::ShortList => "a lent list is too short",
+            Self::NoMove => "a walk around a piece finds no way on",
         }
     }
 
-    fn has_place(self) -> bool {
-        !matches!(self, Self::Length | Self::Choice | Self::ShortList)
+    /// What the place counts, where one is meant.
+    fn place_of(self) -> Option<&'static str> {
+        match self {
+            Self::Length | Self::PointsLength | Self::Choice | Self::ShortList | Self::NoMove => None,
+            Self::PointCoordinate => Some("point"),
+            _ => Some("segment"),
+        }
     }
 }
 
-/// A drawing turned down: why, and at which segment, counted from 0. The place is 0 where none is meant.
+/// A drawing or a list of points turned down: why, and at which segment or point, counted from 0. The place is 0 where
+/// none is meant.
 #[derive(Debug, Clone, Copy, PartialEq, Eq, Hash)]
 pub struct Refusal {
     pub reason: Reason,
@@ -79,21 +107,30 @@ impl Refusal {
         self.reason.number()
     }
 
-    /// The refusal of this number and place; 0 is success.
-    pub(crate) fn check(number: u64, place: u64) -> Result<(), Self> {
+    /// The refusal of a drawing by this number and place; 0 is success.
+    pub(crate) fn of_drawing(number: u64, place: u64) -> Result<(), Self> {
+        Self::check(&Reason::OF_DRAWINGS, number, place)
+    }
+
+    /// As of a drawing, of a list of points.
+    pub(crate) fn of_points(number: u64, place: u64) -> Result<(), Self> {
+        Self::check(&Reason::OF_POINTS, number, place)
+    }
+
+    fn check(reasons: &[Reason], number: u64, place: u64) -> Result<(), Self> {
         if number == 0 {
             return Ok(());
         }
-        let reason = Reason::ALL.into_iter().find(|reason| reason.number() == number);
-        let reason = reason.expect("the library returns no other number");
+        let reason = reasons.iter().find(|reason| reason.number() == number);
+        let &reason = reason.expect("the library returns no other number");
         Err(Self { reason, place: place as usize })
     }
 }
 
 impl fmt::Display for Refusal {
     fn fmt(&self, f: &mut fmt::Formatter<'_>) -> fmt::Result {
-        if self.reason.has_place() {
-            write!(f, "segment {}: ", self.place)?;
+        if let Some(counted) = self.reason.place_of() {
+            write!(f, "{counted} {}: ", self.place)?;
         }
         f.write_str(self.reason.words())
     }

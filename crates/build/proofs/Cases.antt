@@ -1,4 +1,4 @@
--- Worked cases of the fills, by computing: document 01's case A, each rule, and each clause of the ray.
+-- Worked cases of the fills, by computing, beside document 01's case A (`trials`): each rule, and each clause of the ray.
 use mathlib.Core.Path.{_≡_, refl}
 use mathlib.Core.List.{List, [], _∷_, _++_, map}
 use mathlib.Core.Bool.{true, false}
@@ -41,8 +41,6 @@ abbrev noise : List ℕ
 noise = 21 ∷ 22 ∷ 23 ∷ 24 ∷ 25 ∷ 26 ∷ 27 ∷ 28 ∷ 29 ∷ 30 ∷ 31 ∷ []
 
 pub record Cases : Type 0 where
-  -- A's fills, and what stays of a longer list
-  pub case-A : fillsOutcome A (pos 1) noise ≡ outcome (Done 9) (4 ∷ 2 ∷ 1 ∷ 2 ∷ 7 ∷ 2 ∷ 1 ∷ 1 ∷ 4 ∷ 30 ∷ 31 ∷ [])
   -- refused: nothing is written
   pub unknown-rule : fillsOutcome A (pos 4) noise ≡ outcome (Refused 10 0) noise
   pub one-short : fillsOutcome A (pos 1) (1 ∷ 2 ∷ 3 ∷ 4 ∷ 5 ∷ 6 ∷ 7 ∷ 8 ∷ []) ≡ outcome (Refused 11 0) (1 ∷ 2 ∷ 3 ∷ 4 ∷ 5 ∷ 6 ∷ 7 ∷ 8 ∷ [])
@@ -69,7 +67,6 @@ pub record Cases : Type 0 where
 pub cases : Cases
 unfolding eqZ within ltP eqP coordinate inRange cross between any sum written front segmentsOf count whole segments segmentAt total side parts inside sameEnds meetsWrongly endsInRange rises windingInRange bitsInRange fault faultAt meetingAt balance balances unbalancedAt wrongLength unknownChoice tooShort firstFrom first inOrder verdict fillsRun spans above clockwise met bottom top filled ruleOf fillOf fill fills fillsOutcome
 cases = record {
-  case-A = refl;
   unknown-rule = refl;
   one-short = refl;
   three-counts = refl;

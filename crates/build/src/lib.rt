@@ -9,3 +9,4 @@ pub use ray::Filled;
 pub use ray::Rule;
 pub use ray::fills;
 pub use ray::rule_of;
+pub use ray::write_fills;

@@ -1,4 +1,4 @@
--- Trial drawings of document 01, by computing: the definitions give what it says.
+-- Worked cases of the verdict, by computing, beside document 01's trial drawings (`trials`), whose case A stands here.
 use mathlib.Core.Path.{_≡_, refl}
 use mathlib.Core.List.{List, [], _∷_, _++_}
 use lib.IntN.{ℤ, pos, negsuc}
@@ -33,11 +33,6 @@ A = negsuc 4 ∷ pos 5 ∷ pos 0 ∷ pos 5 ∷ pos 0 ∷ pos 1
     ∷ pos 10 ∷ pos 5 ∷ pos 15 ∷ pos 5 ∷ pos 0 ∷ pos 1 ∷ []
 
 pub record Cases : Type 0 where
-  -- (0,0)-(2,0) and (1,0)-(1,1): 8, place 0. With (2,0)-(2,1) instead: no refusal
-  pub touching : clip (segment (pos 0) (pos 0) (pos 2) (pos 0) (pos 0) (pos 0) ++ segment (pos 1) (pos 0) (pos 1) (pos 1) (pos 0) (pos 0)) ≡ Refused 8 0
-  pub joined : clip (segment (pos 0) (pos 0) (pos 2) (pos 0) (pos 0) (pos 0) ++ segment (pos 2) (pos 0) (pos 2) (pos 1) (pos 0) (pos 0)) ≡ Accepted
-  -- one segment, winding 1
-  pub unbalanced : clip (segment (pos 0) (pos 0) (pos 1) (pos 0) (pos 1) (pos 0)) ≡ Refused 9 0
   -- x 16,777,216 is taken, 16,777,217 is not
   pub on-the-limit : clip (segment (pos 16777216) (pos 0) (pos 16777216) (pos 1) (pos 0) (pos 0)) ≡ Accepted
   pub past-the-limit : clip (segment (pos 16777217) (pos 0) (pos 16777217) (pos 1) (pos 0) (pos 0)) ≡ Refused 3 0
@@ -72,9 +67,6 @@ pub record Cases : Type 0 where
 pub cases : Cases
 unfolding fillsRun clipRun sliceRun verdict inOrder wrongLength unknownChoice tooShort first firstFrom faultAt meetingAt unbalancedAt fault endsInRange rises windingInRange bitsInRange balance balances meetsWrongly parts inside sameEnds side total any sum front segmentsOf count whole segments segmentAt eqZ within ltP eqP coordinate inRange cross between
 cases = record {
-  touching = refl;
-  joined = refl;
-  unbalanced = refl;
   on-the-limit = refl;
   past-the-limit = refl;
   nothing = refl;

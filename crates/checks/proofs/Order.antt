@@ -15,7 +15,7 @@ pub refused-then : (v w : Verdict) {number place : ℕ} → v ≡ Refused number
 refused-then v w {number} {place} e = ap (λ (u : Verdict). u then w) e ∙ sym e
 
 -- both accept
-accepted-then : (v w : Verdict) → (v then w) ≡ Accepted → (v ≡ Accepted) × (w ≡ Accepted)
+pub accepted-then : (v w : Verdict) → (v then w) ≡ Accepted → (v ≡ Accepted) × (w ≡ Accepted)
 accepted-then Accepted w e = (refl, e)
 accepted-then (Refused number place) w e = not-both e
 
@@ -24,7 +24,7 @@ pub refused-by : {X : Type 0} (v w : Verdict) {number place : ℕ} → (v then w
 refused-by Accepted w e f g = g e
 refused-by (Refused number place) w e f g = f e
 
-accepted-if : (number : ℕ) (b : Bool) → refuseIf number b ≡ Accepted → b ≡ false
+pub accepted-if : (number : ℕ) (b : Bool) → refuseIf number b ≡ Accepted → b ≡ false
 accepted-if number true e = not-both e
 accepted-if number false e = refl
 

@@ -38,7 +38,7 @@ module _ (f : ℕ → ℕ) where
   looked left i b e = ap (λ (c : Bool). cond c (firstFrom f left (suc i)) (Refused (f i) i)) e
 
   -- there is none exactly where every number is 0
-  none-from : (left i : ℕ) → firstFrom f left i ≡ Accepted → (k : ℕ) → k < left → f (i + k) ≡ 0
+  pub none-from : (left i : ℕ) → firstFrom f left i ≡ Accepted → (k : ℕ) → k < left → f (i + k) ≡ 0
   unfolding firstFrom
   none-from zero i e k h = absurd (omega arith)
   none-from (suc left) i e k h = go (dec (eqb (f i) 0)) k h (none-from left (suc i))

@@ -5,18 +5,12 @@ use Prim.Native.Nat.{ℕ, zero, suc, _+_, _*_, _-_, _≤_, _<_}
 use native.Mathlib.Omega.{arith}
 use native.Mathlib.Numerals.{add-one}
 use lib.ListN.{length, getD, take, drop, length-drop, drop-of-length-le}
-use lib.Seq.{drop-cons, drop-nil, take-nil, drop-drop}
+use lib.Seq.{drop-cons, drop-drop}
 use lib.IntN.{ℤ, pos}
 use Rattle.geom.specs.declared.Point.{Point}
-use Rattle.string_clip.specs.Run.{pairUp, cut}
+use Rattle.contour.specs.Points.{pairUp, cut}
+use Rattle.contour.proofs.Coordinates.{no-pair, pairs-take, pairs-drop}
 use Rattle.clip_print.specs.Printed.{pointLine, pathLines, pathsLines}
-
--- one number makes no pair
-no-pair : (l : List ℤ) → length l ≤ 1 → pairUp l ≡ []
-unfolding pairUp
-no-pair [] h = refl
-no-pair (x ∷ []) h = refl
-no-pair (x ∷ y ∷ l) h = absurd (omega arith)
 
 -- ---- the lines of a path, from the pair at place i on
 module _ (path i : ℕ) (l : List ℤ) where
@@ -31,21 +25,6 @@ module _ (path i : ℕ) (l : List ℤ) where
   pub path-none : length l ≤ 2 * i + 1 → pathLines path i (pairUp (drop (2 * i) l)) ≡ []
   unfolding pathLines
   path-none h = ap (pathLines path i) (no-pair (drop (2 * i) l) (omega (arith, length-drop (2 * i) l)))
-
--- the first n pairs, and those past them
-pairs-take : (l : List ℤ) (n : ℕ) → pairUp (take (2 * n) l) ≡ take n (pairUp l)
-unfolding pairUp
-pairs-take l zero = refl
-pairs-take [] (suc n) = ap pairUp (take-nil (2 * suc n))
-pairs-take (x ∷ []) (suc n) = let e : 2 * suc n ≡ suc (suc (2 * n)) = omega arith in rw e
-pairs-take (x ∷ y ∷ l) (suc n) = let e : 2 * suc n ≡ suc (suc (2 * n)) = omega arith in rw e (ap (record { x = x; y = y } ∷_) (pairs-take l n))
-
-pairs-drop : (l : List ℤ) (n : ℕ) → pairUp (drop (2 * n) l) ≡ drop n (pairUp l)
-unfolding pairUp
-pairs-drop l zero = refl
-pairs-drop [] (suc n) = ap pairUp (drop-nil (2 * suc n))
-pairs-drop (x ∷ []) (suc n) = let e : 2 * suc n ≡ suc (suc (2 * n)) = omega arith in rw e (ap pairUp (drop-nil (suc (2 * n))))
-pairs-drop (x ∷ y ∷ l) (suc n) = let e : 2 * suc n ≡ suc (suc (2 * n)) = omega arith in rw e (pairs-drop l n)
 
 -- ---- the lines of the paths from path k on, whose points begin at a place of the list
 abbrev pub linesFrom : (k from : ℕ) → List ℤ → List ℕ → List ℕ

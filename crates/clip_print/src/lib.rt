@@ -6,7 +6,7 @@ ghost use mathlib.Core.List.{[], _∷_};
 ghost use lib.ListN.{length};
 ghost use Rattle.segm.specs.Lists.{tally};
 ghost use Rattle.string_clip.specs.declared.Clipped.the-variants.{Done};
-ghost use Rattle.string_clip.specs.Run.{pairUp, cut};
+ghost use Rattle.contour.specs.Points.{pairUp, cut};
 ghost use Rattle.decimal.specs.Decimal.{decimal, signed};
 ghost use Rattle.clip_print.specs.Printed.{Put, Held, pointLine, pathLines, pathsLines, totalLine, refusedLine, linesOf};
 

@@ -14,7 +14,8 @@ use Rattle.build.specs.Links.{sidesSet, keepsSides, keeps, filterOf, keptLinks}
 use Rattle.graph.specs.Nodes.{node}
 use Rattle.clip_walk.specs.Walk.{has, clear, asDrawn, isLeft, taken, takenAll, bitsLeft, firstLeft, bothMoves, begins, way, over, other, fitting, goesOn, follow, pathFrom, walkFrom, walk}
 use Rattle.string_clip.specs.Paths.{through, finished, pathPoints, clipPaths, stepsFrom, stepsOfPath, stepsOf, travelOf}
-use Rattle.string_clip.specs.Run.{totals, coordinates, clipOutcome, pairUp, cut, output}
+use Rattle.contour.specs.Points.{coordinates, pairUp, cut}
+use Rattle.string_clip.specs.Run.{totals, clipOutcome, output}
 use Rattle.decimal.specs.Decimal.{isDigit, worth, positive, fieldOf, digits, decimal, signed}
 use Rattle.text.specs.Grammar.{pieces, row, fieldsIn, rowsFrom, choicesOf, parsed}
 use Rattle.text.specs.Writing.{joined, lineOf}

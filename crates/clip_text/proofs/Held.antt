@@ -1,9 +1,9 @@
 -- An accepted run's paths stand in its lists. Assumes nothing.
-use mathlib.Core.Path.{_≡_, refl, sym, ap, subst, _∙_}
+use mathlib.Core.Path.{_≡_, refl, sym, subst, _∙_}
 use mathlib.Core.List.{List, [], _∷_, map, flatten}
 use Prim.Native.Nat.{ℕ, _+_, _*_, _≤_}
 use native.Mathlib.Omega.{arith}
-use lib.ListN.{length, length-append, length-map}
+use lib.ListN.{length, length-map}
 use lib.IntN.{ℤ}
 use Rattle.geom.specs.declared.Point.{Point}
 use Rattle.segm.specs.Lists.{tally}
@@ -18,17 +18,14 @@ use Rattle.build.specs.Links.{filterOf}
 use Rattle.string_clip.specs.declared.Clipped.the-variants.{Refused}
 use Rattle.string_clip.specs.Paths.{clipPaths}
 use Rattle.string_clip.specs.Claim.{Tells}
-use Rattle.string_clip.specs.Run.{totals, coordinates, Outcome, answered, clipOutcome, told}
-use Rattle.string_clip.proofs.ReadBack.{length-coordinates}
+use Rattle.string_clip.specs.Run.{totals, Outcome, answered, clipOutcome, told}
+use Rattle.contour.specs.Points.{coordinates}
+use Rattle.contour.proofs.Coordinates.{length-coordinates}
 use Rattle.string_clip.proofs.Together.{accepted-outcome, accepted-room, accepted-tells}
 use Rattle.text.specs.Grammar.{Parsed, BadLine, Drawn, parsed}
 use Rattle.clip_print.specs.Printed.{Held}
+use Rattle.contour.proofs.CutWritten.{tally-lengths}
 use Rattle.clip_text.specs.Answer.{runOn, textOutcome}
-
-tally-lengths : {A : Type 0} (paths : List (List A)) → tally (λ n. n) (map length paths) ≡ length (flatten paths)
-unfolding tally flatten
-tally-lengths [] = refl
-tally-lengths (l ∷ paths) = ap (length l +_) (tally-lengths paths) ∙ sym (length-append l (flatten paths))
 
 -- what a run writes stands there
 written-held : (paths : List (List Point)) (points : List ℤ) (lengths : List ℕ) → 2 * length (flatten paths) ≤ length points → length paths ≤ length lengths

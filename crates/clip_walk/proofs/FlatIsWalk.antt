@@ -91,10 +91,10 @@ asMove m out Stop = none
 asMove m out (Leave e) = some (moveOf m out e)
 
 module _ (links : Drawing) (proper : Proper links) where
-  at-place : (k : ℕ) → k < length links → ltP (segmentAt links k .a) (segmentAt links k .b) ≡ true
+  pub at-place : (k : ℕ) → k < length links → ltP (segmentAt links k .a) (segmentAt links k .b) ≡ true
   at-place k h = proper (segmentAt links k) (segment-in links k refl h)
 
-  fits : (out : Bool) (f : ℕ) (p : Point) → f < 2 * length links → endPoint links f ≡ p → move (linkOf (length links) f) (fitting out p (segmentAt links (linkOf (length links) f))) ≡ moveOf (length links) out f
+  pub fits : (out : Bool) (f : ℕ) (p : Point) → f < 2 * length links → endPoint links f ≡ p → move (linkOf (length links) f) (fitting out p (segmentAt links (linkOf (length links) f))) ≡ moveOf (length links) out f
   fits out f p b q = go (decLe (length links) f)
     where
       go : Dec (length links ≤ f) → move (linkOf (length links) f) (fitting out p (segmentAt links (linkOf (length links) f))) ≡ moveOf (length links) out f

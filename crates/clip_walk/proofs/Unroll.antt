@@ -1,11 +1,12 @@
 -- The walk without its fuel: as much fuel as bits are left is always enough, so each loop goes on by one turn. What the program's loops are compared with.
-use mathlib.Core.Path.{_≡_, refl, sym, _∙_, ap}
+use mathlib.Core.Path.{_≡_, refl, sym, _∙_, ap, subst}
 use mathlib.Core.List.{List, [], _∷_, map}
 use mathlib.Core.Option.{Option, none, some}
 use mathlib.Core.Bool.{Bool, true}
-use Prim.Native.Nat.{ℕ, zero, suc, _<_, _≤_}
+use Prim.Native.Nat.{ℕ, zero, suc, _%_, _<_, _≤_}
 use native.Mathlib.Omega.{arith}
 use lib.ListN.{getD, set}
+use lib.Seq.{getD-set-other}
 use Rattle.integers.proofs.Booleans.{clash}
 use Rattle.geom.specs.declared.Point.{Point}
 use Rattle.segm.specs.Lists.{tally}
@@ -25,6 +26,13 @@ left-set (b ∷ bits) (suc k) forth e = omega (arith, left-set bits k forth e)
 pub left-taken : (bits : List ℕ) (m : Move) → isLeft bits m ≡ true → bitsLeft bits ≡ suc (bitsLeft (taken bits m))
 unfolding isLeft taken
 left-taken bits m e = left-set bits (m .place) (m .forth) e
+
+-- a link without bits stays so
+pub taken-other : (bits : List ℕ) (m : Move) (j : ℕ) → isLeft bits m ≡ true → getD bits j 0 % 4 ≡ 0 → getD (taken bits m) j 0 % 4 ≡ 0
+unfolding taken isLeft
+taken-other bits m j e h =
+    let apart : j ≡ m .place → ⊥ = λ q. clash e (none-set (getD bits (m .place) 0) (m .forth) (subst (λ i. getD bits i 0 % 4 ≡ 0) q h)) in
+    ap (_% 4) (getD-set-other bits (m .place) j _ 0 apart) ∙ h
 
 module _ (links : Drawing) where
   pub goesOn-left : (out : Bool) (p : Point) (bits : List ℕ) (m : Move) → goesOn links out p bits ≡ some m → isLeft bits m ≡ true

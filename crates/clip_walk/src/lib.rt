@@ -74,7 +74,7 @@ fn far_node(link: Link, start: bool) -> usize
 }
 
 // Whether the line bit is left that a move leaving end e takes.
-fn is_left(bits: &[u8], e: usize, out: bool) -> bool
+pub fn is_left(bits: &[u8], e: usize, out: bool) -> bool
     requires { ⌜ e < 2 * length (now bits) ⌝ }
     ensures { λ r. ⌜ r ≡ isLeft (now (bits .entry)) (moveOf (length (now (bits .entry))) out e) ⌝ }
 {

@@ -1,6 +1,7 @@
 // Points and their distances, over i32 coordinates. Every function here is proved, and the crate assumes nothing of its own.
 ghost use mathlib.Core.Path.{_≡_};
 ghost use mathlib.Core.Bool.{true};
+ghost use Prim.Native.Nat.{_≤_};
 ghost use lib.IntN.{natAbs, _-ℤ_};
 ghost use Rattle.geom.specs.Points.{within, ltP, eqP, inRange, cross, between};
 
@@ -79,10 +80,17 @@ pub fn strictly_between(p: Point, q: Point, r: Point) -> bool
     cross(p, q, r) == 0
 }
 
+// |z|, of any but the largest numbers.
+pub fn absolute(z: i64) -> u64
+    requires { ⌜ natAbs z ≤ 1152921504606846976 ⌝ }
+    ensures { λ r. ⌜ r ≡ natAbs z ⌝ }
+{
+    if z < 0 { (0 - z) as u64 } else { z as u64 }
+}
+
 // |z - w|.
 pub fn distance(z: i32, w: i32) -> u64
     ensures { λ r. ⌜ r ≡ natAbs (z -ℤ w) ⌝ }
 {
-    let d = difference(z, w);
-    if d < 0 { (0 - d) as u64 } else { d as u64 }
+    absolute(difference(z, w))
 }

@@ -1,5 +1,5 @@
 -- The link and the other end of an end, and the list of a node.
-use mathlib.Core.Path.{_≡_, refl, ap, ap₂, _∙_}
+use mathlib.Core.Path.{_≡_, refl, sym, ap, ap₂, _∙_}
 use mathlib.Core.List.{List, [], _∷_, _++_, map, map-map, map-append}
 use mathlib.Core.Logic.{_⊎_, inl, inr}
 use mathlib.Core.Bool.{Bool}
@@ -63,6 +63,16 @@ module _ (m e : ℕ) where
       go : Dec (m ≤ e) → otherEnd m e < 2 * m
       go (yes k) = omega (arith, other-high k)
       go (no k) = omega (arith, other-low (omega arith))
+
+-- both ends have one link
+pub link-other : (m e : ℕ) → e < 2 * m → linkOf m (otherEnd m e) ≡ linkOf m e
+link-other m e h = go (decLe m e)
+  where
+    go : Dec (m ≤ e) → linkOf m (otherEnd m e) ≡ linkOf m e
+    go (yes k) = ap (linkOf m) (other-high m e k) ∙ link-low m (e - m) (omega arith) ∙ sym (link-high m e k)
+    go (no k) =
+        let l : e < m = omega arith in
+        ap (linkOf m) (other-low m e l) ∙ link-high m (m + e) (omega arith) ∙ omega arith ∙ sym (link-low m e l)
 
 -- ---- the list of a node
 module _ (links : Drawing) (p : Point) where

@@ -143,6 +143,10 @@ abs-+ = all2 _ (λ _ _ _ _. simp to-ℕ (omega arith))
 pub abs-- : (a b : ℤ) → natAbs (a -ℤ b) ≤ natAbs a + natAbs b
 abs-- = all2 _ (λ _ _ _ _. simp to-ℕ (omega arith))
 
+-- a negative one, taken from 0
+pub turned : (z : ℤ) → z <ℤ pos 0 → (pos 0 ≤ℤ (pos 0 -ℤ z)) × (natAbs (pos 0 -ℤ z) ≡ natAbs z)
+turned = all1 _ (λ _ _. simp to-ℕ (omega arith))
+
 neg-abs : (n : ℕ) → natAbs (negℤ (pos n)) ≡ n
 neg-abs zero = refl
 neg-abs (suc n) = refl

@@ -8,8 +8,16 @@ use Rattle.build.specs.Fills.{fillsOutcome}
 use Rattle.string_clip.specs.declared.Clipped.{Clipped}
 use Rattle.string_clip.specs.declared.Clipped.the-variants as clipped-is
 use Rattle.string_clip.specs.Run.{clipOutcome}
+use Rattle.string_slice.specs.declared.Sliced.{Sliced}
+use Rattle.string_slice.specs.declared.Sliced.the-variants as sliced-is
+use Rattle.string_slice.specs.Run.{sliceOutcome}
+use Rattle.string_split.specs.declared.Loops.{Loops}
+use Rattle.string_split.specs.declared.Loops.the-variants as loops-are
+use Rattle.string_split.specs.Run.{splitOutcome}
 use Rattle.overlay.specs.declared.Fills.{Fills}
 use Rattle.overlay.specs.declared.Clip.{Clip}
+use Rattle.overlay.specs.declared.Slice.{Slice}
+use Rattle.overlay.specs.declared.Split.{Split}
 
 -- ---- fills
 abbrev pub filledNumbers : Filled → Fills
@@ -44,3 +52,39 @@ returnedClip answer points lengths = record { answer = answer; points = points; 
 unfoldable pub clipNumbers : List ℤ → (rule invert boundary : ℤ) → List ℤ → List ℕ → ReturnedClip
 clipNumbers numbers rule invert boundary points lengths =
     let o = clipOutcome numbers rule invert boundary points lengths in returnedClip (clippedNumbers (o .answer)) (o .points) (o .lengths)
+
+-- ---- slice
+abbrev pub slicedNumbers : Sliced → Slice
+slicedNumbers (sliced-is.Done found) = record { number = 0; place = 0; contours = found .contours; points = found .points }
+slicedNumbers (sliced-is.Refused number place) = record { number = number; place = place; contours = 0; points = 0 }
+
+-- what a call of `overlay_slice` returns, and the lent lists then
+pub record ReturnedSlice : Type 0 where
+  pub answer : Slice
+  pub points : List ℤ
+  pub lengths : List ℕ
+  pub roles : List ℕ
+
+abbrev pub returnedSlice : Slice → List ℤ → List ℕ → List ℕ → ReturnedSlice
+returnedSlice answer points lengths roles = record { answer = answer; points = points; lengths = lengths; roles = roles }
+
+unfoldable pub sliceNumbers : List ℤ → (rule direction : ℤ) → ℕ → List ℤ → List ℕ → List ℕ → ReturnedSlice
+sliceNumbers numbers rule direction least points lengths roles =
+    let o = sliceOutcome numbers rule direction least points lengths roles in returnedSlice (slicedNumbers (o .answer)) (o .points) (o .lengths) (o .roles)
+
+-- ---- split
+abbrev pub loopsNumbers : Loops → Split
+loopsNumbers (loops-are.Done found) = record { number = 0; place = 0; loops = found .loops; points = found .points }
+loopsNumbers (loops-are.Refused number place) = record { number = number; place = place; loops = 0; points = 0 }
+
+-- what a call of `overlay_split` returns, and the lent lists then
+pub record ReturnedSplit : Type 0 where
+  pub answer : Split
+  pub out : List ℤ
+  pub lengths : List ℕ
+
+abbrev pub returnedSplit : Split → List ℤ → List ℕ → ReturnedSplit
+returnedSplit answer out lengths = record { answer = answer; out = out; lengths = lengths }
+
+unfoldable pub splitNumbers : List ℤ → ℕ → List ℤ → List ℕ → ReturnedSplit
+splitNumbers points least out lengths = let o = splitOutcome points least out lengths in returnedSplit (loopsNumbers (o .answer)) (o .out) (o .lengths)

@@ -2,8 +2,10 @@
 // nothing of its own. No function has a `requires`.
 use build::Filled;
 use string_clip::Clipped;
+use string_slice::Sliced;
+use string_split::Loops;
 ghost use mathlib.Core.Path.{_≡_};
-ghost use Rattle.overlay.specs.Numbers.{fillsNumbers, returned, clipNumbers, returnedClip};
+ghost use Rattle.overlay.specs.Numbers.{fillsNumbers, returned, clipNumbers, returnedClip, sliceNumbers, returnedSlice, splitNumbers, returnedSplit};
 
 // A refusal's number and place, or 0 and 0 and how many fills were written.
 #[repr(C)]
@@ -71,6 +73,79 @@ pub extern "C" fn overlay_clip(
             points: 0,
             steps: 0,
             travel: 0,
+        },
+    }
+}
+
+// A refusal's number and place, or 0 and 0 and what a slice run found.
+#[repr(C)]
+pub struct Slice {
+    pub number: u64,
+    pub place: u64,
+    pub contours: u64,
+    pub points: u64,
+}
+
+// The contours of the filled area cut along all segments, as x, y pairs and one length and one role a contour.
+#[no_mangle]
+pub extern "C" fn overlay_slice(
+    segments: &[i32],
+    rule: i32,
+    direction: i32,
+    min_area: u64,
+    points: &mut [i32],
+    lengths: &mut [u32],
+    roles: &mut [u8],
+) -> Slice
+    ensures { λ r. ⌜ returnedSlice r (now (points .exit)) (now (lengths .exit)) (now (roles .exit)) ≡ sliceNumbers (now (segments .entry)) rule direction «min_area» (now (points .entry)) (now (lengths .entry)) (now (roles .entry)) ⌝ }
+{
+    match string_slice::slice(segments, rule, direction, min_area, points, lengths, roles) {
+        Sliced::Done(found) => Slice {
+            number: 0,
+            place: 0,
+            contours: found.contours as u64,
+            points: found.points as u64,
+        },
+        Sliced::Refused(number, place) => Slice {
+            number: number as u64,
+            place: place as u64,
+            contours: 0,
+            points: 0,
+        },
+    }
+}
+
+// A refusal's number and place, or 0 and 0 and what a split run found.
+#[repr(C)]
+pub struct Split {
+    pub number: u64,
+    pub place: u64,
+    pub loops: u64,
+    pub points: u64,
+}
+
+// The loops of a list of points, as x, y pairs and one length a loop.
+#[no_mangle]
+pub extern "C" fn overlay_split(
+    points: &[i32],
+    min_area: u64,
+    out: &mut [i32],
+    lengths: &mut [u32],
+) -> Split
+    ensures { λ r. ⌜ returnedSplit r (now (out .exit)) (now (lengths .exit)) ≡ splitNumbers (now (points .entry)) «min_area» (now (out .entry)) (now (lengths .entry)) ⌝ }
+{
+    match string_split::split(points, min_area, out, lengths) {
+        Loops::Done(found) => Split {
+            number: 0,
+            place: 0,
+            loops: found.loops as u64,
+            points: found.points as u64,
+        },
+        Loops::Refused(number, place) => Split {
+            number: number as u64,
+            place: place as u64,
+            loops: 0,
+            points: 0,
         },
     }
 }

@@ -1,18 +1,28 @@
 // Runs the stored drawings and prints what came of each; the unchanged Rust's answers stand in the file stdout, to which this is held.
-// A line of standard input is one drawing, with commas between and LF at the end: `f`, for fills, and the rule, or `c`, for clip, and the rule, invert
-// and boundary; then six numbers a segment.
+// A line of standard input is one drawing, with commas between and LF at the end: `f`, for fills, and the rule; `c`, for clip, and the rule, invert and
+// boundary; or `s`, for slice, and the rule, output direction and minimum area; then six numbers a segment. Or it is `l`, for the loops of a split, and the
+// minimum area; then two numbers a point.
 // A line of the output is number and place, then what was counted: for fills how many, then the fills; for clip the paths, points, steps and travel, then
-// the length of each path and x and y of each point. A line of another letter, or with choices missing, is answered with an empty one.
+// the length of each path and x and y of each point; for slice the contours and points, then lengths, roles, x and y; for split the loops and points, then
+// lengths, x and y. A line of another letter, or with choices missing, is answered with an empty one.
 use build::Filled;
 use libc::STDIN_FILENO;
 use libc::STDOUT_FILENO;
 use string_clip::Clipped;
 use string_clip::Totals;
+use string_slice::Contours;
+use string_slice::Sliced;
+use string_split::Found;
+use string_split::Loops;
 
-// The letters that begin a line, f and c.
+// The letters that begin a line: f, c, s and l.
 const FILLS: i32 = 102;
 
 const CLIP: i32 = 99;
+
+const SLICE: i32 = 115;
+
+const SPLIT: i32 = 108;
 
 // What was read of a line: how many fields are finished, and the one that is not.
 struct Reading {
@@ -98,18 +108,18 @@ fn no_totals() -> Totals {
     }
 }
 
-fn print_fill(fill: u8) {
-    print_after_comma(fill as u64);
+fn print_byte(byte: u8) {
+    print_after_comma(byte as u64);
 }
 
-// The first n fills.
-fn print_fills(fills: &[u8], n: usize) {
+// The first n bytes, fills or roles.
+fn print_bytes(bytes: &[u8], n: usize) {
     let mut k: usize = 0;
-    while k < fills.len() {
+    while k < bytes.len() {
         if n <= k {
             return;
         }
-        print_fill(fills[k]);
+        print_byte(bytes[k]);
         k += 1;
     }
 }
@@ -159,7 +169,7 @@ fn run_fills(line: &[i32]) {
         Filled::Done(count) => {
             print_outcome(0, 0);
             print_after_comma(count as u64);
-            print_fills(&fills, count);
+            print_bytes(&fills, count);
         }
         Filled::Refused(number, place) => {
             print_outcome(number, place);
@@ -194,6 +204,76 @@ fn run_clip(line: &[i32]) {
     }
 }
 
+// A refusal that counts two things.
+fn print_no_two(number: u32, place: usize) {
+    print_outcome(number, place);
+    print_after_comma(0);
+    print_after_comma(0);
+}
+
+// What an accepted slice run found.
+fn print_contours(found: Contours, points: &[i32], lengths: &[u32], roles: &[u8]) {
+    print_after_comma(found.contours as u64);
+    print_after_comma(found.points as u64);
+    print_lengths(lengths, found.contours);
+    print_bytes(roles, found.contours);
+    print_points(points, found.points);
+}
+
+// What an accepted split run found.
+fn print_loops(found: Found, out: &[i32], lengths: &[u32]) {
+    print_after_comma(found.loops as u64);
+    print_after_comma(found.points as u64);
+    print_lengths(lengths, found.loops);
+    print_points(out, found.points);
+}
+
+// Runs a line of slice and prints its answer.
+fn run_slice(line: &[i32]) {
+    if line.len() < 4 {
+        return;
+    }
+    let mut points = [0i32; 4096];
+    let mut lengths = [0u32; 2048];
+    let mut roles = [0u8; 2048];
+    match string_slice::slice(
+        &line[4..line.len()],
+        line[1],
+        line[2],
+        geom::distance(line[3], 0),
+        &mut points,
+        &mut lengths,
+        &mut roles,
+    ) {
+        Sliced::Done(found) => {
+            print_outcome(0, 0);
+            print_contours(found, &points, &lengths, &roles);
+        }
+        Sliced::Refused(number, place) => print_no_two(number, place),
+    }
+}
+
+// Runs a line of split and prints its answer.
+fn run_split(line: &[i32]) {
+    if line.len() < 2 {
+        return;
+    }
+    let mut out = [0i32; 4096];
+    let mut lengths = [0u32; 2048];
+    match string_split::split(
+        &line[2..line.len()],
+        geom::distance(line[1], 0),
+        &mut out,
+        &mut lengths,
+    ) {
+        Loops::Done(found) => {
+            print_outcome(0, 0);
+            print_loops(found, &out, &lengths);
+        }
+        Loops::Refused(number, place) => print_no_two(number, place),
+    }
+}
+
 // Runs the drawing of a line of n fields and prints its answer.
 fn run(line: &[i32], n: usize) {
     if n < 1 {
@@ -207,6 +287,12 @@ fn run(line: &[i32], n: usize) {
     }
     if line[0] == CLIP {
         run_clip(&line[0..n]);
+    }
+    if line[0] == SLICE {
+        run_slice(&line[0..n]);
+    }
+    if line[0] == SPLIT {
+        run_split(&line[0..n]);
     }
     io::write_all(STDOUT_FILENO, b"\n");
 }
@@ -262,7 +348,7 @@ fn replay(text: &[u8], numbers: &mut [i32]) {
 }
 
 fn main() {
-    let mut text = [0u8; 262144];
+    let mut text = [0u8; 524288];
     let n = io::read_full(STDIN_FILENO, &mut text);
     let mut numbers = [0i32; 8192];
     replay(&text[..n], &mut numbers);

@@ -186,18 +186,26 @@ module _ {A : Type 0} where
   unfolding written
   written-past answer old n e = drop-at answer (drop (length answer) old) n (sym e) ∙ ap (λ k. drop k old) (sym e)
 
-  -- what is past the answer was lent, and more was written to its front
-  pub written-part : (answer more old l : List A) (i : ℕ) → l ≡ written answer old → i ≡ length answer
-      → take i l ++ (written more (take (length l - i) (drop i l)) ++ drop (length l - i) (drop i l)) ≡ written (answer ++ more) old
+  -- more was written to the front of what is past the answer
+  pub written-after : (answer more old l : List A) (i : ℕ) → l ≡ written answer old → i ≡ length answer → take i l ++ written more (drop i l) ≡ written (answer ++ more) old
   unfolding written
-  written-part answer more old l i e q =
+  written-after answer more old l i e q =
       let r = drop (length answer) old in
       let front : take i l ≡ answer = ap (take i) e ∙ take-written answer old i q in
       let back : drop i l ≡ r = ap (drop i) e ∙ drop-at answer r i (sym q) in
-      let n : length l - i ≡ length r = omega (arith, ap length e, length-append answer r) in
       let past : drop (length more) r ≡ drop (length (answer ++ more)) old = drop-drop (length more) (length answer) old ∙ ap (λ k. drop k old) (sym (length-append answer more)) in
-      rw (front, back, n, take-all (length r) r (omega arith), drop-of-length-le r {i = length r} (omega arith), append-nil (more ++ drop (length more) r), past)
-      (sym (append-assoc answer more (drop (length (answer ++ more)) old)))
+      rw (front, back, past) (sym (append-assoc answer more (drop (length (answer ++ more)) old)))
+
+  -- what is past place i was lent: all of it, and nothing is past it
+  pub lent : (l : List A) (i : ℕ) → take (length l - i) (drop i l) ≡ drop i l
+  lent l i = take-all (length l - i) (drop i l) (omega (arith, length-drop i l))
+
+  pub past-lent : (l : List A) (i : ℕ) → drop (length l - i) (drop i l) ≡ []
+  past-lent l i = drop-of-length-le (drop i l) {i = length l - i} (omega (arith, length-drop i l))
+
+  pub written-part : (answer more old l : List A) (i : ℕ) → l ≡ written answer old → i ≡ length answer
+      → take i l ++ (written more (take (length l - i) (drop i l)) ++ drop (length l - i) (drop i l)) ≡ written (answer ++ more) old
+  written-part answer more old l i e q = rw (lent l i, past-lent l i, append-nil (written more (drop i l))) (written-after answer more old l i e q)
 
   -- the answer is l's entries through f: one place more of it
   pub written-map : {B : Type 0} (f : B → A) (l : List B) (z : B) (old : List A) (i : ℕ) → i < length l → length l ≤ length old
@@ -216,3 +224,7 @@ pub flatten-++ : {A : Type 0} (l m : List (List A)) → flatten (l ++ m) ≡ fla
 unfolding flatten
 flatten-++ [] m = refl
 flatten-++ (x ∷ l) m = ap (x ++_) (flatten-++ l m) ∙ sym (append-assoc x (flatten l) (flatten m))
+
+pub flatten-one : {A : Type 0} (done : List (List A)) (l : List A) → flatten (done ++ (l ∷ [])) ≡ flatten done ++ l
+unfolding flatten
+flatten-one done l = flatten-++ done (l ∷ []) ∙ ap (flatten done ++_) (append-nil l)

@@ -1,36 +1,26 @@
 -- All paths: those written, those to come, and the links passed, which have no line bit.
 use mathlib.Core.Path.{_≡_, refl, sym, _∙_, ap, subst}
-use mathlib.Core.List.{List, [], _∷_, _++_, map, map-append, flatten, append-nil}
+use mathlib.Core.List.{List, [], _∷_, _++_, map, flatten, append-nil}
 use mathlib.Core.Option.{Option, some}
 use mathlib.Core.Bool.{true}
 use Prim.Native.Nat.{ℕ, _+_, _*_, _-_, _%_, _<_, _≤_}
 use native.Mathlib.Omega.{arith}
 use native.Mathlib.Decide.{decLe}
-use lib.ListN.{length, getD, take, drop, set, length-append, length-map}
-use lib.Seq.{append-snoc, getD-set-other}
+use lib.ListN.{length, getD, take, drop, set, length-append}
+use lib.Seq.{append-snoc}
 use lib.IntN.{ℤ}
-use Rattle.integers.proofs.Booleans.{clash}
 use Rattle.geom.specs.declared.Point.{Point}
 use Rattle.segm.specs.Lists.{written}
 use Rattle.segm.specs.Segments.{Drawing}
-use Rattle.segm.proofs.Lists.{written-more, written-part, flatten-++}
-use Rattle.clip_walk.specs.Walk.{has, lineBits, Move, move, isLeft, taken, takenAll, bitsLeft, begins, andThen, pathFrom, walkFrom, walk}
+use Rattle.segm.proofs.Lists.{flatten-++, flatten-one}
+use Rattle.contour.specs.Points.{coordinates, Writes}
+use Rattle.contour.proofs.Written.{writes-one}
+use Rattle.clip_walk.specs.Walk.{has, lineBits, Move, move, takenAll, bitsLeft, begins, andThen, pathFrom, walkFrom, walk}
 use Rattle.string_clip.specs.Paths.{pathPoints}
-use Rattle.string_clip.specs.Run.{coordinates}
 use Rattle.string_clip.specs.Writing.{pathAt, linksPaths}
-use Rattle.clip_walk.proofs.Moves.{none-set}
-use Rattle.clip_walk.proofs.Unroll.{path-keeps, path-fewer, walk-on}
-use Rattle.string_clip.proofs.ReadBack.{length-coordinates}
-use Rattle.string_clip.proofs.Points.{coordinates-++}
+use Rattle.clip_walk.proofs.Unroll.{taken-other, path-keeps, path-fewer, walk-on}
 use Rattle.clip_walk.proofs.Flat.{length-taken}
 use Rattle.clip_walk.proofs.Begins.{first-left, begins-at, begins-nowhere}
-
--- ---- links without line bits stay so
-taken-other : (bits : List ℕ) (m : Move) (j : ℕ) → isLeft bits m ≡ true → getD bits j 0 % 4 ≡ 0 → getD (taken bits m) j 0 % 4 ≡ 0
-unfolding taken isLeft
-taken-other bits m j e h =
-    let apart : j ≡ m .place → ⊥ = λ q. clash e (none-set (getD bits (m .place) 0) (m .forth) (subst (λ i. getD bits i 0 % 4 ≡ 0) q h)) in
-    ap (_% 4) (getD-set-other bits (m .place) j _ 0 apart) ∙ h
 
 module _ (links : Drawing) where
   -- ---- the loop
@@ -42,8 +32,7 @@ module _ (links : Drawing) where
     pub done : List (List Point)
     pub paths-are : paths ≡ length done
     pub at-is : at ≡ length (flatten done)
-    pub points-are : points ≡ written (coordinates (flatten done)) points₀
-    pub lengths-are : lengths ≡ written (map length done) lengths₀
+    pub writes : Writes done points₀ lengths₀ points lengths
     pub all : done ++ pathsFrom bits ≡ linksPaths links
     pub passed : (j : ℕ) → j < k → getD bits j 0 % 4 ≡ 0
     pub as-many : length bits ≡ length links
@@ -54,8 +43,7 @@ module _ (links : Drawing) where
     done = [];
     paths-are = refl;
     at-is = refl;
-    points-are = refl;
-    lengths-are = refl;
+    writes = record { points-are = refl; lengths-are = refl };
     all = ap pathsFrom e;
     passed = λ j h. absurd (omega arith);
     as-many = q;
@@ -68,8 +56,7 @@ module _ (links : Drawing) where
       done = w .done;
       paths-are = w .paths-are;
       at-is = w .at-is;
-      points-are = w .points-are;
-      lengths-are = w .lengths-are;
+      writes = w .writes;
       all = w .all;
       passed = λ j l. go j (decLe k j) l;
       as-many = w .as-many;
@@ -123,21 +110,12 @@ module _ (links : Drawing) where
       -- its points come after the others, and its length
       pub more : (part : List ℤ) → part ≡ written (coordinates found) (take (length points - 2 * at) (drop (2 * at) points)) → paths < length lengths₀
           → Walked points₀ lengths₀ after (take (2 * at) points ++ (part ++ drop (length points - 2 * at) (drop (2 * at) points))) (set lengths paths (length found)) (paths + 1) (at + length found) k
-      unfolding flatten
       more part e room =
-          let one : flatten (w .done ++ (found ∷ [])) ≡ flatten (w .done) ++ found = flatten-++ (w .done) (found ∷ []) ∙ ap (flatten (w .done) ++_) (append-nil found) in
           record {
             done = w .done ++ (found ∷ []);
             paths-are = omega (arith, w .paths-are, length-append (w .done) (found ∷ []));
-            at-is = omega (arith, w .at-is, ap length one, length-append (flatten (w .done)) found);
-            points-are =
-                ap (λ (l : List ℤ). take (2 * at) points ++ (l ++ drop (length points - 2 * at) (drop (2 * at) points))) e
-                ∙ written-part (coordinates (flatten (w .done))) (coordinates found) points₀ points (2 * at) (w .points-are) (omega (arith, w .at-is, length-coordinates (flatten (w .done))))
-                ∙ ap (λ (l : List ℤ). written l points₀) (sym (ap coordinates one ∙ coordinates-++ (flatten (w .done)) found));
-            lengths-are =
-                ap (λ (l : List ℕ). set l paths (length found)) (w .lengths-are)
-                ∙ written-more (map length (w .done)) lengths₀ paths (length found) (w .paths-are ∙ sym (length-map (w .done) length)) room
-                ∙ ap (λ (l : List ℕ). written l lengths₀) (sym (map-append length (w .done) (found ∷ [])));
+            at-is = omega (arith, w .at-is, ap length (flatten-one (w .done) found), length-append (flatten (w .done)) found);
+            writes = writes-one (w .writes) found part (w .at-is) (w .paths-are) room e;
             all = append-snoc (w .done) found (pathsFrom after) ∙ sym all-is;
             passed = λ j h. path-keeps links (λ (b : List ℕ). getD b j 0 % 4 ≡ 0) (λ b m e. taken-other b m j e) bits (move k (has true (getD bits k 0))) (first-left bits k line) (w .passed j h);
             as-many = path-keeps links (λ (b : List ℕ). length b ≡ length links) (λ b m e h. length-taken b m ∙ h) bits (move k (has true (getD bits k 0))) (first-left bits k line) (w .as-many);

@@ -1,23 +1,17 @@
--- The points of a path, by place, and as they are written.
+-- The points of a path, by place.
 use mathlib.Core.Path.{_≡_, refl, sym, _∙_, ap}
-use mathlib.Core.List.{List, [], _∷_, _++_, reverseAux, append-assoc}
+use mathlib.Core.List.{List, [], _∷_, reverseAux}
 use mathlib.Core.Bool.{Bool, true, false}
-use Prim.Native.Nat.{ℕ, zero, suc, _+_, _*_, _-_, _<_, _≤_}
+use Prim.Native.Nat.{ℕ, zero, suc, _+_, _-_, _<_, _≤_}
 use native.Mathlib.Omega.{arith}
-use native.Mathlib.Numerals.{add-one}
-use lib.ListN.{length, getD, take, set, length-append, length-map, length-reverse, length-take}
-use lib.Seq.{take-suc}
-use lib.IntN.{ℤ}
-use Rattle.geom.specs.declared.Point.{Point}
-use Rattle.segm.specs.Lists.{written}
+use lib.ListN.{length, getD, length-map, length-reverse}
 use Rattle.segm.specs.Segments.{Drawing}
-use Rattle.segm.proofs.Lists.{written-more, getD-map}
+use Rattle.segm.proofs.Lists.{getD-map}
+use Rattle.contour.specs.Points.{origin}
 use Rattle.ends.specs.Ends.{endPoint}
 use Rattle.graph.specs.Nodes.{otherEnd}
 use Rattle.string_clip.specs.Paths.{finished}
-use Rattle.string_clip.specs.Run.{coordinates}
-use Rattle.string_clip.specs.Writing.{origin, throughEnds, endsPoints}
-use Rattle.string_clip.proofs.ReadBack.{length-coordinates}
+use Rattle.string_clip.specs.Writing.{throughEnds, endsPoints}
 
 -- ---- lists
 module _ {A : Type 0} (z : A) where
@@ -69,20 +63,3 @@ module _ (links : Drawing) where
   backward-at es q h k =
       let e : length (throughEnds links es) - suc q ≡ length es - q = omega (arith, length-through es h) in
       getD-back origin (throughEnds links es) [] q (omega (arith, length-through es h)) ∙ ap (λ n. getD (throughEnds links es) n origin) e
-
--- ---- points written
-pub coordinates-++ : (l m : List Point) → coordinates (l ++ m) ≡ coordinates l ++ coordinates m
-unfolding coordinates
-coordinates-++ [] m = refl
-coordinates-++ (p ∷ l) m = ap (λ (r : List ℤ). p .x ∷ p .y ∷ r) (coordinates-++ l m)
-
--- one point more
-pub written-point : (ps : List Point) (old : List ℤ) (q : ℕ) → q < length ps → 2 * suc q ≤ length old
-    → set (set (written (coordinates (take q ps)) old) (2 * q) (getD ps q origin .x)) (2 * q + 1) (getD ps q origin .y) ≡ written (coordinates (take (q + 1) ps)) old
-unfolding coordinates
-written-point ps old q h k =
-    let p = getD ps q origin in
-    let n : length (coordinates (take q ps)) ≡ 2 * q = omega (arith, length-coordinates (take q ps), length-take q ps) in
-    ap (λ (l : List ℤ). set l (2 * q + 1) (p .y)) (written-more (coordinates (take q ps)) old (2 * q) (p .x) (sym n) (omega arith))
-    ∙ written-more (coordinates (take q ps) ++ (p .x ∷ [])) old (2 * q + 1) (p .y) (omega (arith, n, length-append (coordinates (take q ps)) (p .x ∷ []))) (omega arith)
-    ∙ ap (λ (l : List ℤ). written l old) (append-assoc (coordinates (take q ps)) (p .x ∷ []) (p .y ∷ []) ∙ sym (coordinates-++ (take q ps) (p ∷ [])) ∙ ap coordinates (sym (take-suc ps q origin h) ∙ ap (λ m. take m ps) (sym (add-one q))))

@@ -27,9 +27,11 @@ use Rattle.build.specs.Fills.{ruleOf, fill}
 use Rattle.build.specs.Links.{keeps, filterOf}
 use Rattle.clip_walk.specs.Walk.{Step, one}
 use Rattle.string_clip.specs.Paths.{clipPaths, stepsOf, travelOf}
-use Rattle.string_clip.specs.Run.{totals, coordinates, Outcome, answered, clipOutcome, output}
+use Rattle.contour.specs.Points.{coordinates}
+use Rattle.contour.proofs.Coordinates.{length-coordinates}
+use Rattle.string_clip.specs.Run.{totals, Outcome, answered, clipOutcome, output}
 use Rattle.string_clip.specs.Claim.{Direction, drawn, travelled, ownSteps, ownTravel, same, count as times, OneOf, rayKeeps, InsideAndOutside, Room, Tells, Together}
-use Rattle.string_clip.proofs.ReadBack.{read-back, length-coordinates}
+use Rattle.string_clip.proofs.ReadBack.{read-back}
 use Rattle.string_clip.proofs.Own.{same-true, same-refl, in-drawn, drawn-apart, once-among, run-tally, keeps-drawn}
 use Rattle.string_clip.proofs.Found.{travel-either, clip-fits}
 

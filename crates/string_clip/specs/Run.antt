@@ -1,12 +1,12 @@
 -- A clip run: what it answers, what it writes to its lent lists, and how its output is read from them. The contracts of `string_clip` cite these. Assumes nothing.
-use mathlib.Core.Path.{_≡_}
-use mathlib.Core.List.{List, [], _∷_, map, flatten}
-use Prim.Native.Nat.{ℕ, zero, suc}
-use lib.ListN.{length, take, drop}
+use mathlib.Core.List.{List, map, flatten}
+use Prim.Native.Nat.{ℕ}
+use lib.ListN.{length}
 use lib.IntN.{ℤ}
 use Rattle.geom.specs.declared.Point.{Point}
 use Rattle.segm.specs.Lists.{tally, written}
 use Rattle.segm.specs.Segments.{segments}
+use Rattle.contour.specs.Points.{coordinates, pairUp, cut}
 use Rattle.checks.specs.declared.Verdict.{Verdict}
 use Rattle.checks.specs.declared.Verdict.the-variants as verdict-is
 use Rattle.checks.specs.Verdict.{verdict}
@@ -26,16 +26,6 @@ totals paths = record {
   steps = length (stepsOf paths);
   travel = tally travelOf (stepsOf paths);
 }
-
--- x, y, x, y, ..
-unfoldable pub coordinates : List Point → List ℤ
-coordinates [] = []
-coordinates (p ∷ l) = p .x ∷ p .y ∷ coordinates l
-
--- these paths stand at the front of the lent lists, x, y pairs and one length a path; past them the lists are as they were
-pub record Writes (paths : List (List Point)) (points₀ : List ℤ) (lengths₀ : List ℕ) (points : List ℤ) (lengths : List ℕ) : Type 0 where
-  pub points-are : points ≡ written (coordinates (flatten paths)) points₀
-  pub lengths-are : lengths ≡ written (map length paths) lengths₀
 
 -- what a run answers, and its lent lists when it returns
 pub record Outcome : Type 0 where
@@ -60,17 +50,6 @@ clipOutcome numbers rule invert boundary points lengths =
 abbrev pub told : Clipped → Totals
 told (Done t) = t
 told (Refused number place) = record { paths = 0; points = 0; steps = 0; travel = 0 }
-
-unfoldable pub pairUp : List ℤ → List Point
-pairUp [] = []
-pairUp (u ∷ []) = []
-pairUp (u ∷ v ∷ l) = record { x = u; y = v } ∷ pairUp l
-
--- n paths, in order, each taking as many points as its length says
-unfoldable pub cut : ℕ → List ℕ → List Point → List (List Point)
-cut zero lengths points = []
-cut (suc n) [] points = []
-cut (suc n) (k ∷ lengths) points = take k points ∷ cut n lengths (drop k points)
 
 -- read from the lent lists when the run returns: as many paths as the number says
 unfoldable pub output : Outcome → List (List Point)

@@ -28,10 +28,6 @@ pub record Kept (links : Drawing) : Type 0 where
   pub rising : Rising links
 
 -- ---- points
--- at no place of a list of points
-abbrev pub origin : Point
-origin = record { x = pos 0; y = pos 0 }
-
 -- the points that the moves which leave these ends come through
 unfoldable pub throughEnds : Drawing → List ℕ → List Point
 throughEnds links [] = []

@@ -12,9 +12,10 @@ ghost use mathlib.Core.Path.{_≡_};
 ghost use Prim.Native.Nat.{_*_, _≤_};
 ghost use lib.ListN.{length};
 ghost use Rattle.segm.specs.Segments.{width, segments};
+ghost use Rattle.contour.specs.Points.{Writes};
 ghost use Rattle.checks.specs.Accepted.{Good};
 ghost use Rattle.string_clip.specs.Paths.{clipPaths};
-ghost use Rattle.string_clip.specs.Run.{totals, Writes, outcome, clipOutcome};
+ghost use Rattle.string_clip.specs.Run.{totals, outcome, clipOutcome};
 ghost use Rattle.string_clip.specs.Claim.{Together};
 
 // How many paths, points and steps a run found, and their travel.

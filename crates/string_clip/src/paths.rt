@@ -1,12 +1,12 @@
 // Paths as points, written to a lent list.
 use geom::Point;
 ghost use mathlib.Core.Path.{_≡_};
-ghost use Prim.Native.Nat.{suc, _+_, _*_, _≤_, _<_};
-ghost use lib.ListN.{length, getD, set};
+ghost use Prim.Native.Nat.{suc, _*_, _≤_, _<_};
+ghost use lib.ListN.{length, getD};
 ghost use Rattle.segm.specs.Lists.{written};
 ghost use Rattle.segm.specs.Segments.{segments};
-ghost use Rattle.string_clip.specs.Run.{coordinates};
-ghost use Rattle.string_clip.specs.Writing.{throughEnds, endsPoints, origin};
+ghost use Rattle.contour.specs.Points.{coordinates, origin};
+ghost use Rattle.string_clip.specs.Writing.{throughEnds, endsPoints};
 
 // Point i that the walk comes through whose moves leave these ends.
 fn point_through(links: &[i32], moves: &[u32], i: usize) -> Point
@@ -31,18 +31,6 @@ fn path_point(links: &[i32], moves: &[u32], out: bool, q: usize) -> Point
     point_through(links, moves, moves.len() - q)
 }
 
-// Writes point q.
-fn put_point(points: &mut [i32], q: usize, p: Point)
-    requires { ⌜ 2 * suc q ≤ length (now points) ⌝ }
-    ensures { λ r. ⌜ now (points .exit) ≡ set (set (now (points .entry)) (2 * q) (p .x)) (2 * q + 1) (p .y) ⌝ }
-{
-    let x = p.x;
-    let y = p.y;
-    let k = 2 * q;
-    points[k] = x;
-    points[k + 1] = y;
-}
-
 // Writes the points of the path whose moves leave these ends.
 pub fn write_path(links: &[i32], moves: &[u32], out: bool, points: &mut [i32])
     requires { ⌜ (length (segments (now links)) ≤ 1024) × (0 < length (now moves)) × (2 * suc (length (now moves)) ≤ length (now points)) ⌝ }
@@ -50,7 +38,7 @@ pub fn write_path(links: &[i32], moves: &[u32], out: bool, points: &mut [i32])
 {
     let mut q: usize = 0;
     while q <= moves.len() {
-        put_point(points, q, path_point(links, moves, out, q));
+        contour::put_point(points, q, path_point(links, moves, out, q));
         q += 1;
     }
 }

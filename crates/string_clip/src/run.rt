@@ -8,9 +8,10 @@ ghost use Prim.Native.Nat.{_*_, _%_, _≤_, _<_};
 ghost use lib.ListN.{length, getD};
 ghost use Rattle.segm.specs.Lists.{written};
 ghost use Rattle.segm.specs.Segments.{segments};
+ghost use Rattle.contour.specs.Points.{coordinates, Writes};
 ghost use Rattle.clip_walk.specs.Walk.{lineBits, takenAll};
 ghost use Rattle.string_clip.specs.Paths.{pathPoints};
-ghost use Rattle.string_clip.specs.Run.{totals, coordinates, Writes};
+ghost use Rattle.string_clip.specs.Run.{totals};
 ghost use Rattle.string_clip.specs.Writing.{Kept, pathAt, Walking, linksPaths, writtenOf};
 
 // How many paths and points were written.

@@ -1,14 +1,15 @@
 //! What the clip program prints for a text, by document 01's prose.
 
 use crate::case::Case;
+use crate::counts::Counts;
 use crate::drawing::{Point, MOST_SEGMENTS};
-use crate::output::{Output, EACH};
+use crate::output::{Room, CLIP_EACH};
 use crate::prose::Refusal;
 use crate::text;
 use jumperclay::raw::Clipped;
 
 /// How long the lists are that the program lends to its run.
-const LENT: [usize; 2] = [EACH[0] * MOST_SEGMENTS, EACH[1] * MOST_SEGMENTS];
+const LENT: Room = [CLIP_EACH[0] * MOST_SEGMENTS, CLIP_EACH[1] * MOST_SEGMENTS, 0];
 
 pub struct Answer {
     /// Of the refusal, 0 where there is none.
@@ -38,7 +39,7 @@ fn with_total(paths: &[Vec<Point>]) -> String {
     for (path, points) in paths.iter().enumerate() {
         lines.extend(points.iter().enumerate().map(|(point, (x, y))| format!("{path},{point},{x},{y}\n")));
     }
-    let Clipped { paths, points, steps, travel, .. } = Output::of_paths(paths).counts;
+    let Clipped { paths, points, steps, travel, .. } = Clipped::of_paths(paths);
     lines.push(format!("total,{paths},{points},{steps},{travel}\n"));
     lines.concat()
 }

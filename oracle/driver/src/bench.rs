@@ -1,9 +1,9 @@
 //! How long the runs take, ours and the Rust's, on the same drawings. Not a test.
 
-use crate::drawing::{numbers, read, Segment, MOST_SEGMENTS, WIDTH};
+use crate::drawing::{flat, numbers, pairs, read, Point, Segment, MOST_POINTS, MOST_SEGMENTS, WIDTH};
 use crate::generate::Make;
 use crate::lines::{self, Draw};
-use crate::output::EACH;
+use crate::output::CLIP_EACH;
 use crate::prose::{Checked, Refusal};
 use crate::random::Random;
 use crate::shapes;
@@ -28,8 +28,8 @@ struct Run {
 }
 
 /// The fills without lines, so that the Rust makes no links; the clip inside, boundary included, with lines on most
-/// segments.
-const RUNS: [Run; 2] = [
+/// segments; the slice, counter-clockwise and of all areas.
+const RUNS: [Run; 3] = [
     Run {
         name: "fills",
         draw: |_, _| (),
@@ -44,11 +44,32 @@ const RUNS: [Run; 2] = [
         },
         theirs: |drawing| _ = black_box(drawing.clip(NON_ZERO, false, true)),
     },
+    Run {
+        name: "slice",
+        draw: |_, _| (),
+        ours: |numbers, lists| {
+            let Lists { points, lengths, roles, .. } = lists;
+            _ = black_box(raw::slice(numbers, NON_ZERO, 0, 0, points, lengths, roles));
+        },
+        theirs: |drawing| _ = black_box(drawing.slice(NON_ZERO, false, 0)),
+    },
+];
+
+/// Makes so many points.
+type MakePoints = fn(usize) -> Vec<Point>;
+
+/// Lists of points to split.
+const POINT_SIZES: [usize; 3] = [64, 256, MOST_POINTS];
+const POINT_KINDS: [(&str, MakePoints); 3] = [
+    ("all different", |n| (0..n as i32).map(|k| (k, k * k)).collect()),
+    ("many repeats", |n| random_points(n, n / 4)),
+    ("loops of four", |n| (0..n as i32).map(|k| [(0, 0), (k, 1), (k, 2), (k, 3)][k as usize % 4]).collect()),
 ];
 
 /// What is lent, for as many segments as a drawing may have.
 struct Lists {
     fills: Vec<u8>,
+    roles: Vec<u8>,
     points: Vec<i32>,
     lengths: Vec<u32>,
 }
@@ -83,7 +104,30 @@ pub fn bench() -> bool {
             }
         }
     }
+    bench_split();
     true
+}
+
+fn bench_split() {
+    println!("\n{:<14}{:>6}{:>10}{:>10}{:>12}", "split", "points", "ours", "Rust", "ours/Rust");
+    for (kind, make) in POINT_KINDS {
+        for n in POINT_SIZES {
+            let points = flat(&make(n));
+            let (mut out, mut lengths) = (vec![0; 2 * MOST_POINTS], vec![0; MOST_POINTS]);
+            let [ours, theirs] = medians(|call| match call {
+                0 => _ = black_box(raw::split(black_box(&points), 0, &mut out, &mut lengths)),
+                _ => _ = black_box(i_overlay::split(&pairs(black_box(&points)), 0)),
+            });
+            println!("{kind:<14}{n:>6}{ours:>10.1}{theirs:>10.1}{:>12.1}", ours / theirs);
+        }
+    }
+}
+
+/// So many points out of a pool.
+fn random_points(n: usize, pool: usize) -> Vec<Point> {
+    let mut random = Random::new(&[n as u64]);
+    let pool: Vec<Point> = (0..pool).map(|_| (random.within(0, 1000), random.within(0, 1000))).collect();
+    (0..n).map(|_| random.pick(&pool)).collect()
 }
 
 /// A drawing of exactly n segments.
@@ -112,8 +156,9 @@ fn refused_last(drawing: &[i32]) -> Vec<i32> {
 fn times(run: &Run, numbers: &[i32]) -> [f64; 4] {
     let mut lists = Lists {
         fills: vec![0; MOST_SEGMENTS],
-        points: vec![0; EACH[0] * MOST_SEGMENTS],
-        lengths: vec![0; EACH[1] * MOST_SEGMENTS],
+        roles: vec![0; 2 * MOST_SEGMENTS],
+        points: vec![0; CLIP_EACH[0] * MOST_SEGMENTS],
+        lengths: vec![0; CLIP_EACH[1] * MOST_SEGMENTS],
     };
     let refused = refused_last(numbers);
     let [mut list, mut tree] = [Scan::List, Scan::Tree].map(|scan| Drawing::new(numbers, scan));

@@ -1,11 +1,16 @@
 //! A drawing on its way through the comparison, and two answers to it that should be one.
 
-use crate::choices::{Choices, MOST, RULES};
-use crate::drawing::{comma_text, read, Segment, WIDTH};
-use crate::output::EACH;
+use crate::choices::{Choices, SliceChoices, MOST, RULES, SLICE_MOST};
+use crate::drawing::{commas, lines, read, Segment, WIDTH};
+use crate::output::{Room, CLIP_EACH, SLICE_EACH};
 use crate::prose::{Checked, Refusal};
+use crate::random::Random;
 use crate::ray::Ray;
+use crate::slice_walk::{walks, Walk};
 use crate::walk::Graph;
+
+/// An accepted drawing of at most so many segments is clipped and sliced by every rule, a larger one by one of them.
+const SMALL: usize = 8;
 
 /// A drawing with what the prose check and the ray say of it.
 pub struct Case<'a> {
@@ -33,14 +38,28 @@ impl<'a> Case<'a> {
         self.fills.is_some()
     }
 
+    /// The rules to run it by.
+    pub fn rules(&self, thorough: bool, random: &mut Random) -> Vec<i32> {
+        if thorough || self.n() <= SMALL {
+            RULES.to_vec()
+        } else {
+            vec![random.pick(&RULES)]
+        }
+    }
+
     /// By a known rule; none where the drawing is refused.
     pub fn fills(&self, rule: i32) -> &[u8] {
         self.fills.as_ref().map_or(&[], |fills| &fills[rule as usize])
     }
 
     /// The refusal of a clip run that lends lists of these lengths, if any.
-    pub fn clip_refusal(&self, choices: Choices, lent: [usize; 2]) -> Option<Refusal> {
-        self.checked.run(&zip(choices.list(), MOST), &zip(lent, EACH))
+    pub fn clip_refusal(&self, choices: Choices, lent: Room) -> Option<Refusal> {
+        self.checked.run(&zip(choices.list(), MOST), &zip(lent, CLIP_EACH))
+    }
+
+    /// The refusal of a slice run that lends lists of these lengths, if any but 12.
+    pub fn slice_refusal(&self, choices: SliceChoices, lent: Room) -> Option<Refusal> {
+        self.checked.run(&zip(choices.list(), SLICE_MOST), &zip(lent, SLICE_EACH))
     }
 
     /// The links of a clip run of an accepted drawing.
@@ -48,8 +67,19 @@ impl<'a> Case<'a> {
         Graph::new(&self.segments, self.fills(choices.rule), choices)
     }
 
-    pub fn difference(&self, run: &'static str, choices: Choices, [expected, got]: [String; 2]) -> Difference {
-        Difference { numbers: self.numbers.to_vec(), run, choices, expected, got }
+    /// The walks of a slice run of an accepted drawing; none where one finds no move.
+    pub fn walks(&self, rule: i32) -> Option<Vec<Walk>> {
+        walks(&self.segments, self.fills(rule))
+    }
+
+    /// A difference between what is expected and what came of a run with these choices.
+    pub fn difference<T: ToString>(
+        &self,
+        run: &'static str,
+        choices: &[T],
+        [expected, got]: [String; 2],
+    ) -> Difference {
+        Difference { numbers: self.numbers.to_vec(), width: WIDTH, run, choices: commas(choices), expected, got }
     }
 }
 
@@ -60,15 +90,17 @@ fn zip<A: Copy, B: Copy, const N: usize>(list: [A; N], other: [B; N]) -> [(A, B)
 /// Two answers that should be one.
 pub struct Difference {
     pub numbers: Vec<i32>,
-    run: &'static str,
-    choices: Choices,
-    expected: String,
-    got: String,
+    /// How many of the numbers belong together.
+    pub width: usize,
+    pub run: &'static str,
+    pub choices: String,
+    pub expected: String,
+    pub got: String,
 }
 
 impl Difference {
     pub fn report(&self) -> String {
-        let text = comma_text(&self.numbers, self.choices);
+        let text = lines(&self.choices, &self.numbers, self.width);
         format!("{}\n{text}expected {}\ngot      {}", self.run, self.expected, self.got)
     }
 }

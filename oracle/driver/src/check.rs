@@ -2,13 +2,14 @@
 
 use crate::blocks::in_blocks;
 use crate::case::Difference;
-use crate::compare::{compare, SMALL};
+use crate::compare::compare;
 use crate::damage::damaged;
 use crate::generate::{Generator, JOINED, SCATTERED};
 use crate::placement;
 use crate::random::Random;
 use crate::shrink::shrunk;
 use crate::tally::{has_all, Tally};
+use crate::trials;
 
 /// Blocks of a thousand drawings have every generator by its share.
 const BLOCK: usize = 1000;
@@ -19,10 +20,13 @@ const LEAST_ACCEPTED: usize = 50_000;
 /// Damaged copies of each drawing; of one with many segments, one.
 const COPIES: usize = 2;
 
-/// Compares this many drawings and their damaged copies. False where something differs or is missing.
+/// Compares the trial drawings, this many others and their damaged copies. False where something differs or is missing.
 pub fn check(seed: u64, drawings: usize) -> bool {
-    let work = |block, tally: &mut Tally| check_block(seed, block, tally);
-    let (tally, failure) = in_blocks(drawings.div_ceil(BLOCK), work, Tally::merge);
+    let work = |block, tally: &mut Tally| match block {
+        0 => check_trials(seed, tally),
+        _ => check_block(seed, block, tally),
+    };
+    let (tally, failure) = in_blocks(1 + drawings.div_ceil(BLOCK), work, Tally::merge);
     tally.print();
     if let Some(failure) = &failure {
         failure.print(seed);
@@ -37,6 +41,13 @@ fn is_enough(tally: &Tally, drawings: usize) -> bool {
         println!("TOO LITTLE: fewer than {LEAST_ACCEPTED} drawings accepted");
     }
     has_all(&tally.missing()) && !few
+}
+
+fn check_trials(seed: u64, tally: &mut Tally) -> Result<(), String> {
+    trials::slices().into_iter().enumerate().try_for_each(|(place, (_, numbers))| {
+        let random = &mut Random::new(&[seed, place as u64]);
+        check_drawing("trial", &numbers, true, random, tally).map_err(|found| found.report())
+    })
 }
 
 fn check_block(seed: u64, block: usize, tally: &mut Tally) -> Result<(), String> {
@@ -56,22 +67,23 @@ fn check_block(seed: u64, block: usize, tally: &mut Tally) -> Result<(), String>
 fn check_one(generator: &Generator, random: &mut Random, tally: &mut Tally) -> Result<(), Difference> {
     let (numbers, placement) = generator.drawing(random);
     tally.add_placement(placement::NAMES[placement]);
-    check_drawing(generator, &numbers, random, tally)?;
+    check_drawing(generator.name, &numbers, false, random, tally)?;
     let copies = if numbers.len() > 1000 { 1 } else { COPIES };
     for _ in 0..copies {
         let copy = damaged(&numbers, random);
-        check_drawing(generator, &copy, random, tally)?;
+        check_drawing(generator.name, &copy, false, random, tally)?;
     }
     Ok(())
 }
 
 fn check_drawing(
-    generator: &Generator,
+    generator: &'static str,
     numbers: &[i32],
+    thorough: bool,
     random: &mut Random,
     tally: &mut Tally,
 ) -> Result<(), Difference> {
-    let refused = compare(numbers, SMALL, random, tally)?;
-    tally.add_drawing(generator.name, numbers, refused);
+    let refused = compare(numbers, thorough, random, tally)?;
+    tally.add_drawing(generator, numbers, refused);
     Ok(())
 }

@@ -2,8 +2,10 @@
 //! is a step of exactly one of them, once and as drawn, of the inside one exactly where the ray fills enough sides;
 //! there are no other steps; and steps and travel add up to the drawing's own.
 
+use crate::counts::steps;
 use crate::drawing::{distance, Point, Segment};
-use crate::output::{steps, Output};
+use crate::output::Output;
+use jumperclay::raw::Clipped;
 
 const SIDES: [&str; 2] = ["inside", "outside"];
 
@@ -16,7 +18,12 @@ struct Both {
 }
 
 /// Err, where what is claimed and what the outputs have differ, with both.
-pub fn check(segments: &[Segment], fills: &[u8], boundary: i32, outputs: [&Output; 2]) -> Result<(), [String; 2]> {
+pub fn check(
+    segments: &[Segment],
+    fills: &[u8],
+    boundary: i32,
+    outputs: [&Output<Clipped>; 2],
+) -> Result<(), [String; 2]> {
     let due = Some(claimed(segments, fills, boundary));
     let got = found(outputs);
     if due == got {
@@ -40,7 +47,7 @@ fn claimed(segments: &[Segment], fills: &[u8], boundary: i32) -> Both {
 }
 
 /// None where an output cannot be read.
-fn found(outputs: [&Output; 2]) -> Option<Both> {
+fn found(outputs: [&Output<Clipped>; 2]) -> Option<Both> {
     let mut all = Vec::new();
     for (output, side) in outputs.into_iter().zip(SIDES) {
         let paths = output.paths()?;

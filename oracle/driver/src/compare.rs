@@ -5,15 +5,13 @@ use crate::prose::Refusal;
 use crate::random::Random;
 use crate::tally::Tally;
 use crate::theirs::Theirs;
-use crate::{clip, fills};
+use crate::{clip, fills, slice};
 
-/// An accepted drawing of at most so many segments is clipped by every rule, a larger one by one of them.
-pub const SMALL: usize = 8;
-
-/// Returns the refusal by known choices and lists long enough, if any. `small` stands for `SMALL`.
+/// Returns the refusal by known choices and lists long enough, if any. A thorough comparison has every rule and minimum
+/// area, also of a large drawing.
 pub fn compare(
     numbers: &[i32],
-    small: usize,
+    thorough: bool,
     random: &mut Random,
     tally: &mut Tally,
 ) -> Result<Option<Refusal>, Difference> {
@@ -21,6 +19,7 @@ pub fn compare(
     // The Rust refuses nothing: it is given accepted drawings only.
     let mut theirs = case.is_accepted().then(|| Theirs::new(numbers));
     fills::compare(&case, theirs.as_mut(), random, tally)?;
-    clip::compare(&case, theirs.as_mut(), small, random, tally)?;
+    clip::compare(&case, theirs.as_mut(), thorough, random, tally)?;
+    slice::compare(&case, theirs.as_mut(), thorough, random, tally)?;
     Ok(case.checked.refused)
 }

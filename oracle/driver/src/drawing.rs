@@ -5,6 +5,8 @@ use std::fmt::Write;
 
 pub const WIDTH: usize = 6;
 pub const MOST_SEGMENTS: usize = 1024;
+/// Of a list to split.
+pub const MOST_POINTS: usize = 2048;
 pub const FARTHEST: i32 = 16_777_216;
 pub const MOST_WINDING: i32 = 1000;
 
@@ -19,9 +21,29 @@ pub struct Segment {
     pub bits: i32,
 }
 
+impl Segment {
+    /// The end that is not this one.
+    pub fn other(&self, end: Point) -> Point {
+        if end == self.a {
+            self.b
+        } else {
+            self.a
+        }
+    }
+}
+
 pub fn read(numbers: &[i32]) -> Vec<Segment> {
     let segment = |six: &[i32]| Segment { a: (six[0], six[1]), b: (six[2], six[3]), winding: six[4], bits: six[5] };
     numbers.chunks_exact(WIDTH).map(segment).collect()
+}
+
+/// x and y of each point.
+pub fn pairs(numbers: &[i32]) -> Vec<Point> {
+    numbers.chunks_exact(2).map(|pair| (pair[0], pair[1])).collect()
+}
+
+pub fn flat(points: &[Point]) -> Vec<i32> {
+    points.iter().flat_map(|&(x, y)| [x, y]).collect()
 }
 
 pub fn numbers(segments: &[Segment]) -> Vec<i32> {
@@ -40,6 +62,13 @@ pub fn difference(from: Point, to: Point) -> (i128, i128) {
     (to.0 as i128 - from.0 as i128, to.1 as i128 - from.1 as i128)
 }
 
+/// The sum of x1·y2 - x2·y1 over neighbouring points, last to first included: negative where they run clockwise.
+pub fn shoelace(points: &[Point]) -> i128 {
+    let next = points.iter().cycle().skip(1);
+    let product = |(x1, y1): Point, (x2, y2): Point| i128::from(x1) * i128::from(y2) - i128::from(x2) * i128::from(y1);
+    points.iter().zip(next).map(|(&p, &q)| product(p, q)).sum()
+}
+
 /// |dx| + |dy|.
 pub fn distance(p: Point, q: Point) -> u64 {
     u64::from(p.0.abs_diff(q.0)) + u64::from(p.1.abs_diff(q.1))
@@ -47,9 +76,14 @@ pub fn distance(p: Point, q: Point) -> u64 {
 
 /// The comma text of a clip run.
 pub fn comma_text(numbers: &[i32], choices: Choices) -> String {
-    let mut text = commas(&choices.list()) + "\n";
-    for segment in numbers.chunks(WIDTH) {
-        writeln!(text, "{}", commas(segment)).expect("a string takes all");
+    lines(&commas(&choices.list()), numbers, WIDTH)
+}
+
+/// A first line, and the numbers in lines of so many.
+pub fn lines(first: &str, numbers: &[i32], width: usize) -> String {
+    let mut text = format!("{first}\n");
+    for line in numbers.chunks(width) {
+        writeln!(text, "{}", commas(line)).expect("a string takes all");
     }
     text
 }

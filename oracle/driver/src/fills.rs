@@ -61,6 +61,6 @@ impl Run<'_> {
 
     fn difference(&self, answers: [String; 2]) -> Difference {
         let choices = Choices { rule: self.rule, invert: 0, boundary: 1 };
-        self.case.difference("overlay_fills", choices, answers)
+        self.case.difference("overlay_fills", &choices.list(), answers)
     }
 }

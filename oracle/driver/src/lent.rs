@@ -1,10 +1,34 @@
 //! Lent lists that show what a run did to them.
 
 use crate::drawing::commas;
+use crate::output::Room;
 use crate::random::Random;
 
 /// Entries beside a lent list, which no run may touch.
 const MARGIN: usize = 8;
+
+/// Exactly as many entries as are needed, or more.
+pub fn long_enough(needed: Room, random: &mut Random) -> Room {
+    needed.map(|needed| {
+        let more = random.below(20);
+        needed + random.pick(&[0, more])
+    })
+}
+
+/// One or more of the lists that are needed: by one, empty, or anything between. None where no list is needed.
+pub fn too_short(needed: Room, random: &mut Random) -> Option<Room> {
+    let lists: Vec<_> = (0..needed.len()).filter(|&list| needed[list] > 0).collect();
+    if lists.is_empty() {
+        return None;
+    }
+    let mut lent = long_enough(needed, random);
+    let shortened = 1 + random.below((1 << lists.len()) - 1);
+    for (_, list) in lists.into_iter().enumerate().filter(|(bit, _)| shortened >> bit & 1 == 1) {
+        let between = random.below(needed[list]);
+        lent[list] = random.pick(&[needed[list] - 1, 0, between]);
+    }
+    Some(lent)
+}
 
 /// A list of noise, with more noise on both sides.
 pub struct Lent<T> {

@@ -1,7 +1,8 @@
-//! Compares overlay_fills and overlay_clip with the unchanged Rust, and with a check, a ray and a walk written from
-//! prose; and the clip program with these and a reader of its text, also from prose.
+//! Compares the exported functions with the unchanged Rust, and with a check, a ray, walks and loops written from prose;
+//! and the clip program with these and a reader of its text, also from prose.
 
 mod answer;
+mod areas;
 #[cfg(feature = "rust")]
 mod bench;
 mod blocks;
@@ -9,11 +10,14 @@ mod case;
 mod case_texts;
 mod cases;
 mod check;
+mod check_split;
 mod check_texts;
 mod choices;
 mod claim;
 mod clip;
 mod compare;
+mod contours;
+mod counts;
 mod damage;
 mod damage_text;
 mod drawing;
@@ -22,17 +26,23 @@ mod generate;
 mod grow;
 mod lent;
 mod lines;
+mod loops;
 mod marks;
+mod nodes;
 mod output;
 mod placement;
 mod places;
 mod plane;
+mod point_lists;
 mod program;
 mod prose;
 mod random;
 mod ray;
 mod shapes;
 mod shrink;
+mod slice;
+mod slice_walk;
+mod split;
 #[cfg(feature = "rust")]
 mod store;
 mod stored;
@@ -41,6 +51,7 @@ mod tally;
 mod text;
 mod texts;
 mod theirs;
+mod trials;
 mod walk;
 mod windings;
 
@@ -49,16 +60,19 @@ use std::path::Path;
 use std::process::ExitCode;
 
 const USAGE: &str = "\
-driver check [--seed S] [--drawings N] [--texts N]   compare with all that is stored, then on N drawings and N texts
-driver texts [--seed S] [--texts N]                  compare the clip program alone, on N texts
-driver replay [FOLDER]                               compare with the stored answers, in crates/replay if not said
-driver store [FOLDER]                                make the stored answers (needs the Rust)
-driver cases [FOLDER]                                make the cases of the clip program, in crates/clip_cases if not said
-driver bench                                         time ours and the Rust (needs the Rust)";
+driver check [--seed S] [--drawings N] [--lists N] [--texts N]
+                                     compare with all that is stored, then on N drawings, N lists of points and N texts
+driver lists [--seed S] [--lists N]  compare overlay_split alone, on N lists of points
+driver texts [--seed S] [--texts N]  compare the clip program alone, on N texts
+driver replay [FOLDER]               compare with the stored answers, in crates/replay if not said
+driver store [FOLDER]                make the stored answers (needs the Rust)
+driver cases [FOLDER]                make the cases of the clip program, in crates/clip_cases if not said
+driver bench                         time ours and the Rust (needs the Rust)";
 
 struct Options {
     seed: u64,
     drawings: usize,
+    lists: usize,
     texts: usize,
 }
 
@@ -79,11 +93,15 @@ fn main() -> ExitCode {
 fn run(words: &[&str]) -> Option<bool> {
     match words {
         ["check", options @ ..] => {
-            let Options { seed, drawings, texts } = options_of(options)?;
+            let Options { seed, drawings, lists, texts } = options_of(options)?;
             println!("{}, seed {seed}", theirs::NOTE);
             let stored = [stored::replay(&stored::folder()), cases::check(&cases::folder())];
-            let made = [check::check(seed, drawings), check_texts::check(seed, texts)];
-            Some(stored == [true; 2] && made == [true; 2])
+            let made = [check::check(seed, drawings), check_split::check(seed, lists), check_texts::check(seed, texts)];
+            Some(stored == [true; 2] && made == [true; 3])
+        }
+        ["lists", options @ ..] => {
+            let Options { seed, lists, .. } = options_of(options)?;
+            Some(check_split::check(seed, lists))
         }
         ["texts", options @ ..] => {
             let Options { seed, texts, .. } = options_of(options)?;
@@ -100,11 +118,17 @@ fn run(words: &[&str]) -> Option<bool> {
 }
 
 fn options_of(options: &[&str]) -> Option<Options> {
-    let mut found = Options { seed: 1, drawings: check::DEFAULT_DRAWINGS, texts: check_texts::DEFAULT_TEXTS };
+    let mut found = Options {
+        seed: 1,
+        drawings: check::DEFAULT_DRAWINGS,
+        lists: check_split::DEFAULT_LISTS,
+        texts: check_texts::DEFAULT_TEXTS,
+    };
     for option in options.chunks(2) {
         match option {
             ["--seed", value] => found.seed = value.parse().ok()?,
             ["--drawings", value] => found.drawings = value.parse().ok()?,
+            ["--lists", value] => found.lists = value.parse().ok()?,
             ["--texts", value] => found.texts = value.parse().ok()?,
             _ => return None,
         }

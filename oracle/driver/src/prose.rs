@@ -1,6 +1,9 @@
 //! Which runs are turned down, written from document 01's prose alone: a check independent of ours.
 
-use crate::drawing::{cross, difference, read, Point, Segment, FARTHEST, MOST_SEGMENTS, MOST_WINDING, WIDTH};
+use crate::drawing::{
+    cross, difference, read, Point, Segment, FARTHEST, MOST_POINTS, MOST_SEGMENTS, MOST_WINDING, WIDTH,
+};
+use crate::output::Room;
 use std::collections::HashMap;
 
 #[derive(Debug, Clone, Copy, PartialEq, Eq)]
@@ -40,6 +43,23 @@ impl Checked {
     }
 }
 
+/// The first refusal of a split in the order 2, 11 and 3: the lists are as long as the input, with one length a point.
+pub fn of_split(numbers: &[i32], lent: Room) -> Option<Refusal> {
+    let points = numbers.len() / 2;
+    if !numbers.len().is_multiple_of(2) || points > MOST_POINTS {
+        return Some(Refusal { number: 2, place: 0 });
+    }
+    if lent[0] < numbers.len() || lent[1] < points {
+        return Some(Refusal { number: 11, place: 0 });
+    }
+    let place = numbers.iter().position(|&coordinate| !in_range(coordinate))? / 2;
+    Some(Refusal { number: 3, place: place as u64 })
+}
+
+fn in_range(coordinate: i32) -> bool {
+    (-FARTHEST..=FARTHEST).contains(&coordinate)
+}
+
 fn of_segments(segments: &[Segment]) -> Option<Refusal> {
     fault(segments).or_else(|| wrong_meeting(segments)).or_else(|| imbalance(segments))
 }
@@ -54,7 +74,6 @@ fn fault(segments: &[Segment]) -> Option<Refusal> {
 }
 
 fn fault_of(s: &Segment, previous: Option<Segment>) -> Option<u64> {
-    let in_range = |coordinate: i32| (-FARTHEST..=FARTHEST).contains(&coordinate);
     if ![s.a.0, s.a.1, s.b.0, s.b.1].into_iter().all(in_range) {
         Some(3)
     } else if s.a >= s.b {

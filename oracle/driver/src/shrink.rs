@@ -10,10 +10,10 @@ use std::collections::HashMap;
 /// How many smaller ones are tried at most.
 const TRIES: usize = 1000;
 
-/// Leaves out segments, windings and lines as long as some difference remains, not always the same one. Every rule is
-/// tried, however large the drawing.
+/// Leaves out segments, windings and lines as long as some difference remains, not always the same one. Every rule
+/// and area is tried, however large the drawing.
 pub fn shrunk(found: Difference, random: &Random) -> Difference {
-    let differs = |numbers: Vec<i32>| compare(&numbers, usize::MAX, &mut random.clone(), &mut Tally::default()).err();
+    let differs = |numbers: Vec<i32>| compare(&numbers, true, &mut random.clone(), &mut Tally::default()).err();
     smallest(found, |found| Box::new(smaller(&found.numbers)), differs)
 }
 

@@ -1,15 +1,22 @@
-//! Makes the stored answers: fills and paths by the unchanged Rust, refusals by the prose check. Steps and travel of
-//! paths are counted here, as the Rust does not count them.
+//! Makes the stored answers: fills, paths, contours and loops by the unchanged Rust, refusals by the prose check. Steps
+//! and travel of paths are counted here, as the Rust does not count them.
 
-use crate::choices::{unknown, Choices, MOST, RULES};
+use crate::areas::areas;
+use crate::case::Case;
+use crate::choices::{known, known_but, unknown, Choices, SliceChoices, MOST, RULES, SLICE_MOST};
+use crate::counts::Counts;
 use crate::damage::damaged;
-use crate::drawing::{commas, WIDTH};
+use crate::drawing::{commas, pairs, MOST_POINTS, MOST_SEGMENTS, WIDTH};
 use crate::generate::{Generator, JOINED, SCATTERED};
-use crate::output::Output;
-use crate::prose::{Checked, Refusal};
+use crate::loops::Loops;
+use crate::output::{Output, SLICE_EACH};
+use crate::point_lists;
+use crate::prose::{of_split, Checked, Refusal};
 use crate::random::Random;
 use crate::stored::fills_answer;
-use crate::theirs::Theirs;
+use crate::theirs::{self, Theirs};
+use crate::trials;
+use jumperclay::raw::{Clipped, Looped};
 use std::ops::RangeInclusive;
 use std::path::Path;
 use std::{fs, io};
@@ -20,9 +27,19 @@ type Line = (String, String);
 /// Makes the line of a place among those of its kind.
 type MakeLine = fn(usize, &mut Random) -> Line;
 
-/// How many lines there are of each kind.
-const KINDS: [(usize, MakeLine); 4] =
-    [(320, accepted_fills), (80, refused_fills), (240, accepted_clip), (60, refused_clip)];
+/// How many lines there are of each kind. The trials are as many as there are.
+const KINDS: [(usize, MakeLine); 10] = [
+    (320, accepted_fills),
+    (80, refused_fills),
+    (240, accepted_clip),
+    (60, refused_clip),
+    (12, |place, _| slice_line(&trials::slices()[place])),
+    (81, accepted_slice),
+    (27, refused_slice),
+    (16, |place, _| split_line(&trials::splits()[place])),
+    (52, accepted_split),
+    (12, refused_split),
+];
 
 /// What a run can be refused with that lends lists long enough.
 const NUMBERS: [u64; 9] = [2, 3, 4, 5, 6, 7, 8, 9, 10];
@@ -94,8 +111,7 @@ fn accepted_clip(place: usize, random: &mut Random) -> Line {
         let (paths, other) = (paths(boundary), paths(1 - boundary));
         let wanted = if place % 3 == 1 { paths != other } else { !paths.is_empty() };
         if wanted || place.is_multiple_of(11) {
-            let line = Output::of_paths(&paths).line().expect("its lists are whole");
-            return (question("c", &choices.list(), &numbers), line);
+            return (question("c", &choices.list(), &numbers), line(&Output::<Clipped>::of_paths(&paths)));
         }
     }
 }
@@ -117,8 +133,106 @@ fn refused_clip(place: usize, random: &mut Random) -> Line {
         _ => Choices::known(random).list().to_vec(),
     };
     let (choices, numbers, refusal) = refused(number, 1..=6, choices, random);
-    let line = Output::refused(refusal).line().expect("it has no lists");
-    (question("c", &choices, &numbers), line)
+    (question("c", &choices, &numbers), line(&Output::<Clipped>::refused(refusal)))
+}
+
+fn line<C: Counts>(output: &Output<C>) -> String {
+    output.line().expect("its lists are whole")
+}
+
+/// The answer to a slice, refused or not.
+fn slice_line((choices, numbers): &(SliceChoices, Vec<i32>)) -> Line {
+    let room = SLICE_EACH.map(|each| each * MOST_SEGMENTS);
+    let output = match Case::new(numbers).slice_refusal(*choices, room) {
+        Some(refusal) => Output::refused(refusal),
+        None => {
+            let (_, contours) = Theirs::new(numbers).slice(*choices).remove(0);
+            Output::of_contours(&contours.expect("a move is found"))
+        }
+    };
+    let SliceChoices { rule, direction, min_area } = *choices;
+    (question("s", &[rule, direction, field(min_area)], numbers), line(&output))
+}
+
+/// Every rule and direction in turn. In some drawings there is a contour, in others a hole, a walk that does more than
+/// go round once, or a contour that is too small.
+fn accepted_slice(place: usize, random: &mut Random) -> Line {
+    let sizes = if place.is_multiple_of(9) { 20..=40 } else { 3..=14 };
+    let [rule, direction] = [place % 4, place / 4 % 2].map(|choice| choice as i32);
+    loop {
+        let numbers = drawing(&SCATTERED, sizes.clone(), random);
+        let walks = Case::new(&numbers).walks(rule).expect("a move is found");
+        let loops: Vec<_> = walks.iter().flat_map(|walk| &walk.loops.all).collect();
+        let min_area = if place % 3 == 2 { stored_area(&areas(&loops, random), random) } else { 0 };
+        let choices = SliceChoices { rule, direction, min_area };
+        let (_, contours) = Theirs::new(&numbers).slice(choices).remove(0);
+        let contours = contours.expect("a move is found");
+        let wanted = match place % 3 {
+            0 => contours.iter().any(|contour| contour.role == 1),
+            1 => walks.iter().any(|walk| walk.returns || walk.loops.all.len() > 1) && !contours.is_empty(),
+            _ => contours.len() < loops.len() && (!contours.is_empty() || place.is_multiple_of(5)),
+        };
+        if wanted {
+            return slice_line(&(choices, numbers));
+        }
+    }
+}
+
+fn refused_slice(place: usize, random: &mut Random) -> Line {
+    let number = NUMBERS[place % NUMBERS.len()];
+    let choices = |random: &mut Random| match number {
+        10 => known_but(place / NUMBERS.len() % SLICE_MOST.len(), SLICE_MOST, random).to_vec(),
+        _ => known(SLICE_MOST, random).to_vec(),
+    };
+    let (choices, numbers, _) = refused(number, 1..=6, choices, random);
+    slice_line(&(SliceChoices { rule: choices[0], direction: choices[1], min_area: 0 }, numbers))
+}
+
+/// The answer to a split, refused or not.
+fn split_line((min_area, numbers): &(u64, Vec<i32>)) -> Line {
+    let output: Output<Looped> = match of_split(numbers, [2 * MOST_POINTS, MOST_POINTS, 0]) {
+        Some(refusal) => Output::refused(refusal),
+        None => Output::of_paths(&theirs::split(&pairs(numbers), *min_area)[0].1),
+    };
+    (question("l", &[field(*min_area)], numbers), line(&output))
+}
+
+/// With loops; in every third one some area is asked for.
+fn accepted_split(place: usize, random: &mut Random) -> Line {
+    let numbers = short_list(0, random);
+    let loops = Loops::of(&pairs(&numbers)).all;
+    let areas = areas(&loops.iter().collect::<Vec<_>>(), random);
+    let min_area = if place.is_multiple_of(3) { stored_area(&areas, random) } else { 0 };
+    if loops.is_empty() && !place.is_multiple_of(13) {
+        return accepted_split(place, random);
+    }
+    split_line(&(min_area, numbers))
+}
+
+fn refused_split(place: usize, random: &mut Random) -> Line {
+    split_line(&(0, short_list([2, 3][place % 2], random)))
+}
+
+/// A list of points with this refusal's number, 0 for none.
+fn short_list(number: u64, random: &mut Random) -> Vec<i32> {
+    loop {
+        let kind = &point_lists::KINDS[random.below(point_lists::KINDS.len())];
+        let numbers = kind.numbers(random);
+        let refused = of_split(&numbers, [2 * MOST_POINTS, MOST_POINTS, 0]);
+        if numbers.len() <= MOST_NUMBERS / 6 && refused.map_or(0, |refusal| refusal.number) == number {
+            return numbers;
+        }
+    }
+}
+
+/// One of the areas that a field of a line can hold.
+fn stored_area(areas: &[u64], random: &mut Random) -> u64 {
+    let small: Vec<_> = areas.iter().copied().filter(|&area| i32::try_from(area).is_ok()).collect();
+    random.pick(&small)
+}
+
+fn field(min_area: u64) -> i32 {
+    min_area.try_into().expect("stored areas are small")
 }
 
 /// Choices and a damaged drawing that are refused with this number.

@@ -1,9 +1,11 @@
-//! The stored answers: a drawing a line in one file, its answer in the same line of another.
-//! `f,rule,ax,ay,bx,by,winding,bits,...` has the answer `number,place,count,fill,...`, and
-//! `c,rule,invert,boundary,ax,...` has `number,place,paths,points,steps,travel,length,...,x,y,...`.
+//! The stored answers: a drawing or a list of points a line in one file, its answer in the same line of another.
+//! `f,rule,ax,ay,bx,by,winding,bits,...` has the answer `number,place,count,fill,...`,
+//! `c,rule,invert,boundary,ax,...` has `number,place,paths,points,steps,travel,length,...,x,y,...`,
+//! `s,rule,direction,area,ax,...` has `number,place,contours,points,length,...,role,...,x,y,...`, and
+//! `l,area,x,y,...` has `number,place,loops,points,length,...,x,y,...`.
 
-use crate::drawing::{commas, MOST_SEGMENTS};
-use crate::output::{Output, EACH};
+use crate::drawing::{commas, MOST_POINTS, MOST_SEGMENTS};
+use crate::output::{Output, CLIP_EACH, SLICE_EACH};
 use crate::places::in_repository;
 use jumperclay::raw;
 use std::path::{Path, PathBuf};
@@ -24,7 +26,7 @@ pub fn fills_answer(number: u64, place: u64, fills: &[u8]) -> String {
     commas(&all)
 }
 
-/// Runs every stored drawing. False where an answer differs or none is stored.
+/// Runs every stored line. False where an answer differs or none is stored.
 pub fn replay(folder: &Path) -> bool {
     let (questions, answers) = match read(folder) {
         Ok(files) => files,
@@ -55,9 +57,24 @@ fn ours(question: &str) -> Option<String> {
             Some(fills_answer(filled.number, filled.place, list.get(..filled.count as usize)?))
         }
         ("c", &[rule, invert, boundary, ref segments @ ..]) => {
-            let (mut points, mut lengths) = (vec![0; EACH[0] * MOST_SEGMENTS], vec![0; EACH[1] * MOST_SEGMENTS]);
-            let counts = raw::clip(segments, rule, invert, boundary, &mut points, &mut lengths);
-            Output { counts, points, lengths }.line()
+            let room = CLIP_EACH.map(|each| each * MOST_SEGMENTS);
+            let call = |points: &mut [_], lengths: &mut [_], _: &mut [_]| {
+                raw::clip(segments, rule, invert, boundary, points, lengths)
+            };
+            Output::of_call(room, call).line()
+        }
+        ("s", &[rule, direction, area, ref segments @ ..]) => {
+            let room = SLICE_EACH.map(|each| each * MOST_SEGMENTS);
+            let min_area = area.try_into().ok()?;
+            let call = |points: &mut [_], lengths: &mut [_], roles: &mut [_]| {
+                raw::slice(segments, rule, direction, min_area, points, lengths, roles)
+            };
+            Output::of_call(room, call).line()
+        }
+        ("l", &[area, ref points @ ..]) => {
+            let min_area = area.try_into().ok()?;
+            let call = |out: &mut [_], lengths: &mut [_], _: &mut [_]| raw::split(points, min_area, out, lengths);
+            Output::of_call([2 * MOST_POINTS, MOST_POINTS, 0], call).line()
         }
         _ => None,
     }

@@ -25,6 +25,10 @@ impl<K: Ord + Display, const N: usize> Table<K, N> {
         }
     }
 
+    pub fn sum_of(&self, key: &K) -> usize {
+        self.rows.get(key).map_or(0, |counts| counts.iter().sum())
+    }
+
     pub fn sum(&self, column: usize) -> usize {
         self.rows.values().map(|counts| counts[column]).sum()
     }
@@ -34,6 +38,11 @@ impl<K: Ord + Display, const N: usize> Table<K, N> {
         self.rows.get(key).is_some_and(|counts| !counts.contains(&0))
     }
 
+    /// The keys without a full row.
+    pub fn lacking<'a>(&self, keys: &'a [K]) -> impl Iterator<Item = &'a K> + use<'_, 'a, K, N> {
+        keys.iter().filter(|key| !self.is_full(key))
+    }
+
     pub fn print(&self, heading: &str, columns: [&str; N]) {
         let cells = |cells: [String; N]| cells.map(|cell| format!("{cell:>14}")).concat();
         println!("{heading:<42}{}", cells(columns.map(str::to_string)));
@@ -41,5 +50,13 @@ impl<K: Ord + Display, const N: usize> Table<K, N> {
             println!("{:<42}{}", key.to_string(), cells(counts.map(|count| count.to_string())));
         }
         println!();
+    }
+}
+
+impl<const N: usize> Table<&'static str, N> {
+    /// Counts those of the names whose mark is set, in the first column.
+    pub fn add_marks<const M: usize>(&mut self, names: [&'static str; M], marks: [bool; M]) {
+        let set = names.into_iter().zip(marks).filter(|&(_, mark)| mark);
+        set.for_each(|(name, _)| self.add(name, 0));
     }
 }

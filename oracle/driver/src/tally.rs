@@ -1,6 +1,6 @@
 //! How many drawings, calls and runs of each kind there were.
 
-use crate::choices::Choices;
+use crate::choices::{Choices, SliceChoices};
 use crate::drawing::WIDTH;
 use crate::marks;
 use crate::prose::Refusal;
@@ -11,6 +11,7 @@ use crate::table::Table;
 pub enum Function {
     Fills,
     Clip,
+    Slice,
 }
 
 #[derive(Default)]
@@ -19,15 +20,20 @@ pub struct Tally {
     placements: Table<&'static str, 1>,
     sizes: Table<usize, 1>,
     /// By the refusal due, 0 for none.
-    calls: Table<u64, 2>,
-    /// The clip runs of accepted drawings.
+    calls: Table<u64, 3>,
+    /// The clip and slice runs of accepted drawings.
     clips: Table<&'static str, 4>,
-    marks: Table<&'static str, 1>,
+    slices: Table<&'static str, 4>,
+    clip_marks: Table<&'static str, 1>,
+    slice_marks: Table<&'static str, 1>,
 }
 
-/// What must occur: numbers of segments, refusals by each function, filters by each rule.
+/// What must occur: numbers of segments, refusals by each function, filters and directions by each rule.
 const SIZES: [usize; 3] = [0, 1, 1024];
 const REFUSALS: [u64; 10] = [2, 3, 4, 5, 6, 7, 8, 9, 10, 11];
+/// Need not occur: no walk of an accepted drawing is known to find no move.
+const NO_MOVE: u64 = 12;
+const DIRECTIONS: [&str; 2] = ["counter-clockwise", "clockwise"];
 const FILTERS: [[&str; 2]; 2] = [["inside excluded", "inside included"], ["outside excluded", "outside included"]];
 
 impl Tally {
@@ -48,12 +54,17 @@ impl Tally {
     }
 
     /// A clip run of an accepted drawing and which marks it has.
-    pub fn add_clip(&mut self, choices: Choices, marks: [bool; marks::NAMES.len()]) {
+    pub fn add_clip(&mut self, choices: Choices, marks: [bool; marks::CLIP.len()]) {
         let [rule, invert, boundary] = choices.list().map(|choice| choice as usize);
         self.clips.add(FILTERS[invert][boundary], rule);
-        for (name, _) in marks::NAMES.into_iter().zip(marks).filter(|&(_, mark)| mark) {
-            self.marks.add(name, 0);
-        }
+        self.clip_marks.add_marks(marks::CLIP, marks);
+    }
+
+    /// A slice run of an accepted drawing and which marks it has.
+    pub fn add_slice(&mut self, choices: SliceChoices, marks: [bool; marks::SLICE.len()]) {
+        let [rule, direction] = choices.list().map(|choice| choice as usize);
+        self.slices.add(DIRECTIONS[direction], rule);
+        self.slice_marks.add_marks(marks::SLICE, marks);
     }
 
     pub fn merge(&mut self, other: Self) {
@@ -62,7 +73,9 @@ impl Tally {
         self.sizes.merge(other.sizes);
         self.calls.merge(other.calls);
         self.clips.merge(other.clips);
-        self.marks.merge(other.marks);
+        self.slices.merge(other.slices);
+        self.clip_marks.merge(other.clip_marks);
+        self.slice_marks.merge(other.slice_marks);
     }
 
     pub fn accepted(&self) -> usize {
@@ -71,23 +84,23 @@ impl Tally {
 
     /// What should have occurred and did not.
     pub fn missing(&self) -> Vec<String> {
-        let refusals = REFUSALS.iter().filter(|number| !self.calls.is_full(number));
-        let sizes = SIZES.iter().filter(|size| !self.sizes.is_full(size));
-        let filters = FILTERS.iter().flatten().filter(|name| !self.clips.is_full(name));
-        let marks = marks::NAMES.iter().filter(|name| !self.marks.is_full(name));
-        let named = filters.chain(marks).map(|name| name.to_string());
-        let numbered =
-            refusals.map(|number| format!("refusal {number}")).chain(sizes.map(|size| format!("n = {size}")));
-        numbered.chain(named).collect()
+        let refusals = self.calls.lacking(&REFUSALS).map(|number| format!("refusal {number}"));
+        let sizes = self.sizes.lacking(&SIZES).map(|size| format!("n = {size}"));
+        let choices = self.clips.lacking(FILTERS.as_flattened()).chain(self.slices.lacking(&DIRECTIONS));
+        let marks = self.clip_marks.lacking(&marks::CLIP).chain(self.slice_marks.lacking(&marks::SLICE));
+        refusals.chain(sizes).chain(choices.chain(marks).map(|name| name.to_string())).collect()
     }
 
     pub fn print(&self) {
         self.generators.print("generator", ["accepted", "refused"]);
         self.placements.print("placement", ["drawings"]);
         self.sizes.print("segments", ["accepted"]);
-        self.calls.print("calls by the refusal due", ["overlay_fills", "overlay_clip"]);
+        self.calls.print("calls by the refusal due", ["overlay_fills", "overlay_clip", "overlay_slice"]);
+        println!("{} slices find no move: refusal {NO_MOVE}\n", self.calls.sum_of(&NO_MOVE));
         self.clips.print("clip runs by rule", ["0", "1", "2", "3"]);
-        self.marks.print("clip runs with", ["runs"]);
+        self.clip_marks.print("clip runs with", ["runs"]);
+        self.slices.print("slice runs by rule", ["0", "1", "2", "3"]);
+        self.slice_marks.print("slice runs with", ["runs"]);
     }
 }
 

@@ -5,13 +5,13 @@ use std::fmt::Debug;
 use std::panic::{catch_unwind, AssertUnwindSafe};
 
 #[cfg(feature = "rust")]
-pub use here::Theirs;
+pub use here::{split, Theirs};
 #[cfg(not(feature = "rust"))]
-pub use missing::Theirs;
+pub use missing::{split, Theirs};
 
 /// Says what the driver compares with.
 pub const NOTE: &str = if cfg!(feature = "rust") {
-    "compared with the unchanged Rust of i_overlay 9.1.0, and with the ray, the walk and the check written from prose"
+    "compared with the unchanged Rust of i_overlay 9.1.0, and with the ray, the walks and the check written from prose"
 } else {
     "the Rust of i_overlay is NOT here: compared with the stored answers, and with what is written from prose, only"
 };
@@ -20,8 +20,8 @@ pub const NOTE: &str = if cfg!(feature = "rust") {
 type Answers<A> = Vec<(&'static str, A)>;
 
 /// Err, where some answer of the Rust is another than the one due by the prose, with both.
-pub fn agree<T: PartialEq + Debug, A: Borrow<[T]>>(
-    due: &[T],
+pub fn agree<T: PartialEq + Debug + ?Sized, A: Borrow<T>>(
+    due: &T,
     answers: impl FnOnce() -> Answers<A>,
 ) -> Result<(), [String; 2]> {
     let wrong = catch_unwind(AssertUnwindSafe(|| {
@@ -39,7 +39,8 @@ pub fn agree<T: PartialEq + Debug, A: Borrow<[T]>>(
 #[cfg(feature = "rust")]
 mod here {
     use super::Answers;
-    use crate::choices::Choices;
+    use crate::choices::{Choices, SliceChoices};
+    use crate::contours::Contour;
     use crate::drawing::Point;
     use i_overlay::{Drawing, Scan};
 
@@ -63,13 +64,29 @@ mod here {
             let paths = |drawing: &mut Drawing| drawing.clip(rule, invert == 1, boundary == 1);
             self.drawings.iter_mut().map(|(name, drawing)| (*name, paths(drawing))).collect()
         }
+
+        /// None where the Rust finds no move.
+        pub fn slice(&mut self, choices: SliceChoices) -> Answers<Option<Vec<Contour>>> {
+            let SliceChoices { rule, direction, min_area } = choices;
+            let contour = |i_overlay::Contour { points, role }| Contour { points, role };
+            let contours = |drawing: &mut Drawing| {
+                let made = drawing.slice(rule, direction == 1, min_area)?;
+                Some(made.into_iter().map(contour).collect())
+            };
+            self.drawings.iter_mut().map(|(name, drawing)| (*name, contours(drawing))).collect()
+        }
+    }
+
+    pub fn split(points: &[Point], min_area: u64) -> Answers<Vec<Vec<Point>>> {
+        vec![("the Rust", i_overlay::split(points, min_area))]
     }
 }
 
 #[cfg(not(feature = "rust"))]
 mod missing {
     use super::Answers;
-    use crate::choices::Choices;
+    use crate::choices::{Choices, SliceChoices};
+    use crate::contours::Contour;
     use crate::drawing::Point;
 
     /// Answers nothing.
@@ -87,5 +104,13 @@ mod missing {
         pub fn clip(&mut self, _: Choices) -> Answers<Vec<Vec<Point>>> {
             Vec::new()
         }
+
+        pub fn slice(&mut self, _: SliceChoices) -> Answers<Option<Vec<Contour>>> {
+            Vec::new()
+        }
+    }
+
+    pub fn split(_: &[Point], _: u64) -> Answers<Vec<Vec<Point>>> {
+        Vec::new()
     }
 }

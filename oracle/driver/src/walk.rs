@@ -1,13 +1,13 @@
-//! A clip run by document 01's "Kept links", "Points and their links" and "The clip walk".
+//! A clip run by document 01's "Kept links" and "The clip walk".
 
 use crate::choices::Choices;
 use crate::drawing::{Point, Segment};
-use std::collections::HashMap;
+use crate::nodes::{nodes, Nodes};
 
 /// The kept links, with the line bits that are left, and the links of each point.
 pub struct Graph {
     links: Vec<Segment>,
-    nodes: HashMap<Point, Vec<usize>>,
+    nodes: Nodes,
 }
 
 /// A path as it is given out; a backward one was walked from its end.
@@ -20,13 +20,7 @@ impl Graph {
     pub fn new(segments: &[Segment], fills: &[u8], choices: Choices) -> Self {
         let kept = segments.iter().zip(fills).filter(|(segment, &fill)| segment.bits != 0 && keeps(choices, fill));
         let links: Vec<Segment> = kept.map(|(&segment, _)| segment).collect();
-        let starts = links.iter().map(|link| link.a).enumerate();
-        let ends = links.iter().map(|link| link.b).enumerate();
-        let mut nodes = HashMap::<Point, Vec<usize>>::new();
-        for (place, point) in starts.chain(ends) {
-            nodes.entry(point).or_default().push(place);
-        }
-        Self { links, nodes }
+        Self { nodes: nodes(&links), links }
     }
 
     /// How many links meet at a point.
@@ -65,7 +59,7 @@ impl Graph {
     fn next(&mut self, at: Point, outward: bool) -> Option<Point> {
         self.nodes[&at].iter().find_map(|&place| {
             let link = &mut self.links[place];
-            let other = if link.a == at { link.b } else { link.a };
+            let other = link.other(at);
             let bit = if outward == (other > at) { 1 } else { 2 };
             take(link, bit).then_some(other)
         })

@@ -37,6 +37,24 @@ fn slices() {
     let whole = |points| Contour { points, role: 0 };
     let expected = [whole(vec![(10, 0), (10, 5), (0, 5), (0, 0)]), whole(vec![(10, 5), (10, 10), (0, 10), (0, 5)])];
     assert_eq!(Drawing::new(&A, Scan::Chosen).slice(1, false, 0).unwrap(), expected);
+    assert_eq!(Drawing::new(&A, Scan::Chosen).slice(1, false, 50).unwrap(), expected);
+    assert!(Drawing::new(&A, Scan::Chosen).slice(1, false, 51).unwrap().is_empty());
+}
+
+/// Outer contours run the way asked for, holes the other way.
+#[test]
+fn slices_with_a_hole() {
+    let outline = [0, 0, 0, 9, -1, 0, 0, 0, 9, 0, 1, 0, 0, 9, 9, 9, -1, 0];
+    let hole = [3, 3, 3, 6, 1, 0, 3, 3, 6, 3, -1, 0, 3, 6, 6, 6, 1, 0, 6, 3, 6, 6, -1, 0];
+    let frame = [&outline[..], &hole, &[9, 0, 9, 9, 1, 0]].concat();
+    let contours = |clockwise| Drawing::new(&frame, Scan::Chosen).slice(1, clockwise, 0).unwrap();
+    let mut expected = [
+        Contour { points: vec![(9, 0), (9, 9), (0, 9), (0, 0)], role: 0 },
+        Contour { points: vec![(3, 3), (3, 6), (6, 6), (6, 3)], role: 1 },
+    ];
+    assert_eq!(contours(false), expected);
+    expected.iter_mut().for_each(|contour| contour.points.reverse());
+    assert_eq!(contours(true), expected);
 }
 
 #[test]
@@ -46,6 +64,9 @@ fn loops() {
     assert_eq!(split(&[a, b, c, a, d], 0), [[b, c, a]]);
     assert_eq!(split(&[a, b, a, c, d], 0), [[a, c, d]]);
     assert_eq!(split(&[a, b, c, a, e, f, b, g], 0), [[b, c, a], [a, e, g]]);
+    assert!(split(&[a, a], 0).is_empty());
+    assert_eq!(split(&[a, b, b], 0), [[a, b, b]]);
+    assert_eq!(split(&[a, a, b], 0), [[a, a, b]]);
     let triangle = [(4, 0), (4, 4), (0, 0)];
     assert_eq!(split(&triangle, 8), [triangle]);
     assert!(split(&triangle, 9).is_empty());

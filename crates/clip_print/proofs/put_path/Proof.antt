@@ -8,7 +8,7 @@ use lib.ListN.{length, getD, drop}
 use lib.IntN.{ℤ, pos}
 use mir.Syntax.{w32}
 use Rattle.integers.proofs.Machine.{read}
-use Rattle.string_clip.specs.Run.{pairUp}
+use Rattle.contour.specs.Points.{pairUp}
 use Rattle.clip_print.specs.Printed.{pathLines}
 use Rattle.clip_print.proofs.Pairs.{path-more, path-none}
 use Rattle.clip_print.proofs.Puts.{Left, left-all, left-less, left-none}

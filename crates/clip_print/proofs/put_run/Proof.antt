@@ -3,7 +3,7 @@ use borrow.Author.Needs.{needs}
 use mathlib.Core.Path.{sym, ap}
 use native.Mathlib.Omega.{arith}
 use lib.Seq.{length-take-le}
-use Rattle.string_clip.specs.Run.{pairUp}
+use Rattle.contour.specs.Points.{pairUp}
 use Rattle.clip_print.specs.Printed.{pathsLines}
 use Rattle.clip_print.proofs.Puts.{put-then, put-same}
 use Rattle.clip_print.proofs.Pairs.{cut-first}

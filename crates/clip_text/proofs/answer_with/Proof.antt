@@ -8,7 +8,8 @@ use lib.ListN.{length}
 use lib.IntN.{ℤ}
 use Rattle.segm.specs.Lists.{written}
 use Rattle.string_clip.specs.declared.Clipped.{Clipped}
-use Rattle.string_clip.specs.Run.{Outcome, outcome, told, pairUp, cut, output}
+use Rattle.contour.specs.Points.{pairUp, cut}
+use Rattle.string_clip.specs.Run.{Outcome, outcome, told, output}
 use Rattle.clip_print.specs.Printed.{Put, Held, linesOf, printed}
 use Rattle.clip_text.specs.Answer.{textOutcome}
 use Rattle.clip_text.proofs.Held.{text-held}

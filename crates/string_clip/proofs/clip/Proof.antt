@@ -20,7 +20,8 @@ use Rattle.build.specs.Fills.{ruleOf}
 use Rattle.build.specs.Links.{filterOf}
 use Rattle.string_clip.specs.declared.Clipped.the-variants.{Done}
 use Rattle.string_clip.specs.Paths.{clipPaths}
-use Rattle.string_clip.specs.Run.{totals, coordinates, outcome, answered, clipOutcome}
+use Rattle.contour.specs.Points.{coordinates}
+use Rattle.string_clip.specs.Run.{totals, outcome, answered, clipOutcome}
 use Rattle.string_clip.proofs.clip.Statement.{statement}
 use Rattle.string_clip.proofs.clip.Tie as tie
 

@@ -13,7 +13,8 @@ use Rattle.segm.proofs.Laid.{segments-written}
 use Rattle.build.specs.Links.{keptLinks}
 use Rattle.build.proofs.Kept.{length-kept}
 use Rattle.string_clip.specs.Paths.{clipPaths}
-use Rattle.string_clip.specs.Run.{totals, Writes}
+use Rattle.contour.specs.Points.{Writes}
+use Rattle.string_clip.specs.Run.{totals}
 use Rattle.string_clip.specs.Writing.{Kept, linksPaths}
 use Rattle.string_clip.proofs.Links.{kept}
 use Rattle.string_clip.proofs.clip_with.Statement.{statement}

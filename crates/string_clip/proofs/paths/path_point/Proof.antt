@@ -4,7 +4,8 @@ use mathlib.Core.Path.{sym, ap, _∙_}
 use mathlib.Core.Bool.{Bool}
 use lib.ListN.{getD}
 use Rattle.segm.specs.Segments.{segments}
-use Rattle.string_clip.specs.Writing.{endsPoints, origin}
+use Rattle.contour.specs.Points.{origin}
+use Rattle.string_clip.specs.Writing.{endsPoints}
 use Rattle.string_clip.proofs.Points.{outward-at, backward-at}
 use Rattle.string_clip.proofs.paths.path_point.Statement.{statement}
 use Rattle.string_clip.proofs.paths.path_point.Tie as tie

@@ -8,7 +8,8 @@ use Rattle.segm.specs.Segments.{segments}
 use Rattle.segm.proofs.Segments.{length-segments}
 use Rattle.ends.specs.Ends.{endPoint}
 use Rattle.graph.specs.Nodes.{otherEnd}
-use Rattle.string_clip.specs.Writing.{throughEnds, origin}
+use Rattle.contour.specs.Points.{origin}
+use Rattle.string_clip.specs.Writing.{throughEnds}
 use Rattle.string_clip.proofs.Points.{through-first, through-next}
 use Rattle.string_clip.proofs.paths.point_through.Statement.{statement}
 use Rattle.string_clip.proofs.paths.point_through.Tie as tie

@@ -10,9 +10,10 @@ use lib.IntN.{ℤ}
 use Rattle.geom.specs.declared.Point.{Point}
 use Rattle.segm.specs.Lists.{written}
 use Rattle.segm.specs.Segments.{segments}
-use Rattle.string_clip.specs.Run.{coordinates}
+use Rattle.contour.specs.Points.{coordinates}
+use Rattle.contour.proofs.Coordinates.{written-point}
 use Rattle.string_clip.specs.Writing.{endsPoints}
-use Rattle.string_clip.proofs.Points.{length-points, written-point}
+use Rattle.string_clip.proofs.Points.{length-points}
 use Rattle.string_clip.proofs.paths.write_path.Statement.{statement}
 use Rattle.string_clip.proofs.paths.write_path.Tie as tie
 

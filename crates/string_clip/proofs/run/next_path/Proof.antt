@@ -12,7 +12,7 @@ use Rattle.segm.specs.Segments.{Drawing, segments}
 use Rattle.segm.proofs.Lists.{take-written}
 use Rattle.clip_walk.specs.Walk.{has, taken, bitsLeft}
 use Rattle.string_clip.specs.Paths.{pathPoints}
-use Rattle.string_clip.specs.Run.{coordinates}
+use Rattle.contour.specs.Points.{coordinates}
 use Rattle.clip_walk.specs.Flat.{movesOn, bitsAfter, moveOf, graph, followEnds}
 use Rattle.string_clip.specs.Writing.{endsPoints, pathAt}
 use Rattle.string_clip.proofs.Points.{length-points}

@@ -8,9 +8,9 @@ use lib.ListN.{length, getD, take, drop, set, length-set, length-take, length-dr
 use lib.IntN.{ℤ}
 use Rattle.geom.specs.declared.Point.{Point}
 use Rattle.segm.specs.Segments.{Drawing, segments}
+use Rattle.contour.specs.Points.{Writes}
 use Rattle.clip_walk.specs.Walk.{bitsLeft, takenAll}
 use Rattle.string_clip.specs.Paths.{pathPoints}
-use Rattle.string_clip.specs.Run.{Writes}
 use Rattle.string_clip.specs.Writing.{pathAt, linksPaths}
 use Rattle.string_clip.proofs.Found.{walk-found, found-fit}
 use Rattle.string_clip.proofs.AllPaths.{Walked, none-yet, pass, fewer, points-fit, paths-fit, more, whole}
@@ -227,7 +227,7 @@ returns c =
     let a = s l .args in
     let q : w l .done ≡ linksPaths (links l) = whole (links l) (w l) (omega (arith, c .loop-test .left, s l .pre .0 .as-many)) in (
       ap₂ (λ (p : ℕ) (t : ℕ). record { paths = p; points = t }) (w l .paths-are ∙ ap length q) (w l .at-is ∙ ap (λ (d : List (List Point)). length (flatten d)) q),
-      subst (λ (d : List (List Point)). Writes d (a .points .now) (a .lengths .now) (l .loop .points) (l .loop .lengths)) q (record { points-are = w l .points-are; lengths-are = w l .lengths-are }),
+      subst (λ (d : List (List Point)). Writes d (a .points .now) (a .lengths .now) (l .loop .points) (l .loop .lengths)) q (w l .writes),
     )
 
 pub write-paths-spec : {M : Type 1} → statement M

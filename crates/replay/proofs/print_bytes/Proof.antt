@@ -2,14 +2,14 @@
 use borrow.Author.Needs.{needs}
 use Prim.Native.Nat.{_-_}
 use lib.ListN.{length}
-use Rattle.replay.proofs.print_fills.Statement.{statement}
-use Rattle.replay.proofs.print_fills.Tie as tie
+use Rattle.replay.proofs.print_bytes.Statement.{statement}
+use Rattle.replay.proofs.print_bytes.Tie as tie
 
 abbrev Inv-loop : tie.InvT-loop
-Inv-loop fills n k₀ k = Unit {0}
+Inv-loop bytes n k₀ k = Unit {0}
 
 abbrev μ-loop : tie.MeasureT-loop
-μ-loop fills n k₀ k = length fills - k
+μ-loop bytes n k₀ k = length bytes - k
 
 loop-holds : tie.Need-loop-holds Inv-loop μ-loop
 loop-holds c = tt
@@ -17,11 +17,11 @@ loop-holds c = tt
 returns : tie.Need-returns Inv-loop μ-loop
 returns c = search needs
 
-shared-slice-read-print-fill : tie.Need-shared-slice-read-print-fill Inv-loop μ-loop
-shared-slice-read-print-fill c = search needs
+shared-slice-read-print-byte : tie.Need-shared-slice-read-print-byte Inv-loop μ-loop
+shared-slice-read-print-byte c = search needs
 
-print-fill-requires : tie.Need-print-fill-requires Inv-loop μ-loop
-print-fill-requires c κs = search needs
+print-byte-requires : tie.Need-print-byte-requires Inv-loop μ-loop
+print-byte-requires c κs = search needs
 
 add-k : tie.Need-add-k Inv-loop μ-loop
 add-k c = search needs
@@ -35,16 +35,16 @@ loop-again c = tt
 returns-2 : tie.Need-returns-2 Inv-loop μ-loop
 returns-2 c = search needs
 
-pub print-fills-spec : {M : Type 1} → statement M
-print-fills-spec =
+pub print-bytes-spec : {M : Type 1} → statement M
+print-bytes-spec =
     tie.close
     (tie.spec
     Inv-loop
     μ-loop
     loop-holds
     returns
-    shared-slice-read-print-fill
-    print-fill-requires
+    shared-slice-read-print-byte
+    print-byte-requires
     add-k
     loop-less
     loop-again

@@ -1,7 +1,7 @@
 use lib.ListN.{length-set}
 use borrow.Author.Needs.{needs}
-use Rattle.string_clip.proofs.paths.put_point.Statement.{statement}
-use Rattle.string_clip.proofs.paths.put_point.Tie as tie
+use Rattle.contour.proofs.put_point.Statement.{statement}
+use Rattle.contour.proofs.put_point.Tie as tie
 
 mul-k : tie.Need-mul-k
 mul-k c = search needs

@@ -1,0 +1,4 @@
+pub mod Items
+pub mod Links
+pub mod Sightings
+pub mod Stored

@@ -1,0 +1,11 @@
+// The memory of first sightings: a map from points to numbers, by hash. Every function here is proved, and the crate assumes nothing of its own.
+mod lists;
+mod store;
+
+pub use lists::Seen;
+pub use lists::clear;
+pub use lists::insert_if_not_exist;
+pub use store::BinStore;
+pub use store::Inserted;
+pub use store::empty;
+pub use store::insert;

@@ -1,0 +1,106 @@
+// The memory over lent lists: for each bin the item stored last, and for each item the one stored before it in its bin, its point and its number.
+// In the first two an item is named by one more than its place, and 0 is none.
+use geom::Point;
+ghost use mathlib.Core.Path.{_≡_};
+ghost use mathlib.Core.List.{[], _∷_, _++_};
+ghost use mathlib.Core.Bool.{true};
+ghost use Prim.Native.Nat.{suc, _+_, _≤_, _<_};
+ghost use lib.ListN.{length};
+ghost use Rattle.geom.specs.Points.{inRange};
+ghost use Rattle.bin_store.specs.Sightings.{sighting, numberOf, sight};
+ghost use Rattle.bin_store.specs.Bins.{binIndex, memory, Unseen, Linked, Binned, Found, Room};
+
+// How many items there are after a look-up, and the number stored for the point.
+pub struct Seen {
+    pub count: usize,
+    pub number: u32,
+}
+
+// The bin of p, as the Rust has it but for the number of bins.
+fn bin_index(bins: usize, p: Point) -> usize
+    requires { ⌜ (0 < bins) × (inRange p ≡ true) ⌝ }
+    ensures { λ r. ⌜ r ≡ binIndex bins p ⌝ }
+{
+    let hash = 31 * p.x as i64 + 17 * p.y as i64 + 805306368;
+    hash as usize % bins
+}
+
+// Empties the bins.
+pub fn clear(heads: &mut [u32], nexts: &[u32], seen: &[i32], numbers: &[u32])
+    requires { ⌜ 0 < length (now heads) ⌝ }
+    ensures { λ _. ⌜ Binned 0 (now (heads .exit)) (now (nexts .entry)) (now (seen .entry)) (now (numbers .entry)) ⌝ }
+{
+    let mut b: usize = 0;
+    while b < heads.len() {
+        heads[b] = 0;
+        b += 1;
+    }
+}
+
+// The item that holds p, or 0. The count is for the contract.
+fn find(heads: &[u32], nexts: &[u32], seen: &[i32], count: usize, p: Point) -> usize
+    requires { ⌜ Linked count (now heads) (now nexts) (now seen) × (inRange p ≡ true) ⌝ }
+    ensures { λ r. ⌜ Found count (now (seen .entry)) p r ⌝ }
+{
+    let b = bin_index(heads.len(), p);
+    let mut j = heads[b] as usize;
+    while 0 < j {
+        if geom::same(contour::point_at(seen, j - 1), p) {
+            return j;
+        }
+        j = nexts[j - 1] as usize;
+    }
+    0
+}
+
+// Stores p and its number as the next item.
+fn store(
+    heads: &mut [u32],
+    nexts: &mut [u32],
+    seen: &mut [i32],
+    numbers: &mut [u32],
+    count: usize,
+    p: Point,
+    number: u32,
+)
+    requires { ⌜ Binned count (now heads) (now nexts) (now seen) (now numbers) × Room count (now nexts) (now seen) (now numbers) × (inRange p ≡ true) × Unseen count (now seen) p ⌝ }
+    ensures { λ _. ⌜ (memory (suc count) (now (seen .exit)) (now (numbers .exit)) ≡ memory count (now (seen .entry)) (now (numbers .entry)) ++ (sighting p number ∷ []))
+        × Binned (suc count) (now (heads .exit)) (now (nexts .exit)) (now (seen .exit)) (now (numbers .exit)) ⌝ }
+{
+    let b = bin_index(heads.len(), p);
+    let head = heads[b];
+    nexts[count] = head;
+    heads[b] = (count + 1) as u32;
+    contour::put_point(seen, count, p);
+    numbers[count] = number;
+}
+
+// The number stored for p, which is this one if p was not sighted before.
+pub fn insert_if_not_exist(
+    heads: &mut [u32],
+    nexts: &mut [u32],
+    seen: &mut [i32],
+    numbers: &mut [u32],
+    count: usize,
+    p: Point,
+    number: u32,
+) -> Seen
+    requires { ⌜ Binned count (now heads) (now nexts) (now seen) (now numbers) × Room count (now nexts) (now seen) (now numbers) × (inRange p ≡ true) ⌝ }
+    ensures { λ r. ⌜ (memory (r .count) (now (seen .exit)) (now (numbers .exit)) ≡ sight (memory count (now (seen .entry)) (now (numbers .entry))) p number)
+        × (r .number ≡ numberOf (memory (r .count) (now (seen .exit)) (now (numbers .exit))) p)
+        × (r .count ≤ count + 1)
+        × Binned (r .count) (now (heads .exit)) (now (nexts .exit)) (now (seen .exit)) (now (numbers .exit)) ⌝ }
+{
+    let j = find(heads, nexts, seen, count, p);
+    if 0 < j {
+        return Seen {
+            count: count,
+            number: numbers[j - 1],
+        };
+    }
+    store(heads, nexts, seen, numbers, count, p, number);
+    Seen {
+        count: count + 1,
+        number: number,
+    }
+}

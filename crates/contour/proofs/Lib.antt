@@ -1,0 +1,5 @@
+pub mod Coordinates
+pub mod Areas
+pub mod Reversal
+pub mod Written
+pub mod CutWritten

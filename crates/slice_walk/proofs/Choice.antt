@@ -1,0 +1,272 @@
+-- The choice of the next move over flat lists is the walk's: over the nodes of the links, the same move. And a move that is found can be made.
+use mathlib.Core.Path.{_≡_, refl, sym, _∙_, ap, ap₂, subst}
+use mathlib.Core.List.{List, [], _∷_, map}
+use mathlib.Core.Logic.{_⊎_, inl, inr}
+use mathlib.Core.Option.{Option, none, some}
+use mathlib.Core.Bool.{Bool, true, false, not, _&&_, cond}
+use Prim.Native.Nat.{ℕ, _+_, _-_, _*_, _<_, _≤_}
+use native.Mathlib.Omega.{arith}
+use native.Mathlib.Decide.{decLe}
+use borrow.Author.Tests.{eqb-true, eq-eqb}
+use lib.Dec.{eqb}
+use lib.ListN.{length, getD}
+use lib.IntN.{ℤ, pos, negℤ}
+use lib.Signed.{ltZ, leZ}
+use Rattle.integers.proofs.Booleans.{clash, both-r, same-test}
+use Rattle.integers.proofs.Linear.{ints, of-neg, of-pos}
+use Rattle.integers.proofs.Order.{le-leZ, lt-ltZ}
+use Rattle.geom.specs.declared.Point.{Point}
+use Rattle.geom.specs.Points.{ltP, eqP, inRange}
+use Rattle.geom.proofs.Points.{eq-eqP, ne-eqP, ltP-irrefl}
+use Rattle.segm.specs.Lists.{_∈_, keep}
+use Rattle.segm.specs.Segments.{Drawing, segmentAt}
+use Rattle.segm.proofs.Segments.{segment-in}
+use Rattle.segm.proofs.Tallies.{keep-in}
+use Rattle.ends.specs.Ends.{endPoint}
+use Rattle.ends.proofs.Ends.{end-a, end-b}
+use Rattle.graph.specs.Nodes.{node, linkOf, otherEnd, part, Nodes}
+use Rattle.graph.proofs.Node.{link-low, link-high, other-low, other-high, in-node}
+use Rattle.clip_walk.specs.declared.Next.{Next}
+use Rattle.clip_walk.specs.declared.Next.the-variants.{Stop, Leave}
+use Rattle.clip_walk.specs.Walk.{Move, isLeft, other}
+use Rattle.clip_walk.specs.Flat.{moveOf}
+use Rattle.clip_walk.proofs.FlatIsWalk.{at-place, fits}
+use Rattle.slice_walk.specs.Walk.{isNearer, moveFrom, nearest, ifLeft, orElse, findNearest}
+use Rattle.slice_walk.specs.Ends.{farPoint, addEnd, isOther, nearestEnd, Leaving}
+use Rattle.slice_walk.specs.Writing.{Proper, NextIs}
+
+-- ---- a comparison with 0, turned round
+pub le-turned : (z : ℤ) → leZ z (pos 0) ≡ leZ (pos 0) (negℤ z)
+le-turned z =
+    same-test (leZ z (pos 0)) (leZ (pos 0) (negℤ z))
+    (λ t. le-leZ {a = pos 0} {b = negℤ z} (omega (ints, of-neg z, of-pos 0)))
+    (λ t. le-leZ {a = z} {b = pos 0} (omega (ints, of-neg z, of-pos 0)))
+
+pub lt-turned : (z : ℤ) → ltZ (pos 0) z ≡ ltZ (negℤ z) (pos 0)
+lt-turned z =
+    same-test (ltZ (pos 0) z) (ltZ (negℤ z) (pos 0))
+    (λ t. lt-ltZ {a = negℤ z} {b = pos 0} (omega (ints, of-neg z, of-pos 0)))
+    (λ t. lt-ltZ {a = pos 0} {b = z} (omega (ints, of-neg z, of-pos 0)))
+
+-- ---- what is found
+-- a link, if there is one, has P
+abbrev Found : (ℕ → Type 0) → Option ℕ → Type 0
+Found P none = Unit {0}
+Found P (some k) = P k
+
+nearest-found : (links : Drawing) (direction : Bool) (p back : Point) (P : ℕ → Type 0) (l : List ℕ) (best : Option ℕ) → Found P best → ((k : ℕ) → k ∈ l → P k) → Found P (nearest links direction p back best l)
+unfolding nearest
+nearest-found links direction p back P [] best b h = b
+nearest-found links direction p back P (k ∷ l) none b h = nearest-found links direction p back P l (some k) (h k (inl refl)) (λ j i. h j (inr i))
+nearest-found links direction p back P (k ∷ l) (some j) b h =
+    nearest-found links direction p back P l _ (go (isNearer direction p back (other (segmentAt links j) p) (other (segmentAt links k) p))) (λ i m. h i (inr m))
+  where
+    go : (t : Bool) → P (cond t k j)
+    go true = h k (inl refl)
+    go false = b
+
+-- a move is over a link of the node or the current one, and its side bit is left
+module _ (links : Drawing) (direction : Bool) (k : ℕ) (p : Point) (bits : List ℕ) (m : Move) (e : findNearest links direction k p bits ≡ some m) where
+  found : ((m .place ∈ node links p) ⊎ (m .place ≡ k)) × (isLeft bits m ≡ true)
+  unfolding findNearest moveFrom
+  found = go (nearest links direction p (other (segmentAt links k) p) none others) (nearest-found links direction p _ (λ j. j ∈ others) others none tt (λ j i. i)) e
+    where
+      from : ℕ → Move
+      from = moveFrom links direction p
+
+      isTaken : ℕ → Bool
+      isTaken j = not (eqb j k) && isLeft bits (from j)
+
+      others : List ℕ
+      others = keep isTaken (node links p)
+
+      current : (b : Bool) → isLeft bits (from k) ≡ b → cond b (some (from k)) none ≡ some m → ((m .place ∈ node links p) ⊎ (m .place ≡ k)) × (isLeft bits m ≡ true)
+      current true l q = let r : from k ≡ m = cc in (inr (ap (λ (n : Move). n .place) (sym r)), subst (λ n. isLeft bits n ≡ true) r l)
+      current false l q = let z : _≡_ {A = ℕ} 0 1 = cc in absurd (omega arith)
+
+      go : (o : Option ℕ) → Found (λ j. j ∈ others) o → orElse from o (ifLeft bits (from k)) ≡ some m → ((m .place ∈ node links p) ⊎ (m .place ≡ k)) × (isLeft bits m ≡ true)
+      go none i q = current (isLeft bits (from k)) refl q
+      go (some j) i q =
+          let r : from j ≡ m = cc in
+          let h = keep-in isTaken j (node links p) i in
+          subst (λ (n : Move). ((n .place ∈ node links p) ⊎ (n .place ≡ k)) × (isLeft bits n ≡ true)) r (inl (h .0), both-r (not (eqb j k)) (isLeft bits (from j)) (h .1))
+
+  pub nearest-left : isLeft bits m ≡ true
+  nearest-left = found .1
+
+  pub nearest-within : k < length links → m .place < length links
+  nearest-within h = go (found .0)
+    where
+      go : (m .place ∈ node links p) ⊎ (m .place ≡ k) → m .place < length links
+      go (inl i) = in-node links p (m .place) i .0
+      go (inr q) = omega arith
+
+-- ---- ends of proper links
+module _ (links : Drawing) (proper : Proper links) where
+  abbrev m : ℕ
+  m = length links
+
+  apart : (k : ℕ) → k < m → segmentAt links k .a ≡ segmentAt links k .b → ⊥
+  apart k h q = clash (at-place links (proper .rises) k h) (subst (λ p. ltP (segmentAt links k .a) p ≡ false) q (ltP-irrefl (segmentAt links k .a)))
+
+  pub near-end : (e : ℕ) → e < 2 * m → inRange (endPoint links e) ≡ true
+  near-end e b = go (decLe m e)
+    where
+      at : (k : ℕ) → k < m → (inRange (segmentAt links k .a) ≡ true) × (inRange (segmentAt links k .b) ≡ true)
+      at k h = proper .near (segmentAt links k) (segment-in links k refl h)
+
+      go : Dec (m ≤ e) → inRange (endPoint links e) ≡ true
+      go (yes h) = ap inRange (end-b links e h) ∙ at (e - m) (omega arith) .1
+      go (no h) = let l : e < m = omega arith in ap inRange (end-a links e l) ∙ at e l .0
+
+  -- a link leads from one of its ends to the other
+  other-is : (e : ℕ) → e < 2 * m → other (segmentAt links (linkOf m e)) (endPoint links e) ≡ farPoint links e
+  unfolding other farPoint
+  other-is e b = go (decLe m e)
+    where
+      go : Dec (m ≤ e) → cond (eqP (segmentAt links (linkOf m e) .a) (endPoint links e)) (segmentAt links (linkOf m e) .b) (segmentAt links (linkOf m e) .a) ≡ endPoint links (otherEnd m e)
+      go (yes h) =
+          let l : e - m < m = omega arith in
+          rw (link-high m e h, end-b links e h, other-high m e h, end-a links (e - m) l, ne-eqP (apart (e - m) l))
+      go (no h) =
+          let l : e < m = omega arith in
+          let q : m + e - m ≡ e = omega arith in
+          rw (link-low m e l, end-a links e l, other-low m e l, end-b links (m + e) (omega arith), q, eq-eqP {p = segmentAt links e .a} refl)
+
+  -- a link has one end at a point
+  same-link : (e f : ℕ) → e < 2 * m → f < 2 * m → endPoint links e ≡ endPoint links f → linkOf m e ≡ linkOf m f → e ≡ f
+  same-link e f b c p q = go (decLe m e) (decLe m f)
+    where
+      go : Dec (m ≤ e) → Dec (m ≤ f) → e ≡ f
+      go (yes h) (yes k) = omega (arith, link-high m e h, link-high m f k)
+      go (yes h) (no k) =
+          let l : f < m = omega arith in
+          let r : e - m ≡ f = sym (link-high m e h) ∙ q ∙ link-low m f l in
+          absurd (apart f l (sym (end-a links f l) ∙ sym p ∙ end-b links e h ∙ ap (λ j. segmentAt links j .b) r))
+      go (no h) (yes k) =
+          let l : e < m = omega arith in
+          let r : f - m ≡ e = sym (link-high m f k) ∙ sym q ∙ link-low m e l in
+          absurd (apart e l (sym (end-a links e l) ∙ p ∙ end-b links f k ∙ ap (λ j. segmentAt links j .b) r))
+      go (no h) (no k) = omega (arith, link-low m e (omega arith), link-low m f (omega arith))
+
+  one-end : (e f : ℕ) → e < 2 * m → f < 2 * m → endPoint links e ≡ endPoint links f → eqb (linkOf m e) (linkOf m f) ≡ eqb e f
+  one-end e f b c p =
+      same-test (eqb (linkOf m e) (linkOf m f)) (eqb e f)
+      (λ t. eq-eqb e f (same-link e f b c p (eqb-true (linkOf m e) (linkOf m f) t)))
+      (λ t. eq-eqb (linkOf m e) (linkOf m f) (ap (linkOf m) (eqb-true e f t)))
+
+-- ---- the nearest end
+module _ (links : Drawing) (direction : Bool) (f : ℕ) where
+  -- what the best end and another have, the nearer one has
+  add-has : (P : ℕ → Type 0) (e : ℕ) (best : Next) → Leaving P best → P e → Leaving P (addEnd links direction f best e)
+  unfolding addEnd
+  add-has P e Stop b q = q
+  add-has P e (Leave g) b q = go (isNearer direction (endPoint links f) (farPoint links f) (farPoint links g) (farPoint links e))
+    where
+      go : (t : Bool) → Leaving P (cond t (Leave e) (Leave g))
+      go true = q
+      go false = b
+
+  -- the same of all ends that can be left
+  pub nearest-has : (P : ℕ → Type 0) (bits es : List ℕ) (best : Next) → Leaving P best → ((e : ℕ) → e ∈ es → isLeft bits (moveOf (length links) direction e) ≡ true → P e)
+      → Leaving P (nearestEnd links direction f bits best es)
+  unfolding nearestEnd isOther
+  nearest-has P bits [] best b h = b
+  nearest-has P bits (e ∷ es) best b h = nearest-has P bits es _ (go (isOther links direction f bits e) refl) (λ g i. h g (inr i))
+    where
+      go : (t : Bool) → isOther links direction f bits e ≡ t → Leaving P (cond t (addEnd links direction f best e) best)
+      go true q = add-has P e best b (h e (inl refl) (both-r (not (eqb e f)) _ q))
+      go false q = b
+
+-- over ends at the point of f, as over their links
+module _ (links : Drawing) (proper : Proper links) (direction : Bool) (f : ℕ) (below : f < 2 * length links) (bits : List ℕ) where
+  abbrev p : Point
+  p = endPoint links f
+
+  abbrev link : ℕ → ℕ
+  link = linkOf (length links)
+
+  abbrev back : Point
+  back = other (segmentAt links (link f)) p
+
+  abbrev At : ℕ → Type 0
+  At e = (e < 2 * length links) × (endPoint links e ≡ p)
+
+  abbrev isTaken : ℕ → Bool
+  isTaken k = not (eqb k (link f)) && isLeft bits (moveFrom links direction p k)
+
+  abbrev asLink : Next → Option ℕ
+  asLink Stop = none
+  asLink (Leave e) = some (link e)
+
+  move-is : (e : ℕ) → At e → moveFrom links direction p (link e) ≡ moveOf (length links) direction e
+  unfolding moveFrom
+  move-is e h = fits links (proper .rises) direction e p (h .0) (h .1)
+
+  taken-is : (e : ℕ) → At e → isTaken (link e) ≡ isOther links direction f bits e
+  unfolding isOther
+  taken-is e h = ap₂ (λ (b : Bool) (n : Move). not b && isLeft bits n) (one-end links proper e f (h .0) below (h .1)) (move-is e h)
+
+  leads : (e : ℕ) → At e → other (segmentAt links (link e)) p ≡ farPoint links e
+  leads e h = subst (λ q. other (segmentAt links (link e)) q ≡ farPoint links e) (h .1) (other-is links proper e (h .0))
+
+  add-is : (e : ℕ) → At e → (best : Next) → Leaving At best → (l : List ℕ)
+      → nearest links direction p back (asLink best) (link e ∷ l) ≡ nearest links direction p back (asLink (addEnd links direction f best e)) l
+  unfolding nearest addEnd
+  add-is e h Stop b l = refl
+  add-is e h (Leave g) b l =
+      ap (λ (o : Option ℕ). nearest links direction p back o l) (rw (leads f (below, refl), leads g b, leads e h) (go (isNearer direction p (farPoint links f) (farPoint links g) (farPoint links e))))
+    where
+      go : (t : Bool) → some (cond t (link e) (link g)) ≡ asLink (cond t (Leave e) (Leave g))
+      go true = refl
+      go false = refl
+
+  nearest-is : (es : List ℕ) (best : Next) → Leaving At best → ((e : ℕ) → e ∈ es → At e)
+      → nearest links direction p back (asLink best) (keep isTaken (map link es)) ≡ asLink (nearestEnd links direction f bits best es)
+  unfolding nearest keep nearestEnd
+  nearest-is [] best b h = refl
+  nearest-is (e ∷ es) best b h =
+      ap (λ t. nearest links direction p back (asLink best) (cond t (link e ∷ rest) rest)) (taken-is e (h e (inl refl)))
+      ∙ go (isOther links direction f bits e) (λ next n. nearest-is es next n (λ g i. h g (inr i)))
+    where
+      rest : List ℕ
+      rest = keep isTaken (map link es)
+
+      go : (t : Bool) → ((next : Next) → Leaving At next → nearest links direction p back (asLink next) rest ≡ asLink (nearestEnd links direction f bits next es))
+          → nearest links direction p back (asLink best) (cond t (link e ∷ rest) rest) ≡ asLink (nearestEnd links direction f bits (cond t (addEnd links direction f best e) best) es)
+      go true ih = add-is e (h e (inl refl)) best b rest ∙ ih (addEnd links direction f best e) (add-has links direction f At e best b (h e (inl refl)))
+      go false ih = ih best b
+
+  module _ (flat starts nodes : List ℕ) (n : Nodes links flat starts nodes) where
+    abbrev es : List ℕ
+    es = part flat starts (getD nodes f 0)
+
+    abbrev nearestOther : Next
+    nearestOther = nearestEnd links direction f bits Stop es
+
+    find-is : findNearest links direction (link f) p bits ≡ orElse (moveFrom links direction p) (asLink nearestOther) (ifLeft bits (moveOf (length links) direction f))
+    unfolding findNearest
+    find-is =
+        ap₂ (λ (o : Option ℕ) (k : Move). orElse (moveFrom links direction p) o (ifLeft bits k))
+        (ap (λ (l : List ℕ). nearest links direction p back none (keep isTaken l)) (sym (n .list f below)) ∙ nearest-is es Stop tt (λ e i. n .ends f e below i))
+        (move-is f (below, refl))
+
+    -- what is answered, by the nearest other end
+    pub next-other : (e : ℕ) → nearestOther ≡ Leave e → NextIs links direction bits f (Leave e)
+    next-other e q =
+        let h : At e × (isLeft bits (moveOf (length links) direction e) ≡ true) =
+        subst (Leaving (λ g. At g × (isLeft bits (moveOf (length links) direction g) ≡ true))) q (nearest-has links direction f _ bits es Stop tt (λ g i l. (n .ends f g below i, l))) in (
+          find-is ∙ ap (λ (r : Next). orElse (moveFrom links direction p) (asLink r) (ifLeft bits (moveOf (length links) direction f))) q ∙ ap some (move-is e (h .0)),
+          h .0 .0,
+          h .1,
+        )
+
+    module _ (q : nearestOther ≡ Stop) where
+      alone : findNearest links direction (link f) p bits ≡ ifLeft bits (moveOf (length links) direction f)
+      alone = find-is ∙ ap (λ (r : Next). orElse (moveFrom links direction p) (asLink r) (ifLeft bits (moveOf (length links) direction f))) q
+
+      pub next-current : isLeft bits (moveOf (length links) direction f) ≡ true → NextIs links direction bits f (Leave f)
+      next-current l = (alone ∙ rw l, below, l)
+
+      pub next-none : isLeft bits (moveOf (length links) direction f) ≡ false → NextIs links direction bits f Stop
+      next-none l = alone ∙ rw l

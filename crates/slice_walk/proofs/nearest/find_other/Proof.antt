@@ -1,0 +1,188 @@
+-- The best end so far and what is left of the part decide. Assumes nothing.
+use borrow.Author.Needs.{needs}
+use mathlib.Core.Path.{_≡_, refl, sym, ap, subst, _∙_}
+use mathlib.Core.List.{List, [], _∷_}
+use mathlib.Core.Logic.{inl, ⊎-elim}
+use mathlib.Core.Bool.{true, false, not, _&&_}
+use native.Mathlib.Omega.{arith}
+use native.Mathlib.Numerals.{add-one}
+use Prim.Native.Nat.{ℕ, suc, _+_, _-_, _*_, _<_, _≤_}
+use lib.Dec.{eqb}
+use lib.ListN.{length, getD}
+use Rattle.segm.specs.Lists.{_∈_}
+use Rattle.segm.specs.Segments.{Drawing, segments}
+use Rattle.graph.specs.Nodes.{part}
+use Rattle.clip_walk.specs.declared.Next.{Next}
+use Rattle.clip_walk.specs.declared.Next.the-variants.{Stop}
+use Rattle.clip_walk.specs.Walk.{isLeft}
+use Rattle.clip_walk.specs.Flat.{moveOf}
+use Rattle.clip_walk.proofs.Flat.{partFrom, part-step, part-end, part-in}
+use Rattle.slice_walk.specs.Ends.{addEnd, isOther, nearestEnd, Leaving}
+use Rattle.slice_walk.proofs.Choice.{nearest-has}
+use Rattle.slice_walk.proofs.nearest.find_other.Statement.{statement}
+use Rattle.slice_walk.proofs.nearest.find_other.Tie as tie
+
+abbrev Inv-loop : tie.InvT-loop
+Inv-loop links flat starts bits v f direction end j₀ best₀ j best =
+    (getD starts v 0 ≤ j)
+    × (end ≡ getD starts (suc v) 0)
+    × Leaving (λ e. e < 2 * length (segments links)) best
+    × (nearestEnd (segments links) direction f bits Stop (part flat starts v) ≡ nearestEnd (segments links) direction f bits best (partFrom flat end j))
+
+abbrev μ-loop : tie.MeasureT-loop
+μ-loop links flat starts bits v f direction end j₀ best₀ j best = end - j
+
+add-end : tie.Need-add-end Inv-loop μ-loop
+add-end c = omega (arith, c .before .before .before .pre .2 .known, c .before .before .before .fits .v)
+
+mul-end : tie.Need-mul-end Inv-loop μ-loop
+mul-end c = search needs
+
+shared-slice-read-end : tie.Need-shared-slice-read-end Inv-loop μ-loop
+shared-slice-read-end c = omega (arith, c .before .before .before .before .pre .2 .known)
+
+cast-end : tie.Need-cast-end Inv-loop μ-loop
+cast-end c = omega (arith, c .shared-slice-known4 .given (c .before .before .before .before .args .v + 1))
+
+mul-j : tie.Need-mul-j Inv-loop μ-loop
+mul-j c = search needs
+
+shared-slice-read-j : tie.Need-shared-slice-read-j Inv-loop μ-loop
+shared-slice-read-j c = omega (arith, c .before .before .before .before .before .pre .2 .known)
+
+cast-j : tie.Need-cast-j Inv-loop μ-loop
+cast-j c = omega (arith, c .shared-slice-known5 .given (c .before .before .before .before .before .args .v))
+
+loop-holds : tie.Need-loop-holds Inv-loop μ-loop
+unfolding part
+loop-holds c =
+    (omega arith, ap (λ k. getD (c .before .before .before .before .before .args .starts .now) k 0) (add-one (c .before .before .before .before .before .args .v)), tt, rw add-one)
+
+module _ (c : tie.In-loop Inv-loop μ-loop) where
+  abbrev l : tie.At-loop Inv-loop μ-loop
+  l = c .before
+
+  abbrev s : tie.Start Inv-loop μ-loop
+  s = l .before .before .before .before .before .before
+
+  abbrev links : Drawing
+  links = segments (s .args .links .now)
+
+  abbrev end : ℕ
+  end = getD (s .args .starts .now) (s .args .v + 1) 0
+
+  abbrev e : ℕ
+  e = getD (s .args .flat .now) (l .loop .j) 0
+
+  inside : end ≤ length (s .args .flat .now)
+  inside = omega (arith, l .loop .inv .1, s .pre .2 .inside)
+
+  here : partFrom (s .args .flat .now) end (l .loop .j) ≡ e ∷ partFrom (s .args .flat .now) end (l .loop .j + 1)
+  here = part-step (s .args .flat .now) end (l .loop .j) (c .loop-test .taken) inside
+
+  -- the end looked at is one of the node's
+  below : e < 2 * length (s .args .bits .now)
+  unfolding part
+  below =
+      let m : e ∈ partFrom (s .args .flat .now) end (getD (s .args .starts .now) (s .args .v) 0) =
+      part-in (s .args .flat .now) end (getD (s .args .starts .now) (s .args .v) 0) (l .loop .j) e (l .loop .inv .0) inside (subst (λ (q : List ℕ). e ∈ q) (sym here) (inl refl)) in
+      s .pre .2 .ends e (subst (λ t. e ∈ partFrom (s .args .flat .now) t (getD (s .args .starts .now) (s .args .v) 0)) (l .loop .inv .1) m)
+
+  below-links : e < 2 * length links
+  below-links = omega (arith, below, s .pre .1)
+
+  -- what is left, by the end looked at
+  abbrev nearestOf : Next → List ℕ → Next
+  nearestOf = nearestEnd links (s .args .direction) (s .args .f) (s .args .bits .now)
+
+  step : nearestOf Stop (part (s .args .flat .now) (s .args .starts .now) (s .args .v)) ≡ nearestOf (l .loop .best) (e ∷ partFrom (s .args .flat .now) end (l .loop .j + 1))
+  step = l .loop .inv .3 ∙ ap (nearestOf (l .loop .best)) here
+
+mul-e : tie.Need-mul-e Inv-loop μ-loop
+mul-e c = search needs
+
+shared-slice-read-e : tie.Need-shared-slice-read-e Inv-loop μ-loop
+shared-slice-read-e c = omega (arith, inside (c .before), c .before .loop-test .taken)
+
+cast-e : tie.Need-cast-e Inv-loop μ-loop
+cast-e c = omega (arith, c .shared-slice-known6 .given (c .before .before .loop .j))
+
+is-left-requires : tie.Need-is-left-requires Inv-loop μ-loop
+is-left-requires c κs = below (c .before)
+
+add-requires : tie.Need-add-requires Inv-loop μ-loop
+add-requires c κs =
+    let i = c .before .before .before in
+    let f : s i .args .f < 2 * length (links i) = omega (arith, s i .pre .3, s i .pre .1) in
+    (s i .pre .0, f, l i .loop .inv .2, below-links i)
+
+add-j : tie.Need-add-j Inv-loop μ-loop
+add-j c = search needs
+
+loop-less : tie.Need-loop-less Inv-loop μ-loop
+loop-less c = search needs
+
+-- the best end with this one
+module _ (c : tie.After-is-left Inv-loop μ-loop) where
+  abbrev i : tie.In-loop Inv-loop μ-loop
+  i = c .before .before
+
+  abbrev more : Next
+  more = nearestOf i (l i .loop .best) (e i ∷ [])
+
+  other-is : isOther (links i) (s i .args .direction) (s i .args .f) (s i .args .bits .now) (e i) ≡ not (eqb (e i) (s i .args .f)) && c .is-left .result
+  unfolding isOther
+  other-is = ap (not (eqb (e i) (s i .args .f)) &&_) (ap (λ m. isLeft (s i .args .bits .now) (moveOf m (s i .args .direction) (e i))) (sym (s i .pre .1)) ∙ sym (c .is-left .ensures))
+
+  added : not (eqb (e i) (s i .args .f)) && c .is-left .result ≡ true → more ≡ addEnd (links i) (s i .args .direction) (s i .args .f) (l i .loop .best) (e i)
+  unfolding nearestEnd
+  added q = rw (other-is ∙ q)
+
+  passed : not (eqb (e i) (s i .args .f)) && c .is-left .result ≡ false → more ≡ l i .loop .best
+  unfolding nearestEnd
+  passed q = rw (other-is ∙ q)
+
+best-is : (c : tie.Joined1 Inv-loop μ-loop) → c .if1 .best ≡ more (c .before)
+best-is c = ⊎-elim (λ w. w .2 ∙ w .1 .ensures ∙ sym (added (c .before) (w .0 .taken))) (λ w. w .1 ∙ sym (passed (c .before) (w .0 .left))) (c .if1 .came)
+
+loop-again : tie.Need-loop-again Inv-loop μ-loop
+unfolding nearestEnd
+loop-again c =
+    let y = i (c .before) in
+    let P : ℕ → Type 0 = λ b. b < 2 * length (links y) in (
+      omega (arith, l y .loop .inv .0),
+      l y .loop .inv .1,
+      subst (Leaving P) (sym (best-is c)) (nearest-has (links y) (s y .args .direction) (s y .args .f) P (s y .args .bits .now) (e y ∷ []) (l y .loop .best) (l y .loop .inv .2) (λ g m t. ⊎-elim (λ q. omega (arith, below-links y)) (λ n. absurd n) m)),
+      step y ∙ ap (λ (b : Next). nearestOf y b (partFrom (s y .args .flat .now) (end y) (l y .loop .j + 1))) (sym (best-is c)),
+    )
+
+returns : tie.Need-returns Inv-loop μ-loop
+unfolding nearestEnd
+returns c =
+    let l = c .before in
+    let a = l .before .before .before .before .before .before .args in
+    sym (l .loop .inv .3 ∙ ap (nearestEnd (segments (a .links .now)) (a .direction) (a .f) (a .bits .now) (l .loop .best)) (part-end (a .flat .now) (getD (a .starts .now) (a .v + 1) 0) (l .loop .j) (c .loop-test .left)))
+
+pub find-other-spec : {M : Type 1} → statement M
+find-other-spec =
+    tie.close
+    (tie.spec
+    Inv-loop
+    μ-loop
+    add-end
+    mul-end
+    shared-slice-read-end
+    cast-end
+    mul-j
+    shared-slice-read-j
+    cast-j
+    loop-holds
+    mul-e
+    shared-slice-read-e
+    cast-e
+    is-left-requires
+    add-requires
+    add-j
+    loop-less
+    loop-again
+    returns)

@@ -1,0 +1,118 @@
+// The choice of the next move: of the links that can be taken, the nearest to the current one by the rotation sense.
+use clip_walk::Next;
+use geom::Point;
+ghost use mathlib.Core.Path.{_≡_};
+ghost use mathlib.Core.Bool.{true};
+ghost use Prim.Native.Nat.{_*_, _<_, _≤_};
+ghost use lib.ListN.{length};
+ghost use Rattle.geom.specs.Points.{inRange};
+ghost use Rattle.segm.specs.Segments.{segments};
+ghost use Rattle.graph.specs.Nodes.{part};
+ghost use Rattle.clip_walk.specs.declared.Next.the-variants.{Stop};
+ghost use Rattle.clip_walk.specs.Flat.{NodeAt};
+ghost use Rattle.slice_walk.specs.Walk.{isWide, isNearer};
+ghost use Rattle.slice_walk.specs.Ends.{farPoint, addEnd, nearestEnd, Leaving};
+ghost use Rattle.slice_walk.specs.Writing.{Proper, Walking, NextIs};
+
+// Whether the angle from a to p about c is 180 degrees or more, or none.
+fn is_wide(clockwise: bool, c: Point, a: Point, p: Point) -> bool
+    requires { ⌜ (inRange c ≡ true) × (inRange a ≡ true) × (inRange p ≡ true) ⌝ }
+    ensures { λ r. ⌜ r ≡ isWide clockwise c a p ⌝ }
+{
+    let z = geom::cross(c, a, p);
+    if clockwise { 0 <= z } else { z <= 0 }
+}
+
+// Whether p takes the place of b as the nearest to a, turning about c.
+fn is_nearer(clockwise: bool, c: Point, a: Point, b: Point, p: Point) -> bool
+    requires { ⌜ (inRange c ≡ true) × (inRange a ≡ true) × (inRange b ≡ true) × (inRange p ≡ true) ⌝ }
+    ensures { λ r. ⌜ r ≡ isNearer clockwise c a b p ⌝ }
+{
+    let wide = is_wide(clockwise, c, a, b);
+    if wide != is_wide(clockwise, c, a, p) {
+        return wide;
+    }
+    let z = geom::cross(c, p, b);
+    if clockwise { z < 0 } else { 0 < z }
+}
+
+// Where the link of end e leads from there.
+fn far_point(links: &[i32], e: usize) -> Point
+    requires { ⌜ length (segments (now links)) ≤ 1024 ⌝ }
+    ensures { λ r. ⌜ r ≡ farPoint (segments (now (links .entry))) e ⌝ }
+{
+    let m = segm::count(links);
+    ends::end_point(links, graph::other_end(m, e))
+}
+
+// The nearer of the best end so far and e, of the ends at the point of f, whose link is the current one.
+fn add(links: &[i32], direction: bool, f: usize, best: Next, e: usize) -> Next
+    requires { ⌜ Proper (segments (now links))
+        × (f < 2 * length (segments (now links)))
+        × Leaving (λ b. b < 2 * length (segments (now links))) best
+        × (e < 2 * length (segments (now links))) ⌝ }
+    ensures { λ r. ⌜ r ≡ addEnd (segments (now (links .entry))) direction f best e ⌝ }
+{
+    let Next::Leave(b) = best else {
+        return Next::Leave(e);
+    };
+    let c = ends::end_point(links, f);
+    let a = far_point(links, f);
+    if is_nearer(direction, c, a, far_point(links, b), far_point(links, e)) {
+        return Next::Leave(e);
+    }
+    best
+}
+
+// The nearest of the ends at node v but f that can be left.
+fn find_other(
+    links: &[i32],
+    flat: &[u32],
+    starts: &[u32],
+    bits: &[u8],
+    v: usize,
+    f: usize,
+    direction: bool,
+) -> Next
+    requires { ⌜ Proper (segments (now links))
+        × (length (now bits) ≡ length (segments (now links)))
+        × NodeAt (length (now bits)) (now flat) (now starts) v
+        × (f < 2 * length (now bits)) ⌝ }
+    ensures { λ r. ⌜ r ≡ nearestEnd (segments (now (links .entry))) direction f (now (bits .entry)) Stop (part (now (flat .entry)) (now (starts .entry)) v) ⌝ }
+{
+    let end = starts[v + 1] as usize;
+    let mut j = starts[v] as usize;
+    let mut best = Next::Stop;
+    while j < end {
+        let e = flat[j] as usize;
+        if (e != f) & clip_walk::is_left(bits, e, direction) {
+            best = add(links, direction, f, best, e);
+        }
+        j += 1;
+    }
+    best
+}
+
+// The end that the next move leaves at the point of f, the current link's end there: of those that can be left the nearest other one, or f itself.
+pub fn find_nearest(
+    links: &[i32],
+    flat: &[u32],
+    starts: &[u32],
+    nodes: &[u32],
+    bits: &[u8],
+    f: usize,
+    direction: bool,
+) -> Next
+    requires { ⌜ Walking (segments (now links)) (now flat) (now starts) (now nodes) (now bits) × (f < 2 * length (now bits)) ⌝ }
+    ensures { λ r. ⌜ NextIs (segments (now (links .entry))) direction (now (bits .entry)) f r ⌝ }
+{
+    let v = nodes[f] as usize;
+    let next = find_other(links, flat, starts, bits, v, f, direction);
+    let Next::Stop = next else {
+        return next;
+    };
+    if clip_walk::is_left(bits, f, direction) {
+        return Next::Leave(f);
+    }
+    Next::Stop
+}

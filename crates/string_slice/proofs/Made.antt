@@ -1,0 +1,123 @@
+-- Walks that were written are read back: as their points, their directions, and the contours that are cut from them.
+use mathlib.Core.Path.{_≡_, refl, sym, _∙_, ap, ap₂, subst}
+use mathlib.Core.List.{List, [], _∷_, _++_, map, flatten, append-nil}
+use mathlib.Core.Option.{Option, none, some}
+use mathlib.Core.Bool.{Bool, true, false}
+use Prim.Native.Nat.{ℕ, _*_, _≤_}
+use native.Mathlib.Omega.{arith}
+use lib.Dec.{eqb}
+use lib.ListN.{length, take, drop, length-map}
+use lib.IntN.{ℤ}
+use Rattle.geom.specs.declared.Point.{Point}
+use Rattle.segm.specs.Lists.{tally, written}
+use Rattle.segm.specs.Segments.{Drawing}
+use Rattle.segm.proofs.Lists.{take-written}
+use Rattle.segm.proofs.Tallies.{in-map}
+use Rattle.contour.specs.Points.{coordinates, pairUp, Near, cut}
+use Rattle.contour.proofs.Coordinates.{pair-coordinates}
+use Rattle.contour.proofs.Areas.{near-all}
+use Rattle.contour.proofs.CutWritten.{cut-written, tally-lengths}
+use Rattle.checks.specs.Accepted.{Good}
+use Rattle.build.specs.declared.ray.Rule.{Rule}
+use Rattle.clip_walk.specs.Walk.{one, Move, bitsLeft}
+use Rattle.clip_walk.proofs.Flat.{bits-few}
+use Rattle.slice_walk.specs.declared.Walks.{Walks}
+use Rattle.slice_walk.specs.declared.Walks.the-variants.{Done, Stuck}
+use Rattle.slice_walk.specs.Walk.{walks, directionOf, walkPoints}
+use Rattle.slice_walk.specs.Writing.{allPoints, directions, WalksAre}
+use Rattle.slice_walk.proofs.AllWalks.{length-all, walk-near, walks-few}
+use Rattle.string_slice.specs.declared.Contours.{Contours}
+use Rattle.string_slice.specs.declared.Sliced.the-variants as sliced-is
+use Rattle.string_slice.specs.Run.{counts, outcome, handedOver}
+use Rattle.string_slice.specs.Contours.{Contour, sideBits, walkContours, allContours, sliceContours, ofWalks}
+use Rattle.string_slice.specs.Cutting.{Holds, pathsIn, cutWalks, Stand}
+use Rattle.string_slice.proofs.Sides.{proper, length-sides}
+
+-- ---- paths and directions
+paths-written : (paths : List (List Point)) (old : List ℤ) → pathsIn (written (coordinates (flatten paths)) old) (map length paths) ≡ paths
+unfolding written
+paths-written paths old =
+    let r = drop (length (coordinates (flatten paths))) old in
+    (λ i. cut (length-map paths length i) (sym (append-nil (map length paths)) i) (pair-coordinates (flatten paths) r i)) ∙ cut-written paths [] (pairUp r)
+
+direction-back : (b : Bool) → eqb (one b) 1 ≡ b
+direction-back true = refl
+direction-back false = refl
+
+cut-contours : (clockwise : Bool) (least : ℕ) (links : Drawing) (ws : List (List Move)) → cutWalks clockwise least (allPoints links ws) (directions ws) ≡ allContours clockwise least links ws
+unfolding cutWalks allContours
+cut-contours clockwise least links [] = refl
+cut-contours clockwise least links (w ∷ ws) =
+    ap₂ (λ b (rest : List Contour). walkContours clockwise least b (walkPoints links w) ++ rest) (direction-back (directionOf w)) (cut-contours clockwise least links ws)
+
+-- ---- how walks can end: not both
+not-both : {X : Type 0} {n : ℕ} → Done n ≡ Stuck → X
+not-both e = let z : _≡_ {A = ℕ} 0 1 = cc in let bad : ⊥ = omega arith in absurd bad
+
+-- n walks, as they are read
+pub record Made (links : Drawing) (o : Option (List (List Move))) (n : ℕ) (points : List ℤ) (lengths dirs : List ℕ) : Type 0 where
+  pub found : List (List Move)
+  pub are : o ≡ some found
+  pub number : n ≡ length found
+  pub lengths-are : take n lengths ≡ map length (allPoints links found)
+  pub paths-are : pathsIn points (take n lengths) ≡ allPoints links found
+  pub directions-are : take n dirs ≡ directions found
+
+module _ (links : Drawing) (points₀ : List ℤ) (lengths₀ directions₀ : List ℕ) (r : Walks) (points : List ℤ) (lengths dirs : List ℕ) where
+  pub stuck : (o : Option (List (List Move))) → WalksAre links o points₀ lengths₀ directions₀ r points lengths dirs → r ≡ Stuck → o ≡ none
+  stuck none w e = refl
+  stuck (some ws) w e = not-both (sym (w .0) ∙ e)
+
+  pub made : (o : Option (List (List Move))) {n : ℕ} → WalksAre links o points₀ lengths₀ directions₀ r points lengths dirs → r ≡ Done n → Made links o n points lengths dirs
+  made none w e = not-both (sym e ∙ w)
+  made (some ws) {n} w e =
+      let paths = allPoints links ws in
+      let q : Done n ≡ Done (length ws) = sym e ∙ w .0 in
+      let k : n ≡ length ws = cc in
+      let l = ap (take n) (w .1 .lengths-are) ∙ take-written (map length paths) lengths₀ n (omega (arith, k, length-map paths length, length-map ws (walkPoints links))) in
+      record {
+        found = ws;
+        are = refl;
+        number = k;
+        lengths-are = l;
+        paths-are = ap₂ pathsIn (w .1 .points-are) l ∙ paths-written paths points₀;
+        directions-are = ap (take n) (w .2) ∙ take-written (directions ws) directions₀ n (omega (arith, k, length-map ws (λ walk. one (directionOf walk))));
+      }
+
+-- ---- the walks of an accepted drawing
+module _ (rule : Rule) (d : Drawing) (good : Good d) {n : ℕ} {points : List ℤ} {lengths dirs : List ℕ} (m : Made d (walks d (sideBits rule d)) n points lengths dirs) where
+  bits-left : bitsLeft (sideBits rule d) ≤ 2 * length d
+  bits-left = omega (arith, bits-few (sideBits rule d), length-sides rule d)
+
+  pub few-found : n ≤ 2 * length d
+  few-found = omega (arith, m .number, walks-few d (sideBits rule d) (m .found) (m .are), bits-left)
+
+  pub few-points : length (flatten (pathsIn points (take n lengths))) ≤ 2 * length d
+  few-points = omega (arith, ap (λ (l : List (List Point)). length (flatten l)) (m .paths-are), length-all d (m .found), walks-few d (sideBits rule d) (m .found) (m .are), bits-left)
+
+  pub stand : 4096 ≤ length points → Stand points (take n lengths)
+  stand room =
+      let sum : tally (λ k. k) (take n lengths) ≡ length (flatten (pathsIn points (take n lengths))) =
+      ap (tally (λ k. k)) (m .lengths-are) ∙ tally-lengths (allPoints d (m .found)) ∙ sym (ap (λ (l : List (List Point)). length (flatten l)) (m .paths-are)) in
+      record {
+        inside = omega (arith, sum, few-points, good .few, room);
+        few = omega (arith, sum, few-points, good .few);
+        near = subst (λ (l : List (List Point)). Near (flatten l)) (sym (m .paths-are)) (near-all (allPoints d (m .found)) (λ l i. let r = in-map (walkPoints d) l (m .found) i in subst Near (sym (r .2)) (walk-near d (proper d good) (r .0))));
+      }
+
+  -- the contours that are cut are those of the slice
+  pub contours-are : (clockwise : Bool) (least : ℕ) → some (cutWalks clockwise least (pathsIn points (take n lengths)) (take n dirs)) ≡ sliceContours rule clockwise least d
+  unfolding sliceContours
+  contours-are clockwise least =
+      ap some (ap₂ (cutWalks clockwise least) (m .paths-are) (m .directions-are) ∙ cut-contours clockwise least d (m .found))
+      ∙ ap (ofWalks (allContours clockwise least d)) (sym (m .are))
+
+pub no-contours : (rule : Rule) (d : Drawing) → walks d (sideBits rule d) ≡ none → (clockwise : Bool) (least : ℕ) → none ≡ sliceContours rule clockwise least d
+unfolding sliceContours
+no-contours rule d e clockwise least = ap (ofWalks (allContours clockwise least d)) (sym e)
+
+-- ---- the outcome
+pub handed : (o : Option (List Contour)) (contours : List Contour) {r : Contours} {points₀ points : List ℤ} {lengths₀ roles₀ lengths roles : List ℕ} → some contours ≡ o → r ≡ counts contours
+    → Holds contours points₀ lengths₀ roles₀ points lengths roles → outcome (sliced-is.Done r) points lengths roles ≡ handedOver o points₀ lengths₀ roles₀
+handed o contours {points₀} {lengths₀} {roles₀} e n h =
+    (λ i. outcome (sliced-is.Done (n i)) (h .points-are i) (h .lengths-are i) (h .roles-are i)) ∙ ap (λ (q : Option (List Contour)). handedOver q points₀ lengths₀ roles₀) e

@@ -1,0 +1,47 @@
+-- What the walks get of an accepted drawing: proper links, and one entry of side bits a link.
+use mathlib.Core.Path.{_≡_, sym, ap, ap₂, _∙_}
+use mathlib.Core.List.{List, _++_, map, append-nil}
+use Prim.Native.Nat.{ℕ, _+_, _%_, _<_, _≤_}
+use native.Mathlib.Omega.{arith}
+use lib.ListN.{length, getD, take, drop, set, length-map, length-take, drop-of-length-le}
+use lib.Seq.{drop-cons, getD-at}
+use Rattle.integers.proofs.Booleans.{both-l, both-r}
+use Rattle.geom.specs.Points.{inRange}
+use Rattle.segm.specs.Lists.{written}
+use Rattle.segm.specs.Segments.{Drawing}
+use Rattle.segm.proofs.Lists.{written-map}
+use Rattle.checks.specs.Drawing.{endsInRange}
+use Rattle.checks.specs.Accepted.{Good}
+use Rattle.build.specs.declared.ray.Rule.{Rule}
+use Rattle.build.specs.Fills.{fills}
+use Rattle.build.proofs.Parts.{length-fills}
+use Rattle.slice_walk.specs.Writing.{Proper}
+use Rattle.string_slice.specs.Contours.{sideBits}
+
+pub proper : (d : Drawing) → Good d → Proper d
+unfolding endsInRange
+proper d g = record {
+  few = g .few;
+  near = λ s m. (both-l (inRange (s .a)) (inRange (s .b)) (g .near s m), both-r (inRange (s .a)) (inRange (s .b)) (g .near s m));
+  rises = g .proper;
+}
+
+pub length-sides : (rule : Rule) (d : Drawing) → length (sideBits rule d) ≡ length d
+unfolding sideBits
+length-sides rule d = length-map (fills rule d) (λ f. f % 4) ∙ length-fills rule d
+
+-- an answer that fills the whole list
+pub written-whole : {A : Type 0} (answer old : List A) → length old ≤ length answer → written answer old ≡ answer
+unfolding written
+written-whole answer old h = rw (drop-of-length-le old {i = length answer} h) (append-nil answer)
+
+-- ---- in place: the entry past the answer is the old one
+next-old : {A : Type 0} (answer old : List A) (i : ℕ) (z : A) → i ≡ length answer → i < length old → getD (written answer old) i z ≡ getD old i z
+unfolding written
+next-old answer old i z e h =
+    ap (λ n. getD (answer ++ drop n old) i z) (sym e) ∙ ap (λ (l : List _). getD (answer ++ l) i z) (drop-cons old i z h) ∙ getD-at answer (getD old i z) _ z i (sym e)
+
+pub next-side : (f : ℕ → ℕ) (old l : List ℕ) (i : ℕ) → l ≡ written (map f (take i old)) old → i < length old → set l i (f (getD l i 0)) ≡ written (map f (take (i + 1) old)) old
+next-side f old l i e h =
+    let n : i ≡ length (map f (take i old)) = sym (length-map (take i old) f ∙ length-take i old ∙ omega arith) in
+    ap₂ (λ (k : List ℕ) x. set k i x) e (ap f (ap (λ (k : List ℕ). getD k i 0) e ∙ next-old (map f (take i old)) old i 0 n h)) ∙ written-map f old 0 old i h (omega arith)

@@ -1,0 +1,35 @@
+-- What the inner functions of a slice do to their lists: walks in one set of lists are cut into contours in another. Assumes nothing.
+use mathlib.Core.Path.{_≡_}
+use mathlib.Core.List.{List, [], _∷_, _++_, map, flatten}
+use mathlib.Core.Bool.{Bool}
+use Prim.Native.Nat.{ℕ, _*_, _%_, _≤_}
+use lib.Dec.{eqb}
+use lib.ListN.{length}
+use lib.IntN.{ℤ}
+use Rattle.geom.specs.declared.Point.{Point}
+use Rattle.segm.specs.Lists.{tally, written}
+use Rattle.contour.specs.Points.{coordinates, pairUp, Near, cut}
+use Rattle.string_slice.specs.Contours.{Contour, walkContours}
+use Rattle.string_slice.specs.Run.{pointsOf, rolesOf}
+
+-- contours at the fronts of lists
+pub record Holds (contours : List Contour) (points₀ : List ℤ) (lengths₀ roles₀ : List ℕ) (points : List ℤ) (lengths roles : List ℕ) : Type 0 where
+  pub points-are : points ≡ written (coordinates (flatten (pointsOf contours))) points₀
+  pub lengths-are : lengths ≡ written (map length (pointsOf contours)) lengths₀
+  pub roles-are : roles ≡ written (rolesOf contours) roles₀
+
+-- paths as they stand in lists, one length a path
+abbrev pub pathsIn : List ℤ → List ℕ → List (List Point)
+pathsIn points lengths = cut (length lengths) lengths (pairUp points)
+
+-- the contours of walks with their directions, 1 for true
+unfoldable pub cutWalks : (clockwise : Bool) → ℕ → List (List Point) → List ℕ → List Contour
+cutWalks clockwise least [] directions = []
+cutWalks clockwise least (walk ∷ walks) [] = []
+cutWalks clockwise least (walk ∷ walks) (direction ∷ directions) = walkContours clockwise least (eqb direction 1) walk ++ cutWalks clockwise least walks directions
+
+-- paths that stand in lists, few and in range
+pub record Stand (points : List ℤ) (lengths : List ℕ) : Type 0 where
+  pub inside : 2 * tally (λ n. n) lengths ≤ length points
+  pub few : tally (λ n. n) lengths ≤ 2048
+  pub near : Near (flatten (pathsIn points lengths))

@@ -1,0 +1,195 @@
+// Walks cut into loops, and loops made contours: each with its role, and turned round where it must be.
+use super::Contours;
+use string_split::Found;
+ghost use mathlib.Core.Path.{_≡_};
+ghost use mathlib.Core.List.{map, flatten};
+ghost use Prim.Native.Nat.{_*_, _≤_};
+ghost use lib.ListN.{length};
+ghost use Rattle.segm.specs.Lists.{written};
+ghost use Rattle.contour.specs.Points.{coordinates, pairUp};
+ghost use Rattle.string_split.specs.Loops.{splitLoops};
+ghost use Rattle.string_split.specs.Run.{foundOf};
+ghost use Rattle.string_split.specs.Splitting.{Splittable};
+ghost use Rattle.string_slice.specs.Contours.{contourOf, walkContours};
+ghost use Rattle.string_slice.specs.Run.{pointsOf, rolesOf, counts};
+ghost use Rattle.string_slice.specs.Cutting.{Holds, pathsIn, cutWalks, Stand};
+
+// Makes a loop a contour: turns it round where it must be, and returns its role.
+fn finish(contour: &mut [i32], direction: bool, clockwise: bool) -> u8
+    requires { ⌜ Splittable (now contour) ⌝ }
+    ensures { λ r. ⌜ (r ≡ contourOf clockwise direction (pairUp (now (contour .entry))) .role)
+        × (now (contour .exit) ≡ coordinates (contourOf clockwise direction (pairUp (now (contour .entry))) .points)) ⌝ }
+{
+    let order = contour::is_clockwise(contour);
+    let hole = order == direction;
+    if hole == (clockwise == order) {
+        contour::reverse(contour);
+    }
+    if hole { 1 } else { 0 }
+}
+
+// Makes all loops in the lists contours.
+fn finish_all(
+    points: &mut [i32],
+    lengths: &[u32],
+    roles: &mut [u8],
+    direction: bool,
+    clockwise: bool,
+)
+    requires { ⌜ Stand (now points) (now lengths) × (length (now lengths) ≤ length (now roles)) ⌝ }
+    ensures { λ _. ⌜ (now (points .exit) ≡ written (coordinates (flatten (pointsOf (map (contourOf clockwise direction) (pathsIn (now (points .entry)) (now (lengths .entry))))))) (now (points .entry)))
+        × (now (roles .exit) ≡ written (rolesOf (map (contourOf clockwise direction) (pathsIn (now (points .entry)) (now (lengths .entry))))) (now (roles .entry))) ⌝ }
+{
+    let mut from: usize = 0;
+    let mut k: usize = 0;
+    while k < lengths.len() {
+        let to = from + 2 * lengths[k] as usize;
+        roles[k] = finish(&mut points[from..to], direction, clockwise);
+        from = to;
+        k += 1;
+    }
+}
+
+// The contours of one walk. The lists from `heads` to `buffer` are working memory.
+fn cut_walk(
+    walk: &[i32],
+    direction: bool,
+    clockwise: bool,
+    min_area: u64,
+    heads: &mut [u32],
+    nexts: &mut [u32],
+    seen: &mut [i32],
+    numbers: &mut [u32],
+    buffer: &mut [i32],
+    points: &mut [i32],
+    lengths: &mut [u32],
+    roles: &mut [u8],
+) -> Found
+    requires { ⌜ Splittable (now walk)
+        × (2049 ≤ length (now heads))
+        × (2048 ≤ length (now nexts))
+        × (4096 ≤ length (now seen))
+        × (2048 ≤ length (now numbers))
+        × (length (now buffer) ≡ 4096)
+        × (length (now walk) ≤ length (now points))
+        × (length (pairUp (now walk)) ≤ length (now lengths))
+        × (length (pairUp (now walk)) ≤ length (now roles)) ⌝ }
+    ensures { λ r. ⌜ (r ≡ foundOf (splitLoops «min_area» (pairUp (now (walk .entry)))))
+        × Holds (walkContours clockwise «min_area» direction (pairUp (now (walk .entry)))) (now (points .entry)) (now (lengths .entry)) (now (roles .entry)) (now (points .exit)) (now (lengths .exit)) (now (roles .exit)) ⌝ }
+{
+    let found = string_split::split_loops(
+        walk,
+        min_area,
+        heads,
+        nexts,
+        seen,
+        numbers,
+        buffer,
+        points,
+        lengths,
+    );
+    let n = found.loops;
+    finish_all(points, &lengths[..n], roles, direction, clockwise);
+    found
+}
+
+// The contours of all walks, in order.
+fn cut_all(
+    walks: &[i32],
+    walk_lengths: &[u32],
+    directions: &[u8],
+    clockwise: bool,
+    min_area: u64,
+    heads: &mut [u32],
+    nexts: &mut [u32],
+    seen: &mut [i32],
+    numbers: &mut [u32],
+    buffer: &mut [i32],
+    points: &mut [i32],
+    lengths: &mut [u32],
+    roles: &mut [u8],
+) -> Contours
+    requires { ⌜ Stand (now walks) (now «walk_lengths»)
+        × (length (now directions) ≡ length (now «walk_lengths»))
+        × (2049 ≤ length (now heads))
+        × (2048 ≤ length (now nexts))
+        × (4096 ≤ length (now seen))
+        × (2048 ≤ length (now numbers))
+        × (length (now buffer) ≡ 4096)
+        × (2 * length (flatten (pathsIn (now walks) (now «walk_lengths»))) ≤ length (now points))
+        × (length (flatten (pathsIn (now walks) (now «walk_lengths»))) ≤ length (now lengths))
+        × (length (flatten (pathsIn (now walks) (now «walk_lengths»))) ≤ length (now roles)) ⌝ }
+    ensures { λ r. ⌜ (r ≡ counts (cutWalks clockwise «min_area» (pathsIn (now (walks .entry)) (now («walk_lengths» .entry))) (now (directions .entry))))
+        × Holds (cutWalks clockwise «min_area» (pathsIn (now (walks .entry)) (now («walk_lengths» .entry))) (now (directions .entry))) (now (points .entry)) (now (lengths .entry)) (now (roles .entry)) (now (points .exit)) (now (lengths .exit)) (now (roles .exit)) ⌝ }
+{
+    let mut contours: usize = 0;
+    let mut at: usize = 0;
+    let mut from: usize = 0;
+    let mut k: usize = 0;
+    while k < walk_lengths.len() {
+        let to = from + 2 * walk_lengths[k] as usize;
+        let found = cut_walk(
+            &walks[from..to],
+            directions[k] == 1,
+            clockwise,
+            min_area,
+            heads,
+            nexts,
+            seen,
+            numbers,
+            buffer,
+            &mut points[2 * at..],
+            &mut lengths[contours..],
+            &mut roles[contours..],
+        );
+        contours += found.loops;
+        at += found.points;
+        from = to;
+        k += 1;
+    }
+    Contours {
+        contours: contours,
+        points: at,
+    }
+}
+
+// The contours of all walks, with working memory of its own.
+pub fn cut_walks(
+    walks: &[i32],
+    walk_lengths: &[u32],
+    directions: &[u8],
+    clockwise: bool,
+    min_area: u64,
+    points: &mut [i32],
+    lengths: &mut [u32],
+    roles: &mut [u8],
+) -> Contours
+    requires { ⌜ Stand (now walks) (now «walk_lengths»)
+        × (length (now directions) ≡ length (now «walk_lengths»))
+        × (2 * length (flatten (pathsIn (now walks) (now «walk_lengths»))) ≤ length (now points))
+        × (length (flatten (pathsIn (now walks) (now «walk_lengths»))) ≤ length (now lengths))
+        × (length (flatten (pathsIn (now walks) (now «walk_lengths»))) ≤ length (now roles)) ⌝ }
+    ensures { λ r. ⌜ (r ≡ counts (cutWalks clockwise «min_area» (pathsIn (now (walks .entry)) (now («walk_lengths» .entry))) (now (directions .entry))))
+        × Holds (cutWalks clockwise «min_area» (pathsIn (now (walks .entry)) (now («walk_lengths» .entry))) (now (directions .entry))) (now (points .entry)) (now (lengths .entry)) (now (roles .entry)) (now (points .exit)) (now (lengths .exit)) (now (roles .exit)) ⌝ }
+{
+    let mut heads = [0u32; 2049];
+    let mut nexts = [0u32; 2048];
+    let mut seen = [0i32; 4096];
+    let mut numbers = [0u32; 2048];
+    let mut buffer = [0i32; 4096];
+    cut_all(
+        walks,
+        walk_lengths,
+        directions,
+        clockwise,
+        min_area,
+        &mut heads,
+        &mut nexts,
+        &mut seen,
+        &mut numbers,
+        &mut buffer,
+        points,
+        lengths,
+        roles,
+    )
+}

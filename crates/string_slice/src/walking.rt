@@ -1,0 +1,90 @@
+// The walks of an accepted drawing: over all its segments, each with its side bits.
+use build::Rule;
+use slice_walk::Walks;
+ghost use mathlib.Core.Path.{_≡_};
+ghost use mathlib.Core.List.{map};
+ghost use Prim.Native.Nat.{_*_, _%_, _≤_, _<_};
+ghost use lib.ListN.{length};
+ghost use Rattle.segm.specs.Segments.{segments};
+ghost use Rattle.checks.specs.Accepted.{Good};
+ghost use Rattle.slice_walk.specs.Walk.{walks};
+ghost use Rattle.slice_walk.specs.Writing.{WalksAre};
+ghost use Rattle.string_slice.specs.Contours.{sideBits};
+
+// Leaves of each fill its side bits.
+fn keep_sides(fills: &mut [u8])
+    ensures { λ _. ⌜ now (fills .exit) ≡ map (λ f. f % 4) (now (fills .entry)) ⌝ }
+{
+    let mut i: usize = 0;
+    while i < fills.len() {
+        fills[i] = fills[i] % 4;
+        i += 1;
+    }
+}
+
+// The walks. The lists before `points` are working memory.
+fn walk_links(
+    s: &[i32],
+    rule: Rule,
+    bits: &mut [u8],
+    flat: &mut [u32],
+    starts: &mut [u32],
+    nodes: &mut [u32],
+    points: &mut [i32],
+    lengths: &mut [u32],
+    directions: &mut [u8],
+) -> Walks
+    requires { ⌜ Good (segments (now s))
+        × (1024 ≤ length (now bits))
+        × (2048 ≤ length (now flat))
+        × (2048 < length (now starts))
+        × (2048 ≤ length (now nodes))
+        × (4096 ≤ length (now points))
+        × (2048 ≤ length (now lengths))
+        × (2048 ≤ length (now directions)) ⌝ }
+    ensures { λ r. ⌜ WalksAre (segments (now (s .entry))) (walks (segments (now (s .entry))) (sideBits rule (segments (now (s .entry))))) (now (points .entry)) (now (lengths .entry)) (now (directions .entry)) r (now (points .exit)) (now (lengths .exit)) (now (directions .exit)) ⌝ }
+{
+    let m = segm::count(s);
+    let e = 2 * m;
+    build::write_fills(s, rule, &mut bits[..m]);
+    keep_sides(&mut bits[..m]);
+    graph::build_nodes(s, &mut flat[..e], starts, &mut nodes[..e]);
+    slice_walk::write_walks(
+        s,
+        &flat[..e],
+        starts,
+        &nodes[..e],
+        &mut bits[..m],
+        points,
+        lengths,
+        directions,
+    )
+}
+
+// The walks of an accepted drawing: their points, how many each has, and its direction.
+pub fn make_walks(
+    s: &[i32],
+    rule: Rule,
+    points: &mut [i32],
+    lengths: &mut [u32],
+    directions: &mut [u8],
+) -> Walks
+    requires { ⌜ Good (segments (now s)) × (4096 ≤ length (now points)) × (2048 ≤ length (now lengths)) × (2048 ≤ length (now directions)) ⌝ }
+    ensures { λ r. ⌜ WalksAre (segments (now (s .entry))) (walks (segments (now (s .entry))) (sideBits rule (segments (now (s .entry))))) (now (points .entry)) (now (lengths .entry)) (now (directions .entry)) r (now (points .exit)) (now (lengths .exit)) (now (directions .exit)) ⌝ }
+{
+    let mut bits = [0u8; 1024];
+    let mut flat = [0u32; 2048];
+    let mut starts = [0u32; 2049];
+    let mut nodes = [0u32; 2048];
+    walk_links(
+        s,
+        rule,
+        &mut bits,
+        &mut flat,
+        &mut starts,
+        &mut nodes,
+        points,
+        lengths,
+        directions,
+    )
+}

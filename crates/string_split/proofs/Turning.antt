@@ -1,0 +1,87 @@
+-- One point: the buffer after it, and the loop that it closes. Assumes nothing.
+use mathlib.Core.Path.{_≡_, refl, sym, ap, _∙_}
+use mathlib.Core.List.{List, [], _∷_, _++_}
+use mathlib.Core.Bool.{Bool, true, false, cond}
+use Prim.Native.Nat.{ℕ, zero, suc, _+_, _-_, _*_, _<_, _≤_}
+use native.Mathlib.Omega.{arith}
+use lib.Dec.{ltb}
+use lib.ListN.{length, take, drop, set, length-append, length-drop}
+use lib.Seq.{length-take-le, take-suc-set, take-append-le, drop-append-le, take-take, take-nil}
+use lib.IntN.{ℤ}
+use borrow.Author.Tests.{ltb-true, lt-ltb, le-ltb}
+use Rattle.geom.specs.declared.Point.{Point}
+use Rattle.contour.specs.Points.{pairUp}
+use Rattle.contour.proofs.Coordinates.{pairs-take, pairs-drop, length-pairs, pairs-set}
+use Rattle.string_split.specs.Loops.{closed, Turn, turned, turn, rest}
+use Rattle.string_split.specs.Splitting.{front}
+
+pub length-front : (len : ℕ) (l : List ℤ) → 2 * len ≤ length l → length (front len l) ≡ len
+length-front len l h = length-take-le len (pairUp l) (omega (arith, length-pairs l))
+
+-- the point stands after the first `len`
+pub put-front : (l : List ℤ) (len : ℕ) (p : Point) → 2 * suc len ≤ length l → front (suc len) (set (set l (2 * len) (p .x)) (2 * len + 1) (p .y)) ≡ front len l ++ (p ∷ [])
+put-front l len p h = ap (take (suc len)) (pairs-set l len p) ∙ take-suc-set (pairUp l) len p (omega (arith, length-pairs l))
+
+drop-take : {A : Type 0} (k m : ℕ) (l : List A) → drop k (take (k + m) l) ≡ take m (drop k l)
+drop-take zero m l = let e : 0 + m ≡ m = omega arith in ap (λ n. take n l) e
+drop-take (suc k) m [] = ap (drop (suc k)) (take-nil (suc k + m)) ∙ sym (take-nil m)
+drop-take (suc k) m (x ∷ l) = let e : suc k + m ≡ suc (k + m) = omega arith in rw e (drop-take k m l)
+
+-- the points of a part
+pub part-front : (l : List ℤ) (k n : ℕ) → k ≤ n → pairUp (take (2 * n - 2 * k) (drop (2 * k) l)) ≡ drop k (front n l)
+part-front l k n h =
+    let e : 2 * n - 2 * k ≡ 2 * (n - k) = omega arith in
+    let d : k + (n - k) ≡ n = omega arith in
+    rw e (pairs-take (drop (2 * k) l) (n - k) ∙ ap (take (n - k)) (pairs-drop l k) ∙ sym (drop-take k (n - k) (pairUp l)) ∙ ap (λ m. drop k (take m (pairUp l))) d)
+
+module _ (number : ℕ) (buffer : List Point) (p : Point) where
+  -- by the test
+  cut : number < length buffer → turn number buffer p ≡ turned (take number buffer) (closed (drop number buffer) p)
+  unfolding turn
+  cut h = simp (lt-ltb number (length buffer) h)
+
+  pub length-turn : length (turn number buffer p .buffer) ≡ cond (ltb number (length buffer)) number (suc (length buffer))
+  unfolding turn
+  length-turn = go (ltb number (length buffer)) refl
+    where
+      go : (b : Bool) → ltb number (length buffer) ≡ b
+          → length (cond b (turned (take number buffer) (closed (drop number buffer) p)) (turned (buffer ++ (p ∷ [])) []) .buffer) ≡ cond b number (suc (length buffer))
+      go true e = let h = ltb-true number (length buffer) e in length-take-le number buffer (omega arith)
+      go false e = length-append buffer (p ∷ []) ∙ omega arith
+
+  -- with the point after the buffer, the front is the buffer after it
+  pub turn-front : (l : List Point) → take (suc (length buffer)) l ≡ buffer ++ (p ∷ []) → take (length (turn number buffer p .buffer)) l ≡ turn number buffer p .buffer
+  unfolding turn
+  turn-front l f = go (ltb number (length buffer)) refl
+    where
+      go : (b : Bool) → ltb number (length buffer) ≡ b
+          → take (length (cond b (turned (take number buffer) (closed (drop number buffer) p)) (turned (buffer ++ (p ∷ [])) []) .buffer)) l ≡ cond b (turned (take number buffer) (closed (drop number buffer) p)) (turned (buffer ++ (p ∷ [])) []) .buffer
+      go true e =
+          let h = ltb-true number (length buffer) e in
+          ap (λ n. take n l) (length-take-le number buffer (omega arith)) ∙ sym (take-take number (suc (length buffer)) l (omega arith)) ∙ ap (take number) f ∙ take-append-le number buffer (p ∷ []) (omega arith)
+      go false e = let n : length (buffer ++ (p ∷ [])) ≡ suc (length buffer) = omega (arith, length-append buffer (p ∷ [])) in ap (λ m. take m l) n ∙ f
+
+  -- one point is dropped
+  pub none-closed : length buffer < number + 2 → turn number buffer p .loops ≡ []
+  unfolding turn closed
+  none-closed h = go (ltb number (length buffer)) refl
+    where
+      go : (b : Bool) → ltb number (length buffer) ≡ b → cond b (turned (take number buffer) (closed (drop number buffer) p)) (turned (buffer ++ (p ∷ [])) []) .loops ≡ []
+      go true e = simp (lt-ltb (length (drop number buffer)) 2 (omega (arith, length-drop number buffer)))
+      go false e = refl
+
+  -- two or more become a loop
+  pub one-closed : number + 2 ≤ length buffer → turn number buffer p .loops ≡ (drop number (buffer ++ (p ∷ []))) ∷ []
+  unfolding closed
+  one-closed h =
+      let long : closed (drop number buffer) p ≡ (drop number buffer ++ (p ∷ [])) ∷ [] = simp (le-ltb (length (drop number buffer)) 2 (omega (arith, length-drop number buffer))) in
+      ap (λ (t : Turn). t .loops) (cut (omega arith)) ∙ long ∙ ap (λ (l : List Point). l ∷ []) (sym (drop-append-le number buffer (p ∷ []) (omega arith)))
+
+-- ---- the rest
+pub no-rest : (buffer : List Point) → length buffer ≤ 2 → rest buffer ≡ []
+unfolding rest
+no-rest buffer h = simp (le-ltb 2 (length buffer) h)
+
+pub one-rest : (buffer : List Point) → 2 < length buffer → rest buffer ≡ buffer ∷ []
+unfolding rest
+one-rest buffer h = simp (lt-ltb 2 (length buffer) h)

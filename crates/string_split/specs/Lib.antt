@@ -1,0 +1,3 @@
+pub mod Loops
+pub mod Run
+pub mod Splitting

@@ -1,0 +1,49 @@
+-- The loops of a list of points. Assumes nothing.
+use mathlib.Core.List.{List, [], _∷_, _++_}
+use mathlib.Core.Bool.{cond}
+use Prim.Native.Nat.{ℕ, suc}
+use lib.Dec.{ltb}
+use lib.ListN.{length, take, drop}
+use Rattle.geom.specs.declared.Point.{Point}
+use Rattle.segm.specs.Lists.{keep}
+use Rattle.contour.specs.Area.{isLarge}
+use Rattle.bin_store.specs.Sightings.{Sighting, numberOf, sight}
+
+-- ---- one point
+-- what is cut off the buffer, and the new point: one point is dropped, two or more become a loop with the new point last
+unfoldable pub closed : List Point → Point → List (List Point)
+closed tail p = cond (ltb (length tail) 2) [] ((tail ++ (p ∷ [])) ∷ [])
+
+-- the buffer after a point, and the loops that it closes
+pub record Turn : Type 0 where
+  pub buffer : List Point
+  pub loops : List (List Point)
+
+abbrev pub turned : List Point → List (List Point) → Turn
+turned buffer loops = record { buffer = buffer; loops = loops }
+
+-- a stored number below the buffer's length cuts; otherwise the point is appended
+unfoldable pub turn : ℕ → List Point → Point → Turn
+turn number buffer p =
+    cond (ltb number (length buffer)) (turned (take number buffer) (closed (drop number buffer) p)) (turned (buffer ++ (p ∷ [])) [])
+
+-- ---- all points
+-- each point's first sighting stores the buffer length after it, and is never forgotten or renewed
+unfoldable pub turns : List Sighting → List Point → List Point → Turn
+turns memory buffer [] = turned buffer []
+turns memory buffer (p ∷ points) =
+    let after = sight memory p (suc (length buffer)) in
+    let t = turn (numberOf after p) buffer p in
+    let later = turns after (t .buffer) points in
+    turned (later .buffer) (t .loops ++ later .loops)
+
+-- a rest of three or more points is the last loop
+unfoldable pub rest : List Point → List (List Point)
+rest buffer = cond (ltb 2 (length buffer)) (buffer ∷ []) []
+
+unfoldable pub allLoops : List Point → List (List Point)
+allLoops points = let t = turns [] [] points in t .loops ++ rest (t .buffer)
+
+-- those that reach the minimum area
+unfoldable pub splitLoops : ℕ → List Point → List (List Point)
+splitLoops least points = keep (isLarge least) (allLoops points)

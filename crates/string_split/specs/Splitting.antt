@@ -1,0 +1,27 @@
+-- What the inner functions of a split do to their lists. Assumes nothing.
+use mathlib.Core.Path.{_≡_}
+use mathlib.Core.List.{List, _++_, map, flatten}
+use Prim.Native.Nat.{ℕ, _+_, _*_, _%_, _≤_}
+use lib.ListN.{length, take, drop}
+use lib.IntN.{ℤ}
+use Rattle.geom.specs.declared.Point.{Point}
+use Rattle.segm.specs.Lists.{written}
+use Rattle.contour.specs.Points.{coordinates, pairUp, Near}
+use Rattle.string_split.specs.declared.buffer.Found.{Found}
+
+-- the first n points of a list of numbers
+abbrev pub front : ℕ → List ℤ → List Point
+front n l = take n (pairUp l)
+
+-- these loops come after those that were found
+pub record Adds (loops : List (List Point)) (found after : Found) (out₀ : List ℤ) (lengths₀ : List ℕ) (out : List ℤ) (lengths : List ℕ) : Type 0 where
+  pub loops-are : after .loops ≡ found .loops + length loops
+  pub points-are : after .points ≡ found .points + length (flatten loops)
+  pub out-is : out ≡ take (2 * found .points) out₀ ++ written (coordinates (flatten loops)) (drop (2 * found .points) out₀)
+  pub lengths-are : lengths ≡ take (found .loops) lengths₀ ++ written (map length loops) (drop (found .loops) lengths₀)
+
+-- points that can be split: whole, few and in range
+pub record Splittable (points : List ℤ) : Type 0 where
+  pub whole : length points % 2 ≡ 0
+  pub few : length points ≤ 4096
+  pub near : Near (pairUp points)

@@ -1,0 +1,39 @@
+-- Every trial drawing, by computing. Assumes nothing.
+use mathlib.Core.Path.{refl}
+use mathlib.Core.List.{flatten}
+use Rattle.geom.specs.Points.{eqZ, within, ltP, eqP, coordinate, inRange, cross, between}
+use Rattle.segm.specs.Lists.{any, sum, tally, keep, written, upFrom}
+use Rattle.segm.specs.Segments.{front, segmentsOf, count, whole, segments, segmentAt, total}
+use Rattle.contour.specs.Points.{coordinates, pairUp}
+use Rattle.contour.specs.Area.{crossProduct, around, shoelace, isLarge}
+use Rattle.meetings.specs.Meetings.{side, parts, inside, sameEnds, meetsWrongly}
+use Rattle.checks.specs.Drawing.{endsInRange, rises, windingInRange, bitsInRange, fault, faultAt, meetingAt, balance, balances, unbalancedAt}
+use Rattle.checks.specs.Verdict.{wrongLength, unknownChoice, tooShort, firstFrom, first, inOrder, verdict}
+use Rattle.checks.specs.Runs.{fillsRun, clipRun}
+use Rattle.build.specs.Fills.{spans, above, clockwise, met, bottom, top, filled, ruleOf, fillOf, fill, fills, fillsOutcome}
+use Rattle.build.specs.Links.{sidesSet, keepsSides, keeps, filterOf, keptLinks}
+use Rattle.graph.specs.Nodes.{node}
+use Rattle.clip_walk.specs.Walk.{has, clear, asDrawn, isLeft, taken, takenAll, bitsLeft, firstLeft, bothMoves, begins, way, over, other, fitting, goesOn, follow, pathFrom, walkFrom, walk}
+use Rattle.string_clip.specs.Paths.{through, finished, pathPoints, clipPaths, stepsFrom, stepsOfPath, stepsOf, travelOf}
+use Rattle.string_clip.specs.Run.{totals, clipOutcome}
+use Rattle.bin_store.specs.Sightings.{isSighted, numberOf, sight}
+use Rattle.string_split.specs.Loops.{closed, turn, turns, rest, allLoops, splitLoops}
+use Rattle.string_split.specs.Run as split
+use Rattle.trials.specs.Trials.{Trials}
+
+pub trials : Trials
+unfolding eqZ within ltP eqP coordinate inRange cross between any sum tally keep written upFrom front segmentsOf count whole segments segmentAt total coordinates pairUp crossProduct around shoelace isLarge side parts inside sameEnds meetsWrongly endsInRange rises windingInRange bitsInRange fault faultAt meetingAt balance balances unbalancedAt wrongLength unknownChoice tooShort firstFrom first inOrder verdict fillsRun clipRun spans above clockwise met bottom top filled ruleOf fillOf fill fills fillsOutcome sidesSet keepsSides keeps filterOf keptLinks node has clear asDrawn isLeft taken takenAll bitsLeft firstLeft bothMoves begins way over other fitting goesOn follow pathFrom walkFrom walk through finished pathPoints clipPaths stepsFrom stepsOfPath stepsOf travelOf totals clipOutcome flatten isSighted numberOf sight closed turn turns rest allLoops splitLoops split.wrongLength split.tooShort split.outAt split.splitVerdict split.splitOutcome
+trials = record {
+  fills-of-A = refl;
+  A-inverted = refl;
+  there-and-back = refl;
+  backward = refl;
+  two-paths = refl;
+  nothing-inside = refl;
+  nothing-outside = refl;
+  meeting-wrongly = refl;
+  meeting-well = refl;
+  unbalanced = refl;
+  loop-ABCAD = refl;
+  loop-ABACD = refl;
+}
