@@ -11,12 +11,12 @@ use lib.Dec.{ltb}
 use lib.ListN.{length, getD, take, drop, length-set}
 use lib.Seq.{drop-cons}
 use Rattle.segm.specs.Lists.{_∈_, tally}
-use Rattle.graph.specs.Nodes.{linkOf, otherEnd}
+use Rattle.graph.specs.Nodes.{linkOf, otherEnd, part}
 use Rattle.graph.proofs.Node.{other-end-below}
 use Rattle.clip_walk.specs.declared.Next.{Next}
 use Rattle.clip_walk.specs.declared.Next.the-variants.{Stop, Leave}
 use Rattle.clip_walk.specs.Walk.{has, one, Move, isLeft, taken, takenAll, bitsLeft}
-use Rattle.clip_walk.specs.Flat.{moveOf, linkAt, farNode, firstEnd, Graph, nextEnd, takenBy, onward, followEnds, movesOn, bitsAfter, Sound}
+use Rattle.clip_walk.specs.Flat.{moveOf, linkAt, farNode, firstEnd, Graph, nextEnd, takenBy, onward, followEnds, movesOn, bitsAfter, NodeAt, Sound}
 use Rattle.clip_walk.proofs.Unroll.{left-taken}
 
 -- ---- ends
@@ -65,6 +65,15 @@ part-in flat end j k x h l m = go (k - j) j (omega arith)
         by : (b : Bool) → ltb i end ≡ b → x ∈ partFrom flat end (i + 1) → x ∈ partFrom flat end i
         by true q r = subst (λ t. x ∈ t) (sym (part-step flat end i (ltb-true i end q) l)) (inr r)
         by false q r = absurd (subst (λ t. x ∈ t) (part-end flat end (i + 1) (omega (arith, ltb-false i end q))) r)
+
+-- the end at place j of a node's part
+pub end-below : (m : ℕ) (flat starts : List ℕ) (v j end : ℕ) → NodeAt m flat starts v → getD starts v 0 ≤ j → j < end → end ≡ getD starts (suc v) 0 → getD flat j 0 < 2 * m
+unfolding part
+end-below m flat starts v j end n low h q =
+    let e = getD flat j 0 in
+    let inside : end ≤ length flat = omega (arith, q, n .inside) in
+    let mem : e ∈ partFrom flat end (getD starts v 0) = part-in flat end (getD starts v 0) j e low inside (subst (λ (t : List ℕ). e ∈ t) (sym (part-step flat end j h inside)) (inl refl)) in
+    n .ends e (subst (λ t. e ∈ partFrom flat t (getD starts v 0)) q mem)
 
 -- ---- the first end whose line bit is left
 module _ (m : ℕ) (out : Bool) (bits : List ℕ) where

@@ -3,3 +3,4 @@ pub mod Areas
 pub mod Reversal
 pub mod Written
 pub mod CutWritten
+pub mod OneContour

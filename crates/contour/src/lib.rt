@@ -1,4 +1,4 @@
-// Lists of points as flat lists of their coordinates: read, written, turned round, and the area of a contour. Every function here is proved, and the crate
+// Lists of points as flat lists of their coordinates: read, written and turned round, the area of a contour, and its role. Every function here is proved, and the crate
 // assumes nothing of its own.
 use geom::Point;
 ghost use mathlib.Core.Path.{_≡_};
@@ -7,8 +7,9 @@ ghost use Prim.Native.Nat.{suc, _+_, _*_, _%_, _≤_};
 ghost use lib.ListN.{length, getD, set};
 ghost use Rattle.geom.specs.Points.{inRange};
 ghost use Rattle.segm.specs.Lists.{written};
-ghost use Rattle.contour.specs.Points.{pairUp, turnedRound, origin, Near};
+ghost use Rattle.contour.specs.Points.{coordinates, pairUp, turnedRound, origin, Near};
 ghost use Rattle.contour.specs.Area.{crossProduct, shoelace, isClockwise, isLarge};
+ghost use Rattle.contour.specs.Contour.{contourOf};
 
 // Point i, the origin past the last one.
 pub fn point_at(points: &[i32], i: usize) -> Point
@@ -107,4 +108,18 @@ pub fn is_large(points: &[i32], least: u64) -> bool
         return true;
     }
     least <= geom::absolute(shoelace(points)) / 2
+}
+
+// Makes a loop a contour: turns it round where it must be, and returns its role.
+pub fn finish(points: &mut [i32], direction: bool, clockwise: bool) -> u8
+    requires { ⌜ (length (now points) % 2 ≡ 0) × (length (now points) ≤ 4096) × Near (pairUp (now points)) ⌝ }
+    ensures { λ r. ⌜ (r ≡ contourOf clockwise direction (pairUp (now (points .entry))) .role)
+        × (now (points .exit) ≡ coordinates (contourOf clockwise direction (pairUp (now (points .entry))) .points)) ⌝ }
+{
+    let order = is_clockwise(points);
+    let hole = order == direction;
+    if hole == (clockwise == order) {
+        reverse(points);
+    }
+    if hole { 1 } else { 0 }
 }

@@ -1,6 +1,6 @@
 -- In a list of ends that rises by their points P, those at one point stand together: those before it in front of them, those after it behind them.
 use mathlib.Core.Path.{_≡_, refl, sym, ap, ap₂, subst, _∙_}
-use mathlib.Core.List.{List, [], _∷_, _++_, append-nil}
+use mathlib.Core.List.{List, [], _++_, append-nil}
 use mathlib.Core.Logic.{_⊎_, inl, inr}
 use mathlib.Core.Bool.{Bool, true, false}
 use Prim.Native.Nat.{ℕ, suc, _+_, _-_, _<_, _≤_}
@@ -14,11 +14,7 @@ use Rattle.geom.specs.Points.{ltP, eqP}
 use Rattle.geom.proofs.Points.{eq-eqP, ne-eqP, ltP-trans, ltP-irrefl, ltP-antisym, not-less-trans}
 use Rattle.segm.specs.Lists.{_∈_, Pairs, keep}
 use Rattle.segm.proofs.Lists.{in-at, in-take, in-after, pairs-places, stands}
-use Rattle.segm.proofs.Tallies.{cases, keep-++, keep-all, keep-none}
-
-in-right : {A : Type 0} (x : A) (l m : List A) → x ∈ m → x ∈ (l ++ m)
-in-right x [] m h = h
-in-right x (y ∷ l) m h = inr (in-right x l m h)
+use Rattle.segm.proofs.Tallies.{cases, in-right, keep-++, keep-all, keep-none}
 
 -- a test that is not false
 is-true : (b : Bool) → (b ≡ false → ⊥) → b ≡ true

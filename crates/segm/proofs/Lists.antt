@@ -196,16 +196,34 @@ module _ {A : Type 0} where
       let past : drop (length more) r ≡ drop (length (answer ++ more)) old = drop-drop (length more) (length answer) old ∙ ap (λ k. drop k old) (sym (length-append answer more)) in
       rw (front, back, past) (sym (append-assoc answer more (drop (length (answer ++ more)) old)))
 
+  -- the same, where only as much was lent
+  pub written-at : (answer more old l : List A) (i j : ℕ) → l ≡ written answer old → i ≡ length answer → j ≡ length more → take i l ++ (more ++ drop j (drop i l)) ≡ written (answer ++ more) old
+  unfolding written
+  written-at answer more old l i j e q r = ap (λ m. take i l ++ (more ++ drop m (drop i l))) r ∙ written-after answer more old l i e q
+
+  -- an answer over another of its length, and one that fills the whole list
+  pub written-over : (a b old : List A) → length a ≡ length b → written a (written b old) ≡ written a old
+  unfolding written
+  written-over a b old e = ap (a ++_) (written-past b old (length a) e)
+
+  pub written-whole : (answer old : List A) → length old ≤ length answer → written answer old ≡ answer
+  unfolding written
+  written-whole answer old h = rw (drop-of-length-le old {i = length answer} h) (append-nil answer)
+
   -- what is past place i was lent: all of it, and nothing is past it
-  pub lent : (l : List A) (i : ℕ) → take (length l - i) (drop i l) ≡ drop i l
+  lent : (l : List A) (i : ℕ) → take (length l - i) (drop i l) ≡ drop i l
   lent l i = take-all (length l - i) (drop i l) (omega (arith, length-drop i l))
 
-  pub past-lent : (l : List A) (i : ℕ) → drop (length l - i) (drop i l) ≡ []
+  past-lent : (l : List A) (i : ℕ) → drop (length l - i) (drop i l) ≡ []
   past-lent l i = drop-of-length-le (drop i l) {i = length l - i} (omega (arith, length-drop i l))
+
+  -- and more came back at its front
+  pub part-back : (more l : List A) (i : ℕ) → take i l ++ (written more (take (length l - i) (drop i l)) ++ drop (length l - i) (drop i l)) ≡ take i l ++ written more (drop i l)
+  part-back more l i = rw (lent l i, past-lent l i, append-nil (written more (drop i l)))
 
   pub written-part : (answer more old l : List A) (i : ℕ) → l ≡ written answer old → i ≡ length answer
       → take i l ++ (written more (take (length l - i) (drop i l)) ++ drop (length l - i) (drop i l)) ≡ written (answer ++ more) old
-  written-part answer more old l i e q = rw (lent l i, past-lent l i, append-nil (written more (drop i l))) (written-after answer more old l i e q)
+  written-part answer more old l i e q = part-back more l i ∙ written-after answer more old l i e q
 
   -- the answer is l's entries through f: one place more of it
   pub written-map : {B : Type 0} (f : B → A) (l : List B) (z : B) (old : List A) (i : ℕ) → i < length l → length l ≤ length old

@@ -88,6 +88,15 @@ module _ {A : Type 0} where
   in-++ x (y ∷ l) m (inl e) = inl (inl e)
   in-++ x (y ∷ l) m (inr h) = cases (λ n. inl (inr n)) (λ n. inr n) (in-++ x l m h)
 
+  pub in-left : (x : A) (l m : List A) → x ∈ l → x ∈ (l ++ m)
+  in-left x [] m h = absurd h
+  in-left x (y ∷ l) m (inl e) = inl e
+  in-left x (y ∷ l) m (inr h) = inr (in-left x l m h)
+
+  pub in-right : (x : A) (l m : List A) → x ∈ m → x ∈ (l ++ m)
+  in-right x [] m h = h
+  in-right x (y ∷ l) m h = inr (in-right x l m h)
+
   pub in-map : {B : Type 0} (g : A → B) (y : B) (l : List A) → y ∈ map g l → (x : A) × (x ∈ l) × (y ≡ g x)
   in-map g y [] m = absurd m
   in-map g y (x ∷ l) (inl e) = (x, inl refl, e)

@@ -1,7 +1,7 @@
 -- The choice of the next move over flat lists is the walk's: over the nodes of the links, the same move. And a move that is found can be made.
 use mathlib.Core.Path.{_≡_, refl, sym, _∙_, ap, ap₂, subst}
 use mathlib.Core.List.{List, [], _∷_, map}
-use mathlib.Core.Logic.{_⊎_, inl, inr}
+use mathlib.Core.Logic.{inl, inr}
 use mathlib.Core.Option.{Option, none, some}
 use mathlib.Core.Bool.{Bool, true, false, not, _&&_, cond}
 use Prim.Native.Nat.{ℕ, _+_, _-_, _*_, _<_, _≤_}
@@ -25,7 +25,7 @@ use Rattle.segm.proofs.Tallies.{keep-in}
 use Rattle.ends.specs.Ends.{endPoint}
 use Rattle.ends.proofs.Ends.{end-a, end-b}
 use Rattle.graph.specs.Nodes.{node, linkOf, otherEnd, part, Nodes}
-use Rattle.graph.proofs.Node.{link-low, link-high, other-low, other-high, in-node}
+use Rattle.graph.proofs.Node.{link-low, link-high, other-low, other-high}
 use Rattle.clip_walk.specs.declared.Next.{Next}
 use Rattle.clip_walk.specs.declared.Next.the-variants.{Stop, Leave}
 use Rattle.clip_walk.specs.Walk.{Move, isLeft, other}
@@ -65,11 +65,11 @@ nearest-found links direction p back P (k ∷ l) (some j) b h =
     go true = h k (inl refl)
     go false = b
 
--- a move is over a link of the node or the current one, and its side bit is left
+-- the side bit of a move is left
 module _ (links : Drawing) (direction : Bool) (k : ℕ) (p : Point) (bits : List ℕ) (m : Move) (e : findNearest links direction k p bits ≡ some m) where
-  found : ((m .place ∈ node links p) ⊎ (m .place ≡ k)) × (isLeft bits m ≡ true)
+  pub nearest-left : isLeft bits m ≡ true
   unfolding findNearest moveFrom
-  found = go (nearest links direction p (other (segmentAt links k) p) none others) (nearest-found links direction p _ (λ j. j ∈ others) others none tt (λ j i. i)) e
+  nearest-left = go (nearest links direction p (other (segmentAt links k) p) none others) (nearest-found links direction p _ (λ j. j ∈ others) others none tt (λ j i. i)) e
     where
       from : ℕ → Move
       from = moveFrom links direction p
@@ -80,26 +80,16 @@ module _ (links : Drawing) (direction : Bool) (k : ℕ) (p : Point) (bits : List
       others : List ℕ
       others = keep isTaken (node links p)
 
-      current : (b : Bool) → isLeft bits (from k) ≡ b → cond b (some (from k)) none ≡ some m → ((m .place ∈ node links p) ⊎ (m .place ≡ k)) × (isLeft bits m ≡ true)
-      current true l q = let r : from k ≡ m = cc in (inr (ap (λ (n : Move). n .place) (sym r)), subst (λ n. isLeft bits n ≡ true) r l)
+      current : (b : Bool) → isLeft bits (from k) ≡ b → cond b (some (from k)) none ≡ some m → isLeft bits m ≡ true
+      current true l q = let r : from k ≡ m = cc in subst (λ n. isLeft bits n ≡ true) r l
       current false l q = let z : _≡_ {A = ℕ} 0 1 = cc in absurd (omega arith)
 
-      go : (o : Option ℕ) → Found (λ j. j ∈ others) o → orElse from o (ifLeft bits (from k)) ≡ some m → ((m .place ∈ node links p) ⊎ (m .place ≡ k)) × (isLeft bits m ≡ true)
+      go : (o : Option ℕ) → Found (λ j. j ∈ others) o → orElse from o (ifLeft bits (from k)) ≡ some m → isLeft bits m ≡ true
       go none i q = current (isLeft bits (from k)) refl q
       go (some j) i q =
           let r : from j ≡ m = cc in
           let h = keep-in isTaken j (node links p) i in
-          subst (λ (n : Move). ((n .place ∈ node links p) ⊎ (n .place ≡ k)) × (isLeft bits n ≡ true)) r (inl (h .0), both-r (not (eqb j k)) (isLeft bits (from j)) (h .1))
-
-  pub nearest-left : isLeft bits m ≡ true
-  nearest-left = found .1
-
-  pub nearest-within : k < length links → m .place < length links
-  nearest-within h = go (found .0)
-    where
-      go : (m .place ∈ node links p) ⊎ (m .place ≡ k) → m .place < length links
-      go (inl i) = in-node links p (m .place) i .0
-      go (inr q) = omega arith
+          subst (λ (n : Move). isLeft bits n ≡ true) r (both-r (not (eqb j k)) (isLeft bits (from j)) (h .1))
 
 -- ---- ends of proper links
 module _ (links : Drawing) (proper : Proper links) where

@@ -2,7 +2,7 @@
 use mathlib.Core.Path.{_≡_, refl}
 use mathlib.Core.List.{List, [], _∷_, _++_, map, flatten}
 use mathlib.Core.Option.{some}
-use mathlib.Core.Bool.{Bool, true, false}
+use mathlib.Core.Bool.{true, false}
 use Prim.Native.Nat.{ℕ}
 use lib.ListN.{drop}
 use lib.IntN.{ℤ, pos, negsuc}
@@ -25,7 +25,9 @@ use Rattle.bin_store.specs.Sightings.{isSighted, numberOf, sight}
 use Rattle.string_split.specs.Loops.{closed, turn, turns, rest, allLoops, splitLoops}
 use Rattle.slice_walk.specs.Walk.{rotated, isWide, isNearer, moveFrom, nearest, findNearest, till, walkFrom, walksFrom, walks, directionOf, walkPoints}
 use Rattle.string_slice.specs.declared.Sliced.the-variants.{Done, Refused}
-use Rattle.string_slice.specs.Contours.{Contour, contour, sideBits, contourOf, walkContours, allContours, sliceContours}
+use Rattle.contour.specs.Contour.{contour, contourOf}
+use Rattle.slice_cut.specs.Cutting.{walkContours}
+use Rattle.string_slice.specs.Contours.{sideBits, allContours, sliceContours}
 use Rattle.string_slice.specs.Run.{outcome, sliceOutcome}
 
 abbrev at : ℕ → ℕ → Point

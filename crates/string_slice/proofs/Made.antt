@@ -26,11 +26,14 @@ use Rattle.slice_walk.specs.declared.Walks.the-variants.{Done, Stuck}
 use Rattle.slice_walk.specs.Walk.{walks, directionOf, walkPoints}
 use Rattle.slice_walk.specs.Writing.{allPoints, directions, WalksAre}
 use Rattle.slice_walk.proofs.AllWalks.{length-all, walk-near, walks-few}
-use Rattle.string_slice.specs.declared.Contours.{Contours}
+use Rattle.slice_cut.specs.declared.Contours.{Contours}
 use Rattle.string_slice.specs.declared.Sliced.the-variants as sliced-is
-use Rattle.string_slice.specs.Run.{counts, outcome, handedOver}
-use Rattle.string_slice.specs.Contours.{Contour, sideBits, walkContours, allContours, sliceContours, ofWalks}
-use Rattle.string_slice.specs.Cutting.{Holds, pathsIn, cutWalks, Stand}
+use Rattle.slice_cut.specs.Cutting.{counts}
+use Rattle.string_slice.specs.Run.{outcome, handedOver}
+use Rattle.contour.specs.Contour.{Contour}
+use Rattle.slice_cut.specs.Cutting.{walkContours}
+use Rattle.string_slice.specs.Contours.{sideBits, allContours, sliceContours, ofWalks}
+use Rattle.slice_cut.specs.Cutting.{Holds, pathsIn, cutWalks, Stand}
 use Rattle.string_slice.proofs.Sides.{proper, length-sides}
 
 -- ---- paths and directions

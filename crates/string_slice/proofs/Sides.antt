@@ -1,9 +1,9 @@
 -- What the walks get of an accepted drawing: proper links, and one entry of side bits a link.
 use mathlib.Core.Path.{_≡_, sym, ap, ap₂, _∙_}
-use mathlib.Core.List.{List, _++_, map, append-nil}
-use Prim.Native.Nat.{ℕ, _+_, _%_, _<_, _≤_}
+use mathlib.Core.List.{List, _++_, map}
+use Prim.Native.Nat.{ℕ, _+_, _%_, _<_}
 use native.Mathlib.Omega.{arith}
-use lib.ListN.{length, getD, take, drop, set, length-map, length-take, drop-of-length-le}
+use lib.ListN.{length, getD, take, drop, set, length-map, length-take}
 use lib.Seq.{drop-cons, getD-at}
 use Rattle.integers.proofs.Booleans.{both-l, both-r}
 use Rattle.geom.specs.Points.{inRange}
@@ -29,11 +29,6 @@ proper d g = record {
 pub length-sides : (rule : Rule) (d : Drawing) → length (sideBits rule d) ≡ length d
 unfolding sideBits
 length-sides rule d = length-map (fills rule d) (λ f. f % 4) ∙ length-fills rule d
-
--- an answer that fills the whole list
-pub written-whole : {A : Type 0} (answer old : List A) → length old ≤ length answer → written answer old ≡ answer
-unfolding written
-written-whole answer old h = rw (drop-of-length-le old {i = length answer} h) (append-nil answer)
 
 -- ---- in place: the entry past the answer is the old one
 next-old : {A : Type 0} (answer old : List A) (i : ℕ) (z : A) → i ≡ length answer → i < length old → getD (written answer old) i z ≡ getD old i z

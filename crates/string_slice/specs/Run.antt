@@ -4,30 +4,20 @@ use mathlib.Core.Option.{Option, none, some}
 use Prim.Native.Nat.{ℕ}
 use lib.ListN.{length}
 use lib.IntN.{ℤ, pos}
-use Rattle.geom.specs.declared.Point.{Point}
 use Rattle.geom.specs.Points.{eqZ}
 use Rattle.segm.specs.Lists.{written}
 use Rattle.segm.specs.Segments.{segments}
 use Rattle.contour.specs.Points.{coordinates}
+use Rattle.contour.specs.Contour.{Contour}
 use Rattle.checks.specs.declared.Verdict.{Verdict}
 use Rattle.checks.specs.declared.Verdict.the-variants as verdict-is
 use Rattle.checks.specs.Verdict.{verdict}
 use Rattle.checks.specs.Runs.{sliceRun}
 use Rattle.build.specs.Fills.{ruleOf}
-use Rattle.string_slice.specs.declared.Contours.{Contours}
+use Rattle.slice_cut.specs.Cutting.{pointsOf, rolesOf, counts}
 use Rattle.string_slice.specs.declared.Sliced.{Sliced}
 use Rattle.string_slice.specs.declared.Sliced.the-variants.{Done, Refused}
-use Rattle.string_slice.specs.Contours.{Contour, sliceContours}
-
--- ---- contours as lists
-abbrev pub pointsOf : List Contour → List (List Point)
-pointsOf contours = map (λ (c : Contour). c .points) contours
-
-abbrev pub rolesOf : List Contour → List ℕ
-rolesOf contours = map (λ (c : Contour). c .role) contours
-
-abbrev pub counts : List Contour → Contours
-counts contours = record { contours = length contours; points = length (flatten (pointsOf contours)) }
+use Rattle.string_slice.specs.Contours.{sliceContours}
 
 -- ---- the run
 -- what it answers, and its lent lists when it returns

@@ -1,11 +1,11 @@
 // The slice run: a drawing's filled area cut along all its segments, as contours with roles. Every function here is proved, and the crate assumes nothing of
 // its own. No public operation has a `requires`: any numbers, any choices and any lengths of lent lists get an answer.
-mod cutting;
 mod walking;
 
 use build::Rule;
 use checks::Verdict;
-use cutting::cut_walks;
+pub use slice_cut::Contours;
+use slice_cut::cut_walks;
 use slice_walk::Walks;
 use walking::make_walks;
 ghost use mathlib.Core.Path.{_≡_};
@@ -15,12 +15,6 @@ ghost use Rattle.segm.specs.Segments.{segments};
 ghost use Rattle.checks.specs.Accepted.{Good};
 ghost use Rattle.string_slice.specs.Contours.{sliceContours};
 ghost use Rattle.string_slice.specs.Run.{outcome, handedOver, sliceOutcome};
-
-// How many contours and points a run found.
-pub struct Contours {
-    pub contours: usize,
-    pub points: usize,
-}
 
 // What a slice run answers: what it found, or a refusal's number and place.
 pub enum Sliced {

@@ -20,6 +20,14 @@ pub record Adds (loops : List (List Point)) (found after : Found) (out₀ : List
   pub out-is : out ≡ take (2 * found .points) out₀ ++ written (coordinates (flatten loops)) (drop (2 * found .points) out₀)
   pub lengths-are : lengths ≡ take (found .loops) lengths₀ ++ written (map length loops) (drop (found .loops) lengths₀)
 
+-- lists long enough to work with
+pub record Working (heads nexts : List ℕ) (seen : List ℤ) (numbers : List ℕ) (buffer : List ℤ) : Type 0 where
+  pub heads-fit : 2049 ≤ length heads
+  pub nexts-fit : 2048 ≤ length nexts
+  pub seen-fit : 4096 ≤ length seen
+  pub numbers-fit : 2048 ≤ length numbers
+  pub buffer-is : length buffer ≡ 4096
+
 -- points that can be split: whole, few and in range
 pub record Splittable (points : List ℤ) : Type 0 where
   pub whole : length points % 2 ≡ 0

@@ -13,7 +13,7 @@ ghost use Rattle.contour.specs.Area.{isLarge};
 ghost use Rattle.bin_store.specs.Bins.{Binned};
 ghost use Rattle.string_split.specs.Loops.{turn, turns, rest, splitLoops};
 ghost use Rattle.string_split.specs.Run.{foundOf};
-ghost use Rattle.string_split.specs.Splitting.{front, Adds, Splittable};
+ghost use Rattle.string_split.specs.Splitting.{front, Adds, Working, Splittable};
 
 // How many loops and points were written.
 pub struct Found {
@@ -192,11 +192,7 @@ pub fn split_loops(
     lengths: &mut [u32],
 ) -> Found
     requires { ⌜ Splittable (now points)
-        × (2049 ≤ length (now heads))
-        × (2048 ≤ length (now nexts))
-        × (4096 ≤ length (now seen))
-        × (2048 ≤ length (now numbers))
-        × (length (now buffer) ≡ 4096)
+        × Working (now heads) (now nexts) (now seen) (now numbers) (now buffer)
         × (length (now points) ≤ length (now out))
         × (length (pairUp (now points)) ≤ length (now lengths)) ⌝ }
     ensures { λ r. ⌜ (r ≡ foundOf (splitLoops «min_area» (pairUp (now (points .entry)))))

@@ -1,17 +1,15 @@
 -- No line bit of an end passed is left: what is left of the part decides. Assumes nothing.
 use borrow.Author.Needs.{needs}
-use mathlib.Core.Path.{_≡_, refl, sym, ap, subst, _∙_}
+use mathlib.Core.Path.{_≡_, sym, ap, _∙_}
 use mathlib.Core.List.{List, _∷_}
-use mathlib.Core.Logic.{inl}
 use native.Mathlib.Omega.{arith}
 use native.Mathlib.Numerals.{add-one}
 use Prim.Native.Nat.{ℕ, suc, _+_, _-_, _*_, _<_, _≤_}
 use lib.ListN.{length, getD}
 use Rattle.graph.specs.Nodes.{part}
-use Rattle.segm.specs.Lists.{_∈_}
 use Rattle.clip_walk.specs.declared.Next.{Next}
 use Rattle.clip_walk.specs.Flat.{firstEnd}
-use Rattle.clip_walk.proofs.Flat.{partFrom, part-step, part-end, part-in, first-here, first-later}
+use Rattle.clip_walk.proofs.Flat.{partFrom, part-step, part-end, end-below, first-here, first-later}
 use Rattle.clip_walk.proofs.find_next.Statement.{statement}
 use Rattle.clip_walk.proofs.find_next.Tie as tie
 
@@ -67,12 +65,7 @@ module _ (c : tie.In-loop Inv-loop μ-loop) where
 
   -- the end looked at is one of the node's
   below : getD (s .args .flat .now) (l .loop .j) 0 < 2 * length (s .args .bits .now)
-  unfolding part
-  below =
-      let e : ℕ = getD (s .args .flat .now) (l .loop .j) 0 in
-      let m : e ∈ partFrom (s .args .flat .now) end (getD (s .args .starts .now) (s .args .v) 0) =
-      part-in (s .args .flat .now) end (getD (s .args .starts .now) (s .args .v) 0) (l .loop .j) e (l .loop .inv .0) inside (subst (λ (q : List ℕ). e ∈ q) (sym here) (inl refl)) in
-      s .pre .1 .ends e (subst (λ t. e ∈ partFrom (s .args .flat .now) t (getD (s .args .starts .now) (s .args .v) 0)) (l .loop .inv .1) m)
+  below = end-below (length (s .args .bits .now)) (s .args .flat .now) (s .args .starts .now) (s .args .v) (l .loop .j) end (s .pre .1) (l .loop .inv .0) (c .loop-test .taken) (l .loop .inv .1)
 
   -- what is left, by the end looked at
   abbrev first : List ℕ → Next

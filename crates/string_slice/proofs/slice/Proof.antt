@@ -25,7 +25,8 @@ use Rattle.checks.proofs.Good.{verdict-good, verdict-room}
 use Rattle.build.specs.declared.ray.Rule.{Rule}
 use Rattle.build.specs.Fills.{ruleOf}
 use Rattle.build.proofs.Choices.{is, is-not}
-use Rattle.string_slice.specs.Contours.{Contour, sliceContours}
+use Rattle.contour.specs.Contour.{Contour}
+use Rattle.string_slice.specs.Contours.{sliceContours}
 use Rattle.string_slice.specs.Run.{outcome, handedOver, answered, sliceOutcome}
 use Rattle.string_slice.proofs.slice.Statement.{statement}
 use Rattle.string_slice.proofs.slice.Tie as tie

@@ -10,7 +10,8 @@ use lib.Seq.{length-take-le}
 use lib.IntN.{ℤ}
 use Rattle.segm.specs.Segments.{Drawing, segments}
 use Rattle.slice_walk.specs.Walk.{walks}
-use Rattle.string_slice.specs.Contours.{Contour, sideBits}
+use Rattle.contour.specs.Contour.{Contour}
+use Rattle.string_slice.specs.Contours.{sideBits}
 use Rattle.string_slice.specs.Run.{handedOver}
 use Rattle.string_slice.proofs.Made.{Made, made, stuck, few-found, few-points, stand, contours-are, no-contours, handed}
 use Rattle.string_slice.proofs.slice_accepted.Statement.{statement}

@@ -1,22 +1,21 @@
 -- The best end so far and what is left of the part decide. Assumes nothing.
 use borrow.Author.Needs.{needs}
-use mathlib.Core.Path.{_≡_, refl, sym, ap, subst, _∙_}
+use mathlib.Core.Path.{_≡_, sym, ap, subst, _∙_}
 use mathlib.Core.List.{List, [], _∷_}
-use mathlib.Core.Logic.{inl, ⊎-elim}
+use mathlib.Core.Logic.{⊎-elim}
 use mathlib.Core.Bool.{true, false, not, _&&_}
 use native.Mathlib.Omega.{arith}
 use native.Mathlib.Numerals.{add-one}
 use Prim.Native.Nat.{ℕ, suc, _+_, _-_, _*_, _<_, _≤_}
 use lib.Dec.{eqb}
 use lib.ListN.{length, getD}
-use Rattle.segm.specs.Lists.{_∈_}
 use Rattle.segm.specs.Segments.{Drawing, segments}
 use Rattle.graph.specs.Nodes.{part}
 use Rattle.clip_walk.specs.declared.Next.{Next}
 use Rattle.clip_walk.specs.declared.Next.the-variants.{Stop}
 use Rattle.clip_walk.specs.Walk.{isLeft}
 use Rattle.clip_walk.specs.Flat.{moveOf}
-use Rattle.clip_walk.proofs.Flat.{partFrom, part-step, part-end, part-in}
+use Rattle.clip_walk.proofs.Flat.{partFrom, part-step, part-end, end-below}
 use Rattle.slice_walk.specs.Ends.{addEnd, isOther, nearestEnd, Leaving}
 use Rattle.slice_walk.proofs.Choice.{nearest-has}
 use Rattle.slice_walk.proofs.nearest.find_other.Statement.{statement}
@@ -82,11 +81,7 @@ module _ (c : tie.In-loop Inv-loop μ-loop) where
 
   -- the end looked at is one of the node's
   below : e < 2 * length (s .args .bits .now)
-  unfolding part
-  below =
-      let m : e ∈ partFrom (s .args .flat .now) end (getD (s .args .starts .now) (s .args .v) 0) =
-      part-in (s .args .flat .now) end (getD (s .args .starts .now) (s .args .v) 0) (l .loop .j) e (l .loop .inv .0) inside (subst (λ (q : List ℕ). e ∈ q) (sym here) (inl refl)) in
-      s .pre .2 .ends e (subst (λ t. e ∈ partFrom (s .args .flat .now) t (getD (s .args .starts .now) (s .args .v) 0)) (l .loop .inv .1) m)
+  below = end-below (length (s .args .bits .now)) (s .args .flat .now) (s .args .starts .now) (s .args .v) (l .loop .j) end (s .pre .2) (l .loop .inv .0) (c .loop-test .taken) (l .loop .inv .1)
 
   below-links : e < 2 * length links
   below-links = omega (arith, below, s .pre .1)

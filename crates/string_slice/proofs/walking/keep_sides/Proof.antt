@@ -7,7 +7,8 @@ use Prim.Native.Nat.{ℕ, _-_, _%_}
 use lib.ListN.{length, take, length-map, length-set}
 use lib.Seq.{take-all}
 use Rattle.segm.specs.Lists.{written}
-use Rattle.string_slice.proofs.Sides.{next-side, written-whole}
+use Rattle.segm.proofs.Lists.{written-whole}
+use Rattle.string_slice.proofs.Sides.{next-side}
 use Rattle.string_slice.proofs.walking.keep_sides.Statement.{statement}
 use Rattle.string_slice.proofs.walking.keep_sides.Tie as tie
 

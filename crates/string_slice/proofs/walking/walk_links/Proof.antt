@@ -7,6 +7,7 @@ use Prim.Native.Nat.{ℕ, _*_, _%_, _≤_}
 use lib.ListN.{length, take, drop}
 use lib.Seq.{length-take-le, length-front}
 use Rattle.segm.specs.Segments.{Drawing, segments}
+use Rattle.segm.proofs.Lists.{written-whole}
 use Rattle.segm.proofs.Segments.{length-segments}
 use Rattle.ends.proofs.Parts.{prefix-back, prefix-length}
 use Rattle.graph.specs.Nodes.{Nodes}
@@ -15,7 +16,7 @@ use Rattle.build.proofs.Parts.{length-fills}
 use Rattle.slice_walk.specs.Walk.{walks}
 use Rattle.slice_walk.specs.Writing.{Walking, WalksAre}
 use Rattle.string_slice.specs.Contours.{sideBits}
-use Rattle.string_slice.proofs.Sides.{proper, written-whole}
+use Rattle.string_slice.proofs.Sides.{proper}
 use Rattle.string_slice.proofs.walking.walk_links.Statement.{statement}
 use Rattle.string_slice.proofs.walking.walk_links.Tie as tie
 

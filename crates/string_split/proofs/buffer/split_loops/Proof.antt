@@ -30,12 +30,12 @@ slice-relend-prefix-clear : tie.Need-slice-relend-prefix-clear
 slice-relend-prefix-clear c = search needs
 
 slice-aggregate-clear : tie.Need-slice-aggregate-clear
-slice-aggregate-clear c = let s = c .before .before .before .before .before in sym (length-take-le (length (s .args .points .now) / 2 + 1) (s .args .heads .now) (omega (arith, s .pre .0 .few, s .pre .1)))
+slice-aggregate-clear c = let s = c .before .before .before .before .before in sym (length-take-le (length (s .args .points .now) / 2 + 1) (s .args .heads .now) (omega (arith, s .pre .0 .few, s .pre .1 .heads-fit)))
 
 clear-requires : tie.Need-clear-requires
 clear-requires c κs =
     let s = c .before .before .before .before .before .before .before .before in
-    omega (arith, s .pre .0 .few, s .pre .1, length-take-le (length (s .args .points .now) / 2 + 1) (s .args .heads .now) (omega (arith, s .pre .0 .few, s .pre .1)))
+    omega (arith, s .pre .0 .few, s .pre .1 .heads-fit, length-take-le (length (s .args .points .now) / 2 + 1) (s .args .heads .now) (omega (arith, s .pre .0 .few, s .pre .1 .heads-fit)))
 
 -- the bins, in the part that came back
 module _ (k : tie.After-clear) where
@@ -46,7 +46,7 @@ module _ (k : tie.After-clear) where
   bins = length (s .args .points .now) / 2 + 1
 
   bins-fit : length (take bins (s .args .heads .now)) ≡ bins
-  bins-fit = length-take-le bins (s .args .heads .now) (omega (arith, s .pre .0 .few, s .pre .1))
+  bins-fit = length-take-le bins (s .args .heads .now) (omega (arith, s .pre .0 .few, s .pre .1 .heads-fit))
 
   abbrev cleared : List ℕ
   cleared = k .clear .last .0 ++ drop bins (s .args .heads .now)
@@ -68,7 +68,7 @@ take-points-requires c κs =
     let k = c .before .before .before .before .before .before .before .before .before in
     let a = s k .args in
     let p = s k .pre in
-    (p .0, subst (λ (h : List ℕ). Binned 0 h (a .nexts .now) (a .seen .now) (a .numbers .now)) (sym (bins-back k)) (k .clear .ensures), p .2, p .3, p .4, p .5, p .6, p .7)
+    (p .0, subst (λ (h : List ℕ). Binned 0 h (a .nexts .now) (a .seen .now) (a .numbers .now)) (sym (bins-back k)) (k .clear .ensures), p .1 .nexts-fit, p .1 .seen-fit, p .1 .numbers-fit, p .1 .buffer-is, p .2, p .3)
 
 -- the points taken
 module _ (t : tie.After-take-points) where
@@ -119,7 +119,7 @@ module _ (t : tie.After-take-points) where
   )
 
   room : 2 * len ≤ length buffer
-  room = omega (arith, points-fit, few, t .take-points .kept .1 .1 .1 .1 .1 .1 .0, s k .pre .5)
+  room = omega (arith, points-fit, few, t .take-points .kept .1 .1 .1 .1 .1 .1 .0, s k .pre .1 .buffer-is)
 
   -- the rest, in its part of the buffer
   abbrev part : List ℤ
@@ -157,8 +157,8 @@ add-rest-requires c κs =
     let p = s (k t) .pre in
     let n = length-pairs (s (k t) .args .points .now) in (
       splittable t,
-      omega (arith, n, points-fit t, part-length t, p .6, t .take-points .kept .1 .1 .1 .1 .1 .1 .1 .0),
-      omega (arith, n, loops-fit t, length-pairs (part t), part-length t, p .7, t .take-points .kept .1 .1 .1 .1 .1 .1 .1 .1 .0),
+      omega (arith, n, points-fit t, part-length t, p .2, t .take-points .kept .1 .1 .1 .1 .1 .1 .1 .0),
+      omega (arith, n, loops-fit t, length-pairs (part t), part-length t, p .3, t .take-points .kept .1 .1 .1 .1 .1 .1 .1 .1 .0),
       omega (arith, loops-fit t, few t),
       omega (arith, points-fit t, few t),
     )

@@ -12,11 +12,10 @@ use Rattle.contour.proofs.Coordinates.{length-pairs}
 use Rattle.string_split.specs.declared.buffer.Found.{Found}
 use Rattle.string_split.specs.Loops.{splitLoops}
 use Rattle.string_split.proofs.Fits.{loops-fit, loops-few, loops-near}
-use Rattle.string_slice.specs.Contours.{walkContours}
-use Rattle.string_slice.specs.Cutting.{Stand}
-use Rattle.string_slice.proofs.OneWalk.{loops-stand, contours-hold}
-use Rattle.string_slice.proofs.cutting.cut_walk.Statement.{statement}
-use Rattle.string_slice.proofs.cutting.cut_walk.Tie as tie
+use Rattle.slice_cut.specs.Cutting.{walkContours, Stand}
+use Rattle.slice_cut.proofs.OneWalk.{loops-stand, contours-hold}
+use Rattle.slice_cut.proofs.cut_walk.Statement.{statement}
+use Rattle.slice_cut.proofs.cut_walk.Tie as tie
 
 split-loops-requires : tie.Need-split-loops-requires
 split-loops-requires c κs = search needs
@@ -50,14 +49,14 @@ module _ (a : tie.After-split-loops) where
   few = loops-few (s .args .min-area) walk
 
   inside : n ≤ length lengths
-  inside = omega (arith, number, few, a .split-loops .kept .1 .1 .1 .1 .1 .1 .1 .1 .0, s .pre .7)
+  inside = omega (arith, number, few, a .split-loops .kept .1 .1 .1 .1 .1 .1 .1 .1 .0, s .pre .3)
 
   stand : Stand points (take n lengths)
   stand =
       let fit = loops-fit (s .args .min-area) walk in
       loops-stand writes n number
       (omega (arith, fit, length-pairs (s .args .walk .now), s .pre .0 .few))
-      (omega (arith, fit, length-pairs (s .args .walk .now), s .pre .6))
+      (omega (arith, fit, length-pairs (s .args .walk .now), s .pre .2))
       (loops-near (s .args .min-area) walk (s .pre .0 .near))
 
 slice-reshare-prefix-finish-all : tie.Need-slice-reshare-prefix-finish-all
@@ -69,7 +68,7 @@ slice-aggregate-finish-all c = let a = c .before .before .before .before .before
 finish-all-requires : tie.Need-finish-all-requires
 finish-all-requires c κs =
     let a = c .before .before .before .before .before .before .before .before .before .before .before .before .before .before in
-    (stand a, omega (arith, length-take (n a) (lengths a), number a, few a, s a .pre .8))
+    (stand a, omega (arith, length-take (n a) (lengths a), number a, few a, s a .pre .4))
 
 same-length : tie.Need-same-length
 same-length c = search needs

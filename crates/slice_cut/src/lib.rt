@@ -1,5 +1,5 @@
-// Walks cut into loops, and loops made contours: each with its role, and turned round where it must be.
-use super::Contours;
+// Walks cut into loops, and loops made contours: each with its role, and turned round where it must be. Every function here is proved, and the crate assumes
+// nothing of its own.
 use string_split::Found;
 ghost use mathlib.Core.Path.{_≡_};
 ghost use mathlib.Core.List.{map, flatten};
@@ -9,23 +9,14 @@ ghost use Rattle.segm.specs.Lists.{written};
 ghost use Rattle.contour.specs.Points.{coordinates, pairUp};
 ghost use Rattle.string_split.specs.Loops.{splitLoops};
 ghost use Rattle.string_split.specs.Run.{foundOf};
-ghost use Rattle.string_split.specs.Splitting.{Splittable};
-ghost use Rattle.string_slice.specs.Contours.{contourOf, walkContours};
-ghost use Rattle.string_slice.specs.Run.{pointsOf, rolesOf, counts};
-ghost use Rattle.string_slice.specs.Cutting.{Holds, pathsIn, cutWalks, Stand};
+ghost use Rattle.string_split.specs.Splitting.{Working, Splittable};
+ghost use Rattle.contour.specs.Contour.{contourOf};
+ghost use Rattle.slice_cut.specs.Cutting.{walkContours, pointsOf, rolesOf, counts, Holds, pathsIn, cutWalks, Stand};
 
-// Makes a loop a contour: turns it round where it must be, and returns its role.
-fn finish(contour: &mut [i32], direction: bool, clockwise: bool) -> u8
-    requires { ⌜ Splittable (now contour) ⌝ }
-    ensures { λ r. ⌜ (r ≡ contourOf clockwise direction (pairUp (now (contour .entry))) .role)
-        × (now (contour .exit) ≡ coordinates (contourOf clockwise direction (pairUp (now (contour .entry))) .points)) ⌝ }
-{
-    let order = contour::is_clockwise(contour);
-    let hole = order == direction;
-    if hole == (clockwise == order) {
-        contour::reverse(contour);
-    }
-    if hole { 1 } else { 0 }
+// How many contours and points were found.
+pub struct Contours {
+    pub contours: usize,
+    pub points: usize,
 }
 
 // Makes all loops in the lists contours.
@@ -44,7 +35,7 @@ fn finish_all(
     let mut k: usize = 0;
     while k < lengths.len() {
         let to = from + 2 * lengths[k] as usize;
-        roles[k] = finish(&mut points[from..to], direction, clockwise);
+        roles[k] = contour::finish(&mut points[from..to], direction, clockwise);
         from = to;
         k += 1;
     }
@@ -66,11 +57,7 @@ fn cut_walk(
     roles: &mut [u8],
 ) -> Found
     requires { ⌜ Splittable (now walk)
-        × (2049 ≤ length (now heads))
-        × (2048 ≤ length (now nexts))
-        × (4096 ≤ length (now seen))
-        × (2048 ≤ length (now numbers))
-        × (length (now buffer) ≡ 4096)
+        × Working (now heads) (now nexts) (now seen) (now numbers) (now buffer)
         × (length (now walk) ≤ length (now points))
         × (length (pairUp (now walk)) ≤ length (now lengths))
         × (length (pairUp (now walk)) ≤ length (now roles)) ⌝ }
@@ -111,11 +98,7 @@ fn cut_all(
 ) -> Contours
     requires { ⌜ Stand (now walks) (now «walk_lengths»)
         × (length (now directions) ≡ length (now «walk_lengths»))
-        × (2049 ≤ length (now heads))
-        × (2048 ≤ length (now nexts))
-        × (4096 ≤ length (now seen))
-        × (2048 ≤ length (now numbers))
-        × (length (now buffer) ≡ 4096)
+        × Working (now heads) (now nexts) (now seen) (now numbers) (now buffer)
         × (2 * length (flatten (pathsIn (now walks) (now «walk_lengths»))) ≤ length (now points))
         × (length (flatten (pathsIn (now walks) (now «walk_lengths»))) ≤ length (now lengths))
         × (length (flatten (pathsIn (now walks) (now «walk_lengths»))) ≤ length (now roles)) ⌝ }

@@ -6,11 +6,10 @@ use Prim.Native.Nat.{_%_}
 use lib.ListN.{length, length-reverse}
 use lib.IntN.{ℤ}
 use Rattle.geom.specs.declared.Point.{Point}
 use Rattle.contour.specs.Points.{coordinates, pairUp, turnedRound}
 use Rattle.contour.specs.Area.{isClockwise}
 use Rattle.contour.proofs.Coordinates.{coordinates-pairs}
-use Rattle.clip_walk.specs.Walk.{one}
-use Rattle.string_slice.specs.Contours.{contourOf}
+use Rattle.contour.specs.Contour.{contourOf}
 
 module _ (clockwise direction : Bool) where
   -- as many points as its loop
@@ -24,9 +23,9 @@ module _ (clockwise direction : Bool) where
 
   -- by the loop's list of numbers
   module _ {order : Bool} (l : List ℤ) (is : order ≡ isClockwise (pairUp l)) where
-    pub role-is : (b : Bool) → Bool·beq order direction ≡ b → one b ≡ contourOf clockwise direction (pairUp l) .role
+    pub role-is : (b : Bool) → Bool·beq order direction ≡ b → cond b 1 0 ≡ contourOf clockwise direction (pairUp l) .role
     unfolding contourOf
-    role-is b e = ap one (sym e ∙ ap (λ o. Bool·beq o direction) is)
+    role-is b e = ap (λ c. cond c 1 0) (sym e ∙ ap (λ o. Bool·beq o direction) is)
 
     points-are : (b : Bool) → Bool·beq (Bool·beq order direction) (Bool·beq clockwise order) ≡ b
         → coordinates (cond b (reverse (pairUp l)) (pairUp l)) ≡ coordinates (contourOf clockwise direction (pairUp l) .points)

@@ -2,42 +2,23 @@
 use mathlib.Core.Path.{_≡_, refl, sym, _∙_, ap, ap₂}
 use mathlib.Core.List.{List, [], _∷_, _++_, map, flatten, map-append, append-assoc, append-nil}
 use mathlib.Core.Bool.{Bool}
-use Prim.Native.Nat.{ℕ, zero, suc, _+_, _*_, _-_, _≤_, _<_}
+use Prim.Native.Nat.{ℕ, zero, suc, _+_, _*_, _≤_, _<_}
 use native.Mathlib.Omega.{arith}
 use native.Mathlib.Numerals.{add-one}
 use lib.Dec.{eqb}
 use lib.ListN.{length, getD, take, drop, set, length-append, length-map, length-take}
-use lib.Seq.{take-suc, drop-drop}
+use lib.Seq.{take-suc}
 use lib.IntN.{ℤ}
 use Rattle.geom.specs.declared.Point.{Point}
 use Rattle.segm.specs.Lists.{written}
-use Rattle.segm.proofs.Lists.{written-more, take-written, written-past, flatten-++}
+use Rattle.segm.proofs.Lists.{written-more, written-past, written-at, flatten-++}
 use Rattle.contour.specs.Points.{coordinates}
 use Rattle.contour.proofs.Coordinates.{length-coordinates, coordinates-++}
 use Rattle.string_split.specs.Loops.{splitLoops}
 use Rattle.string_split.proofs.Fits.{loops-fit, loops-few}
-use Rattle.string_slice.specs.Contours.{Contour, contourOf, walkContours}
-use Rattle.string_slice.specs.Run.{pointsOf, rolesOf}
-use Rattle.string_slice.specs.Cutting.{cutWalks}
-use Rattle.string_slice.proofs.OneContour.{contour-length}
-
--- ---- lists written to
-module _ {A : Type 0} where
-  -- what was lent past the answer came back with more at its front
-  written-at : (answer more old l : List A) (i j : ℕ) → l ≡ written answer old → i ≡ length answer → j ≡ length more
-      → take i l ++ (more ++ drop j (drop i l)) ≡ written (answer ++ more) old
-  unfolding written
-  written-at answer more old l i j e q r =
-      let front : take i l ≡ answer = ap (take i) e ∙ take-written answer old i q in
-      let back : drop i l ≡ drop i old = ap (drop i) e ∙ written-past answer old i q in
-      let both : i + j ≡ length (answer ++ more) = omega (arith, length-append answer more) in
-      let past : drop j (drop i old) ≡ drop (length (answer ++ more)) old = drop-drop j i old ∙ ap (λ m. drop m old) both in
-      rw (front, back, past) (sym (append-assoc answer more (drop (length (answer ++ more)) old)))
-
-  -- an answer over another of its length
-  pub written-over : (a b old : List A) → length a ≡ length b → written a (written b old) ≡ written a old
-  unfolding written
-  written-over a b old e = ap (a ++_) (written-past b old (length a) e)
+use Rattle.contour.specs.Contour.{Contour, contourOf}
+use Rattle.slice_cut.specs.Cutting.{walkContours, pointsOf, rolesOf, cutWalks}
+use Rattle.contour.proofs.OneContour.{contour-length}
 
 -- ---- the numbers of contours' points
 abbrev pub numbersOf : List Contour → List ℤ

@@ -15,12 +15,11 @@ use Rattle.string_split.specs.declared.buffer.Found.{Found}
 use Rattle.string_split.specs.Loops.{splitLoops}
 use Rattle.string_split.specs.Run.{foundOf}
 use Rattle.string_split.proofs.Fits.{loops-fit, loops-few}
-use Rattle.string_slice.specs.Contours.{walkContours}
-use Rattle.string_slice.specs.Cutting.{pathsIn, Stand, Holds}
-use Rattle.string_slice.proofs.InLists.{length-cut, points-passed, points-in-all, next-place, path-few, path-fits, path-is, length-path, splittable}
-use Rattle.string_slice.proofs.AllWalks.{Cut, none-cut, points-fit, contours-fit, cut-more, all-cut}
-use Rattle.string_slice.proofs.cutting.cut_all.Statement.{statement}
-use Rattle.string_slice.proofs.cutting.cut_all.Tie as tie
+use Rattle.slice_cut.specs.Cutting.{walkContours, pathsIn, Stand, Holds}
+use Rattle.slice_cut.proofs.InLists.{length-cut, points-passed, points-in-all, next-place, path-few, path-fits, path-is, length-path, splittable}
+use Rattle.slice_cut.proofs.AllWalks.{Cut, none-cut, points-fit, contours-fit, cut-more, all-cut}
+use Rattle.slice_cut.proofs.cut_all.Statement.{statement}
+use Rattle.slice_cut.proofs.cut_all.Tie as tie
 
 -- lists as long as they were
 record Rooms (heads₀ nexts₀ : List ℕ) (seen₀ : List ℤ) (numbers₀ : List ℕ) (buffer₀ points₀ : List ℤ) (lengths₀ roles₀ : List ℕ) (heads nexts : List ℕ) (seen : List ℤ) (numbers : List ℕ) (buffer points : List ℤ) (lengths roles : List ℕ) : Type 0 where
@@ -112,13 +111,13 @@ module _ (i : tie.In-loop Inv-loop μ-loop) where
   few-written = let all = points-in-all stand in (omega (arith, room .0, all, stand .few), omega (arith, room .1, all, stand .few))
 
   points-room : 2 * (l .loop .at + n) ≤ length (l .loop .points)
-  points-room = omega (arith, room .0, l .loop .inv .2 .points-room, s .pre .7)
+  points-room = omega (arith, room .0, l .loop .inv .2 .points-room, s .pre .3)
 
   lengths-room : l .loop .contours + n ≤ length (l .loop .lengths)
-  lengths-room = omega (arith, room .1, l .loop .inv .2 .lengths-room, s .pre .8)
+  lengths-room = omega (arith, room .1, l .loop .inv .2 .lengths-room, s .pre .4)
 
   roles-room : l .loop .contours + n ≤ length (l .loop .roles)
-  roles-room = omega (arith, room .1, l .loop .inv .2 .roles-room, s .pre .9)
+  roles-room = omega (arith, room .1, l .loop .inv .2 .roles-room, s .pre .5)
 
 mul-to : tie.Need-mul-to Inv-loop μ-loop
 mul-to c = search needs
@@ -197,11 +196,13 @@ cut-walk-requires c κs =
     let q = l i .loop in
     let r = q .inv .2 in (
       splittable (stand i) (k i) (from i) (inside i) (place i),
-      omega (arith, p .2, r .heads-room),
-      omega (arith, p .3, r .nexts-room),
-      omega (arith, p .4, r .seen-room),
-      omega (arith, p .5, r .numbers-room),
-      r .buffer-room ∙ p .6,
+      record {
+        heads-fit = omega (arith, p .2 .heads-fit, r .heads-room);
+        nexts-fit = omega (arith, p .2 .nexts-fit, r .nexts-room);
+        seen-fit = omega (arith, p .2 .seen-fit, r .seen-room);
+        numbers-fit = omega (arith, p .2 .numbers-fit, r .numbers-room);
+        buffer-is = r .buffer-room ∙ p .2 .buffer-is;
+      },
       omega (arith, length-path (stand i) (k i) (from i) (inside i) (place i), past (q .points) (2 * q .at) (2 * n i) (omega (arith, points-room i))),
       omega (arith, as-many i, past (q .lengths) (q .contours) (n i) (lengths-room i)),
       omega (arith, as-many i, past (q .roles) (q .contours) (n i) (roles-room i)),

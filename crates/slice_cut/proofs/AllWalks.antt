@@ -14,10 +14,9 @@ use Rattle.segm.proofs.Lists.{written-part}
 use Rattle.contour.specs.Points.{coordinates}
 use Rattle.contour.proofs.Coordinates.{length-coordinates}
 use Rattle.string_split.specs.Loops.{splitLoops}
-use Rattle.string_slice.specs.Contours.{Contour, contourOf, walkContours}
-use Rattle.string_slice.specs.Run.{pointsOf, rolesOf, counts}
-use Rattle.string_slice.specs.Cutting.{Holds, cutWalks}
-use Rattle.string_slice.proofs.ManyContours.{numbersOf, numbers-++, points-++, points-stay, walks-fit, walks-few, one-walk-more}
+use Rattle.contour.specs.Contour.{Contour, contourOf}
+use Rattle.slice_cut.specs.Cutting.{walkContours, pointsOf, rolesOf, counts, Holds, cutWalks}
+use Rattle.slice_cut.proofs.ManyContours.{numbersOf, numbers-++, points-++, points-stay, walks-fit, walks-few, one-walk-more}
 
 -- a part of a list was lent, from a place on, and came back
 abbrev lent : {A : Type 0} → ℕ → List A → List A

@@ -1,17 +1,33 @@
--- What the inner functions of a slice do to their lists: walks in one set of lists are cut into contours in another. Assumes nothing.
+-- Walks cut into loops, and loops made contours: what contours there are, and how they stand in lists. Assumes nothing.
 use mathlib.Core.Path.{_≡_}
 use mathlib.Core.List.{List, [], _∷_, _++_, map, flatten}
 use mathlib.Core.Bool.{Bool}
-use Prim.Native.Nat.{ℕ, _*_, _%_, _≤_}
+use Prim.Native.Nat.{ℕ, _*_, _≤_}
 use lib.Dec.{eqb}
 use lib.ListN.{length}
 use lib.IntN.{ℤ}
 use Rattle.geom.specs.declared.Point.{Point}
 use Rattle.segm.specs.Lists.{tally, written}
 use Rattle.contour.specs.Points.{coordinates, pairUp, Near, cut}
-use Rattle.string_slice.specs.Contours.{Contour, walkContours}
-use Rattle.string_slice.specs.Run.{pointsOf, rolesOf}
+use Rattle.contour.specs.Contour.{Contour, contourOf}
+use Rattle.string_split.specs.Loops.{splitLoops}
+use Rattle.slice_cut.specs.declared.Contours.{Contours}
 
+-- ---- contours
+-- a walk goes through the loops
+unfoldable pub walkContours : (clockwise : Bool) → ℕ → (direction : Bool) → List Point → List Contour
+walkContours clockwise least direction points = map (contourOf clockwise direction) (splitLoops least points)
+
+abbrev pub pointsOf : List Contour → List (List Point)
+pointsOf contours = map (λ (c : Contour). c .points) contours
+
+abbrev pub rolesOf : List Contour → List ℕ
+rolesOf contours = map (λ (c : Contour). c .role) contours
+
+abbrev pub counts : List Contour → Contours
+counts contours = record { contours = length contours; points = length (flatten (pointsOf contours)) }
+
+-- ---- in lists
 -- contours at the fronts of lists
 pub record Holds (contours : List Contour) (points₀ : List ℤ) (lengths₀ roles₀ : List ℕ) (points : List ℤ) (lengths roles : List ℕ) : Type 0 where
   pub points-are : points ≡ written (coordinates (flatten (pointsOf contours))) points₀

@@ -1,29 +1,18 @@
 -- Paths as they stand in lists: how many, each by its place, and what is known of it.
 use mathlib.Core.Path.{_≡_, refl, sym, _∙_, ap, subst}
-use mathlib.Core.List.{List, [], _∷_, _++_, map, flatten}
-use mathlib.Core.Logic.{inl, inr}
+use mathlib.Core.List.{List, [], _∷_, flatten}
 use Prim.Native.Nat.{ℕ, zero, suc, _+_, _*_, _-_, _≤_, _<_}
 use native.Mathlib.Omega.{arith}
 use lib.ListN.{length, getD, take, drop, length-append, length-take, length-drop}
 use lib.Seq.{take-all, drop-drop}
 use lib.IntN.{ℤ}
 use Rattle.geom.specs.declared.Point.{Point}
-use Rattle.segm.specs.Lists.{_∈_, tally}
-use Rattle.segm.proofs.Tallies.{tally-take, tally-part}
+use Rattle.segm.specs.Lists.{tally}
+use Rattle.segm.proofs.Tallies.{in-left, in-right, tally-take, tally-part}
 use Rattle.contour.specs.Points.{pairUp, cut, Near}
 use Rattle.contour.proofs.Coordinates.{pairs-take, pairs-drop, length-pairs}
 use Rattle.string_split.specs.Splitting.{Splittable}
-use Rattle.string_slice.specs.Cutting.{pathsIn, Stand}
-
--- ---- members of joined lists
-in-left : {A : Type 0} (x : A) (l m : List A) → x ∈ l → x ∈ (l ++ m)
-in-left x [] m i = absurd i
-in-left x (y ∷ l) m (inl e) = inl e
-in-left x (y ∷ l) m (inr i) = inr (in-left x l m i)
-
-in-right : {A : Type 0} (x : A) (l m : List A) → x ∈ m → x ∈ (l ++ m)
-in-right x [] m i = i
-in-right x (y ∷ l) m i = inr (in-right x l m i)
+use Rattle.slice_cut.specs.Cutting.{pathsIn, Stand}
 
 -- ---- points cut by lengths
 abbrev total : List ℕ → ℕ
@@ -52,11 +41,6 @@ length-firsts (n ∷ ns) ps (suc k) h =
       length-drop n ps,
       length-firsts ns (drop n ps) k (omega (arith, length-drop n ps)),
     )
-
-pub total-lengths : (paths : List (List Point)) → total (map length paths) ≡ length (flatten paths)
-unfolding flatten tally
-total-lengths [] = refl
-total-lengths (path ∷ paths) = omega (arith, length-append path (flatten paths), total-lengths paths)
 
 near-at : (paths : List (List Point)) (k : ℕ) → k < length paths → Near (flatten paths) → Near (getD paths k [])
 unfolding flatten

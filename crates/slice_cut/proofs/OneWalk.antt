@@ -8,15 +8,13 @@ use lib.ListN.{length, take, drop, length-map}
 use lib.IntN.{ℤ}
 use Rattle.geom.specs.declared.Point.{Point}
 use Rattle.segm.specs.Lists.{tally, written}
-use Rattle.segm.proofs.Lists.{take-written, length-written}
+use Rattle.segm.proofs.Lists.{take-written, length-written, written-over}
 use Rattle.contour.specs.Points.{coordinates, pairUp, Near, Writes}
 use Rattle.contour.proofs.Coordinates.{length-coordinates, pair-coordinates}
-use Rattle.contour.proofs.CutWritten.{cut-written}
-use Rattle.string_slice.specs.Contours.{contourOf}
-use Rattle.string_slice.specs.Run.{rolesOf}
-use Rattle.string_slice.specs.Cutting.{pathsIn, Holds, Stand}
-use Rattle.string_slice.proofs.InLists.{total-lengths}
-use Rattle.string_slice.proofs.ManyContours.{written-over, numbersOf, lengths-stay, numbers-stay}
+use Rattle.contour.proofs.CutWritten.{cut-written, tally-lengths}
+use Rattle.contour.specs.Contour.{contourOf}
+use Rattle.slice_cut.specs.Cutting.{rolesOf, pathsIn, Holds, Stand}
+use Rattle.slice_cut.proofs.ManyContours.{numbersOf, lengths-stay, numbers-stay}
 
 module _ {loops : List (List Point)} {points₀ : List ℤ} {lengths₀ : List ℕ} {points : List ℤ} {lengths : List ℕ} (w : Writes loops points₀ lengths₀ points lengths) (n : ℕ) (e : n ≡ length loops) where
   lengths-read : take n lengths ≡ map length loops
@@ -30,7 +28,7 @@ module _ {loops : List (List Point)} {points₀ : List ℤ} {lengths₀ : List �
 
   pub loops-stand : length (flatten loops) ≤ 2048 → 2 * length (flatten loops) ≤ length points₀ → Near (flatten loops) → Stand points (take n lengths)
   loops-stand few room near =
-      let all : tally (λ m. m) (take n lengths) ≡ length (flatten loops) = ap (tally (λ m. m)) lengths-read ∙ total-lengths loops in
+      let all : tally (λ m. m) (take n lengths) ≡ length (flatten loops) = ap (tally (λ m. m)) lengths-read ∙ tally-lengths loops in
       record {
         inside = omega (arith, all, ap length (w .points-are), length-written (coordinates (flatten loops)) points₀ (omega (arith, length-coordinates (flatten loops))));
         few = omega (arith, all);

@@ -1,8 +1,8 @@
 -- Working memory of its own is long enough. Assumes nothing.
 use borrow.Author.Needs.{needs}
 use native.Mathlib.Omega.{arith}
-use Rattle.string_slice.proofs.cutting.cut_walks.Statement.{statement}
-use Rattle.string_slice.proofs.cutting.cut_walks.Tie as tie
+use Rattle.slice_cut.proofs.cut_walks.Statement.{statement}
+use Rattle.slice_cut.proofs.cut_walks.Tie as tie
 
 slice-aggregate-cut-all : tie.Need-slice-aggregate-cut-all
 slice-aggregate-cut-all c = search needs
@@ -20,7 +20,7 @@ slice-aggregate-cut-all-5 : tie.Need-slice-aggregate-cut-all-5
 slice-aggregate-cut-all-5 c = search needs
 
 cut-all-requires : tie.Need-cut-all-requires
-cut-all-requires c κs = let p = c .before .before .before .before .before .before .before .before .before .before .before .before .pre in (p .0, p .1, omega arith, omega arith, omega arith, omega arith, omega arith, p .2, p .3, p .4)
+cut-all-requires c κs = let p = c .before .before .before .before .before .before .before .before .before .before .before .before .pre in (p .0, p .1, record { heads-fit = omega arith; nexts-fit = omega arith; seen-fit = omega arith; numbers-fit = omega arith; buffer-is = omega arith }, p .2, p .3, p .4)
 
 same-length : tie.Need-same-length
 same-length c = search needs

@@ -13,13 +13,12 @@ use Rattle.segm.specs.Lists.{tally, written}
 use Rattle.contour.specs.Points.{coordinates, pairUp}
 use Rattle.contour.proofs.Coordinates.{length-pairs}
 use Rattle.string_split.specs.Splitting.{Splittable}
-use Rattle.string_slice.specs.Contours.{contourOf}
-use Rattle.string_slice.specs.Run.{rolesOf}
-use Rattle.string_slice.specs.Cutting.{pathsIn}
-use Rattle.string_slice.proofs.InLists.{length-cut, points-passed, next-place, path-few, path-fits, path-is, length-path, splittable}
-use Rattle.string_slice.proofs.ManyContours.{numbersOf, Finished, none-finished, untouched, finished-more}
-use Rattle.string_slice.proofs.cutting.finish_all.Statement.{statement}
-use Rattle.string_slice.proofs.cutting.finish_all.Tie as tie
+use Rattle.contour.specs.Contour.{contourOf}
+use Rattle.slice_cut.specs.Cutting.{rolesOf, pathsIn}
+use Rattle.slice_cut.proofs.InLists.{length-cut, points-passed, next-place, path-few, path-fits, path-is, length-path, splittable}
+use Rattle.slice_cut.proofs.ManyContours.{numbersOf, Finished, none-finished, untouched, finished-more}
+use Rattle.slice_cut.proofs.finish_all.Statement.{statement}
+use Rattle.slice_cut.proofs.finish_all.Tie as tie
 
 record State (points₀ : List ℤ) (lengths roles₀ : List ℕ) (direction clockwise : Bool) (points : List ℤ) (roles : List ℕ) (from k : ℕ) : Type 0 where
   finished : Finished clockwise direction (pathsIn points₀ lengths) points₀ roles₀ points roles k
@@ -121,7 +120,7 @@ part-finish-end : tie.Need-part-finish-end Inv-loop μ-loop
 part-finish-end c = omega (arith, fits (c .before))
 
 finish-requires : tie.Need-finish-requires Inv-loop μ-loop
-finish-requires c κs = can-split (c .before .before)
+finish-requires c κs = let r = can-split (c .before .before) in (r .whole, r .few, r .near)
 
 slice-write-roles : tie.Need-slice-write-roles Inv-loop μ-loop
 slice-write-roles c = let i = c .before .before .before .before in omega (arith, i .loop-test .taken, v i .roles-room, s i .pre .1)

@@ -1,0 +1,4 @@
+pub mod InLists
+pub mod ManyContours
+pub mod OneWalk
+pub mod AllWalks
