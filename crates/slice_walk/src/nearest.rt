@@ -1,4 +1,5 @@
-// The choice of the next move: of the links that can be taken, the nearest to the current one by the rotation sense.
+// The choice of the next move (`find_nearest_link_to`): of the links that can be taken (`is_move_possible`), the nearest to the current one by the rotation
+// sense (`NearestVector`).
 use clip_walk::Next;
 use geom::Point;
 ghost use mathlib.Core.Path.{_≡_};
