@@ -11,9 +11,9 @@ use Rattle.meetings.specs.Meetings.{side, parts, inside, sameEnds, meetsWrongly
 use Rattle.checks.specs.Drawing.{endsInRange, rises, windingInRange, bitsInRange, fault, faultAt, meetingAt, balance, balances, unbalancedAt}
 use Rattle.checks.specs.Verdict.{wrongLength, unknownChoice, tooShort, firstFrom, first, inOrder, verdict}
 use Rattle.checks.specs.Runs.{fillsRun}
-use Rattle.checks.proofs.Cases.{segment, A}
+use Rattle.segm.specs.CaseA.{segment, A}
 use Rattle.build.specs.declared.ray.Rule.the-variants.{EvenOdd}
-use Rattle.build.specs.declared.ray.Filled.the-variants.{Done, Refused}
+use Rattle.build.specs.declared.ray.Filled.the-variants.{Refused}
 use Rattle.build.specs.Fills.{spans, above, clockwise, met, bottom, top, filled, ruleOf, fillOf, fill, fills, outcome, fillsOutcome}
 
 -- the bottom counts of all segments

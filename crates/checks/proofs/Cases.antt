@@ -1,9 +1,10 @@
--- Worked cases of the verdict, by computing, beside document 01's trial drawings (`trials`), whose case A stands here.
+-- Worked cases of the verdict, by computing, beside document 01's trial drawings (`trials`).
 use mathlib.Core.Path.{_≡_, refl}
 use mathlib.Core.List.{List, [], _∷_, _++_}
 use lib.IntN.{ℤ, pos, negsuc}
 use Rattle.geom.specs.Points.{eqZ, within, ltP, eqP, coordinate, inRange, cross, between}
 use Rattle.segm.specs.Lists.{any, sum}
+use Rattle.segm.specs.CaseA.{segment, A}
 use Rattle.segm.specs.Segments.{front, segmentsOf, count, whole, segments, segmentAt, total}
 use Rattle.meetings.specs.Meetings.{side, parts, inside, sameEnds, meetsWrongly}
 use Rattle.checks.specs.declared.Verdict.{Verdict}
@@ -15,22 +16,6 @@ use Rattle.checks.specs.Runs.{fillsRun, clipRun, sliceRun}
 -- a clip run under nonzero, inside, boundary included, with lists for three segments
 abbrev clip : List ℤ → Verdict
 clip numbers = verdict (clipRun numbers (pos 1) (pos 0) (pos 1) 24 6)
-
--- one segment
-abbrev pub segment : ℤ → ℤ → ℤ → ℤ → ℤ → ℤ → List ℤ
-segment ax ay bx by winding bits = ax ∷ ay ∷ bx ∷ by ∷ winding ∷ bits ∷ []
-
--- case A
-abbrev pub A : List ℤ
-A = negsuc 4 ∷ pos 5 ∷ pos 0 ∷ pos 5 ∷ pos 0 ∷ pos 1
-    ∷ pos 0 ∷ pos 0 ∷ pos 0 ∷ pos 5 ∷ negsuc 0 ∷ pos 0
-    ∷ pos 0 ∷ pos 0 ∷ pos 10 ∷ pos 0 ∷ pos 1 ∷ pos 0
-    ∷ pos 0 ∷ pos 5 ∷ pos 0 ∷ pos 10 ∷ negsuc 0 ∷ pos 0
-    ∷ pos 0 ∷ pos 5 ∷ pos 10 ∷ pos 5 ∷ pos 0 ∷ pos 1
-    ∷ pos 0 ∷ pos 10 ∷ pos 10 ∷ pos 10 ∷ negsuc 0 ∷ pos 0
-    ∷ pos 10 ∷ pos 0 ∷ pos 10 ∷ pos 5 ∷ pos 1 ∷ pos 0
-    ∷ pos 10 ∷ pos 5 ∷ pos 10 ∷ pos 10 ∷ pos 1 ∷ pos 0
-    ∷ pos 10 ∷ pos 5 ∷ pos 15 ∷ pos 5 ∷ pos 0 ∷ pos 1 ∷ []
 
 pub record Cases : Type 0 where
   -- x 16,777,216 is taken, 16,777,217 is not

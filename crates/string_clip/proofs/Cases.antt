@@ -14,7 +14,7 @@ use Rattle.checks.specs.Drawing.{endsInRange, rises, windingInRange, bitsInRang
 use Rattle.checks.specs.Verdict.{wrongLength, unknownChoice, tooShort, firstFrom, first, inOrder, verdict}
 use Rattle.checks.specs.Runs.{clipRun}
 use Rattle.checks.specs.Accepted.{accepts}
-use Rattle.checks.proofs.Cases.{segment, A}
+use Rattle.segm.specs.CaseA.{segment, A}
 use Rattle.build.specs.Fills.{spans, above, clockwise, met, bottom, top, filled, ruleOf, fillOf, fill}
 use Rattle.build.specs.Links.{sidesSet, keepsSides, keeps, filterOf, keptLinks}
 use Rattle.graph.specs.Nodes.{node}

@@ -16,7 +16,7 @@ use Rattle.meetings.specs.Meetings.{side, parts, inside, sameEnds, meetsWrongly
 use Rattle.checks.specs.Drawing.{endsInRange, rises, windingInRange, bitsInRange, fault, faultAt, meetingAt, balance, balances, unbalancedAt}
 use Rattle.checks.specs.Verdict.{wrongLength, unknownChoice, tooShort, firstFrom, first, inOrder, verdict}
 use Rattle.checks.specs.Runs.{sliceRun}
-use Rattle.checks.proofs.Cases.{segment, A}
+use Rattle.segm.specs.CaseA.{segment, A}
 use Rattle.build.specs.declared.ray.Rule.the-variants.{NonZero}
 use Rattle.build.specs.Fills.{spans, above, clockwise, met, bottom, top, filled, ruleOf, fillOf, fill, fills}
 use Rattle.graph.specs.Nodes.{node}

@@ -1,0 +1,18 @@
+-- Document 01's case A, the numbers of its nine segments, and how worked cases write a segment. Assumes nothing.
+use mathlib.Core.List.{List, [], _∷_, _++_}
+use lib.IntN.{ℤ, pos, negsuc}
+
+-- one segment: ax, ay, bx, by, winding, line bits
+abbrev pub segment : ℤ → ℤ → ℤ → ℤ → ℤ → ℤ → List ℤ
+segment ax ay bx by winding bits = ax ∷ ay ∷ bx ∷ by ∷ winding ∷ bits ∷ []
+
+abbrev pub A : List ℤ
+A = segment (negsuc 4) (pos 5) (pos 0) (pos 5) (pos 0) (pos 1)
+    ++ segment (pos 0) (pos 0) (pos 0) (pos 5) (negsuc 0) (pos 0)
+    ++ segment (pos 0) (pos 0) (pos 10) (pos 0) (pos 1) (pos 0)
+    ++ segment (pos 0) (pos 5) (pos 0) (pos 10) (negsuc 0) (pos 0)
+    ++ segment (pos 0) (pos 5) (pos 10) (pos 5) (pos 0) (pos 1)
+    ++ segment (pos 0) (pos 10) (pos 10) (pos 10) (negsuc 0) (pos 0)
+    ++ segment (pos 10) (pos 0) (pos 10) (pos 5) (pos 1) (pos 0)
+    ++ segment (pos 10) (pos 5) (pos 10) (pos 10) (pos 1) (pos 0)
+    ++ segment (pos 10) (pos 5) (pos 15) (pos 5) (pos 0) (pos 1)
