@@ -1,4 +1,4 @@
--- Worked cases of the clip runs, by computing, beside document 01's trial drawings (`trials`): most whatever the lent lists hold.
+-- Worked cases of the clip runs, by computing: document 01's trial drawings, whatever the lent lists hold.
 use mathlib.Core.Path.{_≡_, refl}
 use mathlib.Core.List.{List, [], _∷_, _++_, map, flatten}
 use mathlib.Core.Bool.{true}
@@ -7,6 +7,7 @@ use lib.ListN.{drop}
 use lib.IntN.{ℤ, pos, negsuc}
 use Rattle.geom.specs.Points.{eqZ, within, ltP, eqP, coordinate, inRange, cross, between}
 use Rattle.segm.specs.Lists.{any, sum, tally, keep, written, upFrom}
+use Rattle.segm.specs.CaseA.{segment, A}
 use Rattle.segm.specs.Segments.{front, segmentsOf, count, whole, segments, segmentAt, total}
 use Rattle.meetings.specs.Meetings.{side, parts, inside, sameEnds, meetsWrongly}
 use Rattle.checks.specs.declared.Verdict.the-variants.{Accepted}
@@ -14,7 +15,6 @@ use Rattle.checks.specs.Drawing.{endsInRange, rises, windingInRange, bitsInRang
 use Rattle.checks.specs.Verdict.{wrongLength, unknownChoice, tooShort, firstFrom, first, inOrder, verdict}
 use Rattle.checks.specs.Runs.{clipRun}
 use Rattle.checks.specs.Accepted.{accepts}
-use Rattle.segm.specs.CaseA.{segment, A}
 use Rattle.build.specs.Fills.{spans, above, clockwise, met, bottom, top, filled, ruleOf, fillOf, fill}
 use Rattle.build.specs.Links.{sidesSet, keepsSides, keeps, filterOf, keptLinks}
 use Rattle.graph.specs.Nodes.{node}
@@ -51,11 +51,22 @@ edged =
     ++ segment (pos 2) (pos 0) (pos 2) (pos 2) (pos 1) (pos 0)
 
 pub record Cases : Type 0 where
-  -- A: the line part in the square
+  -- A: the line part in the square, and the two parts outside
   pub inside-A : (xs : List ℤ) (ns : List ℕ) → clipInside A xs ns ≡ outcome (found 1 2 1 10) (pos 0 ∷ pos 5 ∷ pos 10 ∷ pos 5 ∷ drop 4 xs) (2 ∷ drop 1 ns)
+  pub outside-A : (xs : List ℤ) (ns : List ℕ) → clipOutside A xs ns
+      ≡ outcome (found 2 4 2 10) (negsuc 4 ∷ pos 5 ∷ pos 0 ∷ pos 5 ∷ pos 10 ∷ pos 5 ∷ pos 15 ∷ pos 5 ∷ drop 8 xs) (2 ∷ 2 ∷ drop 2 ns)
+  -- both bits of one segment: there and back
+  pub there-and-back : (xs : List ℤ) (ns : List ℕ) → clipOutside thereAndBack xs ns ≡ outcome (found 1 3 2 2) (pos 0 ∷ pos 0 ∷ pos 1 ∷ pos 0 ∷ pos 0 ∷ pos 0 ∷ drop 6 xs) (3 ∷ drop 1 ns)
+  -- bit 2 only: one path backward, reversed when finished
+  pub in-line : (xs : List ℤ) (ns : List ℕ) → clipOutside (segment (pos 0) (pos 0) (pos 1) (pos 0) (pos 0) (pos 2) ++ segment (pos 1) (pos 0) (pos 2) (pos 0) (pos 0) (pos 2)) xs ns
+      ≡ outcome (found 1 3 2 2) (pos 2 ∷ pos 0 ∷ pos 1 ∷ pos 0 ∷ pos 0 ∷ pos 0 ∷ drop 6 xs) (3 ∷ drop 1 ns)
+  -- paths are not extended at their first point
+  pub forked : (xs : List ℤ) (ns : List ℕ) → clipOutside (segment (pos 0) (pos 0) (pos 2) (negsuc 0) (pos 0) (pos 1) ++ segment (pos 0) (pos 0) (pos 2) (pos 1) (pos 0) (pos 2)) xs ns
+      ≡ outcome (found 2 4 2 6) (pos 0 ∷ pos 0 ∷ pos 2 ∷ negsuc 0 ∷ pos 2 ∷ pos 1 ∷ pos 0 ∷ pos 0 ∷ drop 8 xs) (2 ∷ 2 ∷ drop 2 ns)
   -- bit 1 before bit 2, and at (1,0) the link that starts there before the one that ends there
   pub ordered : (xs : List ℤ) (ns : List ℕ) → clipOutside (segment (pos 0) (pos 0) (pos 1) (pos 0) (pos 0) (pos 3) ++ segment (pos 1) (pos 0) (pos 2) (pos 0) (pos 0) (pos 1)) xs ns
       ≡ outcome (found 2 5 3 3) (pos 0 ∷ pos 0 ∷ pos 1 ∷ pos 0 ∷ pos 2 ∷ pos 0 ∷ pos 1 ∷ pos 0 ∷ pos 0 ∷ pos 0 ∷ drop 10 xs) (3 ∷ 2 ∷ drop 2 ns)
+  pub empty : (invert boundary : ℤ) (xs : List ℤ) (ns : List ℕ) → clip invert boundary [] xs ns ≡ outcome (found 0 0 0 0) xs ns
   -- a line on the outline: inside if the boundary is included, otherwise outside
   pub edge-inside : (xs : List ℤ) (ns : List ℕ) → clip (pos 0) (pos 1) edged xs ns ≡ outcome (found 1 2 1 2) (pos 0 ∷ pos 0 ∷ pos 2 ∷ pos 0 ∷ drop 4 xs) (2 ∷ drop 1 ns)
   pub edge-not-inside : (xs : List ℤ) (ns : List ℕ) → clip (pos 0) (pos 0) edged xs ns ≡ outcome (found 0 0 0 0) xs ns
@@ -73,7 +84,12 @@ pub cases : Cases
 unfolding accepts clipRun verdict inOrder wrongLength unknownChoice tooShort first firstFrom faultAt meetingAt unbalancedAt fault endsInRange rises windingInRange bitsInRange balance balances meetsWrongly parts inside sameEnds side total any sum tally keep written upFrom front segmentsOf count whole segments segmentAt eqZ within ltP eqP coordinate inRange cross between spans above clockwise met bottom top filled ruleOf fillOf fill sidesSet keepsSides keeps filterOf keptLinks node has clear asDrawn isLeft taken takenAll bitsLeft firstLeft bothMoves begins way over other fitting goesOn follow pathFrom walkFrom walk through finished pathPoints clipPaths stepsFrom stepsOfPath stepsOf travelOf totals coordinates flatten clipOutcome
 cases = record {
   inside-A = λ xs ns. refl;
+  outside-A = λ xs ns. refl;
+  there-and-back = λ xs ns. refl;
+  in-line = λ xs ns. refl;
+  forked = λ xs ns. refl;
   ordered = λ xs ns. refl;
+  empty = λ invert boundary xs ns. refl;
   edge-inside = λ xs ns. refl;
   edge-not-inside = λ xs ns. refl;
   edge-not-outside = λ xs ns. refl;
