@@ -8,13 +8,17 @@ use Rattle.geom.specs.Points.{eqZ, within, ltP, eqP, coordinate, inRange, cross
 use Rattle.segm.specs.Lists.{any, sum, written}
 use Rattle.segm.specs.Segments.{front, segmentsOf, count, whole, segments, segmentAt, total}
 use Rattle.meetings.specs.Meetings.{side, parts, inside, sameEnds, meetsWrongly}
-use Rattle.checks.specs.Drawing.{endsInRange, rises, windingInRange, bitsInRange, fault, faultAt, meetingAt, balance, balances, unbalancedAt}
+use Rattle.balance.specs.Balance.{balance, balances}
+use Rattle.checks.specs.Drawing.{endsInRange, rises, windingInRange, bitsInRange, fault, faultAt, meetingAt, unbalancedAt}
 use Rattle.checks.specs.Verdict.{wrongLength, unknownChoice, tooShort, firstFrom, first, inOrder, verdict}
 use Rattle.checks.specs.Runs.{fillsRun}
 use Rattle.segm.specs.CaseA.{segment, A}
-use Rattle.build.specs.declared.ray.Rule.the-variants.{EvenOdd}
-use Rattle.build.specs.declared.ray.Filled.the-variants.{Refused}
-use Rattle.build.specs.Fills.{spans, above, clockwise, met, bottom, top, filled, ruleOf, fillOf, fill, fills, outcome, fillsOutcome}
+use Rattle.fill_rule.specs.declared.Rule.the-variants.{EvenOdd}
+use Rattle.build.specs.declared.run.Filled.the-variants.{Refused}
+use Rattle.fill_rule.specs.FillRule.{filled, ruleOf, fillOf}
+use Rattle.strip.specs.Strip.{spans, above, clockwise}
+use Rattle.ray.specs.Ray.{met, bottom, top, fill, fills}
+use Rattle.build.specs.Fills.{outcome, fillsOutcome}
 
 -- the bottom counts of all segments
 abbrev bottoms : List ℤ → List ℤ

@@ -12,9 +12,9 @@ use Rattle.segm.specs.declared.Segment.{Segment}
 use Rattle.segm.specs.Lists.{_∈_, Pairs, keep, written}
 use Rattle.segm.specs.Segments.{Drawing, nowhere, segmentAt}
 use Rattle.segm.proofs.Tallies.{keep-in, length-keep, pairs-keep}
-use Rattle.build.specs.declared.ray.Rule.{Rule}
+use Rattle.fill_rule.specs.declared.Rule.{Rule}
 use Rattle.build.specs.declared.links.Filter.{Filter}
-use Rattle.build.specs.Fills.{fill, fills}
+use Rattle.ray.specs.Ray.{fill, fills}
 use Rattle.build.specs.Links.{sidesSet, keeps, keptLinks, keptBy}
 
 -- ---- the ones of the masked fill are the sides set

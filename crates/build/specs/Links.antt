@@ -7,10 +7,10 @@ use lib.IntN.{ℤ, pos}
 use Rattle.geom.specs.Points.{eqZ}
 use Rattle.segm.specs.Lists.{keep}
 use Rattle.segm.specs.Segments.{Drawing}
-use Rattle.build.specs.declared.ray.Rule.{Rule}
+use Rattle.fill_rule.specs.declared.Rule.{Rule}
 use Rattle.build.specs.declared.links.Filter.{Filter}
 use Rattle.build.specs.declared.links.Filter.the-variants.{InsideIncluded, InsideExcluded, OutsideIncluded, OutsideExcluded}
-use Rattle.build.specs.Fills.{fill}
+use Rattle.ray.specs.Ray.{fill}
 
 -- how many of the two side bits of a fill are set
 unfoldable pub sidesSet : ℕ → ℕ

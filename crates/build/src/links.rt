@@ -1,6 +1,5 @@
 // Kept links: the segments that a clip run keeps.
-use super::ray::Rule;
-use super::ray::write_fills;
+use fill_rule::Rule;
 ghost use mathlib.Core.Path.{_≡_};
 ghost use Prim.Native.Nat.{_*_, _≤_};
 ghost use lib.ListN.{length};
@@ -83,6 +82,6 @@ pub fn kept_links(
     ensures { λ r. ⌜ (now (links .exit) ≡ written (laid (keptLinks rule filter (segments (now (s .entry))))) (now (links .entry)))
         × (r ≡ length (keptLinks rule filter (segments (now (s .entry))))) ⌝ }
 {
-    write_fills(s, rule, fills);
+    fill_sweep::write_fills(s, rule, fills);
     write_links(s, fills, filter, links)
 }

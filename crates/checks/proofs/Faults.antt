@@ -1,5 +1,7 @@
 -- What a place has where no refusal by place fits it.
-use mathlib.Core.Path.{_≡_, refl}
+use mathlib.Core.Path.{_≡_, refl, ap, subst, _∙_}
+use mathlib.Core.List.{[], _∷_}
+use mathlib.Core.Logic.{_⊎_, inl, inr}
 use mathlib.Core.Bool.{Bool, true, false, not, cond, _&&_}
 use Prim.Native.Nat.{ℕ, suc, _<_, _-_}
 use native.Mathlib.Omega.{arith}
@@ -7,11 +9,13 @@ use lib.ListN.{length, drop}
 use Rattle.integers.proofs.Booleans.{both-l, both-r}
 use Rattle.geom.specs.declared.Point.{Point}
 use Rattle.geom.specs.Points.{ltP, inRange}
+use Rattle.geom.proofs.Points.{not-less-trans}
 use Rattle.segm.specs.declared.Segment.{Segment}
-use Rattle.segm.specs.Lists.{any}
+use Rattle.segm.specs.Lists.{_∈_, Pairs, any}
 use Rattle.segm.specs.Segments.{Drawing, segmentAt}
 use Rattle.meetings.specs.Meetings.{meetsWrongly, Proper}
-use Rattle.checks.specs.Drawing.{endsInRange, rises, windingInRange, bitsInRange, fault, faultAt, meetingAt, balances, unbalancedAt}
+use Rattle.balance.specs.Balance.{balances}
+use Rattle.checks.specs.Drawing.{endsInRange, rises, windingInRange, bitsInRange, fault, faultAt, meetingAt, unbalancedAt}
 use Rattle.checks.specs.Search.{Sound}
 
 pub record Faultless (p : Point) (s : Segment) : Type 0 where
@@ -43,6 +47,30 @@ pub faultless-at : (d : Drawing) (i : ℕ) → faultAt d i ≡ 0 → Faultless (
 unfolding faultAt
 faultless-at d i e = faultless (segmentAt d (i - 1) .a) (segmentAt d i) e
 
+-- ---- rising starts: each not less than the one before is each not less than any before
+abbrev Neighbours : Drawing → Type 0
+Neighbours [] = Unit {0}
+Neighbours (s ∷ []) = Unit {0}
+Neighbours (s ∷ (t ∷ d)) = (ltP (t .a) (s .a) ≡ false) × Neighbours (t ∷ d)
+
+neighbours : (d : Drawing) → ((i : ℕ) → suc i < length d → ltP (segmentAt d (suc i) .a) (segmentAt d i .a) ≡ false) → Neighbours d
+unfolding segmentAt
+neighbours [] h = tt
+neighbours (s ∷ []) h = tt
+neighbours (s ∷ (t ∷ d)) h = (h 0 (omega arith), neighbours (t ∷ d) (λ i l. h (suc i) (omega arith)))
+
+rising-pairs : (d : Drawing) → Neighbours d → Pairs (λ s t. ltP (t .a) (s .a) ≡ false) d
+rising-pairs [] n = tt
+rising-pairs (s ∷ []) n = (λ t m. absurd m, tt)
+rising-pairs (s ∷ (t ∷ d)) n = let p = rising-pairs (t ∷ d) (n .1) in (go (p .0), p)
+  where
+    go : ((u : Segment) → u ∈ d → ltP (u .a) (t .a) ≡ false) → (u : Segment) → (u ≡ t) ⊎ (u ∈ d) → ltP (u .a) (s .a) ≡ false
+    go p u (inl e) = ap (λ (i : Segment). ltP (i .a) (s .a)) e ∙ n .0
+    go p u (inr m) = not-less-trans (s .a) (t .a) (u .a) (n .0) (p u m)
+
+pub rising-starts : (d : Drawing) → ((i : ℕ) → i < length d → Faultless (segmentAt d (i - 1) .a) (segmentAt d i)) → Pairs (λ s t. ltP (t .a) (s .a) ≡ false) d
+rising-starts d at = rising-pairs d (neighbours d (λ i l. let k : suc i - 1 ≡ i = omega arith in subst (λ (k : ℕ). ltP (segmentAt d (suc i) .a) (segmentAt d k .a) ≡ false) k (at (suc i) l .after)))
+
 -- ---- 8 and 9
 pub meetingless : (d : Drawing) (i : ℕ) → meetingAt d i ≡ 0 → any (meetsWrongly (segmentAt d i)) (drop (suc i) d) ≡ false
 unfolding meetingAt
@@ -64,7 +92,7 @@ unfolding endsInRange rises
 proper s e o = record { near-a = both-l (inRange (s .a)) (inRange (s .b)) e; near-b = both-r (inRange (s .a)) (inRange (s .b)) e; rises = o }
 
 module _ (d : Drawing) (h : Sound d) (i : ℕ) (within : i < length d) where
-  at : Faultless (segmentAt d (i - 1) .a) (segmentAt d i)
+  pub at : Faultless (segmentAt d (i - 1) .a) (segmentAt d i)
   at = faultless-at d i (h .faultless i within)
 
   pub proper-at : Proper (segmentAt d i)

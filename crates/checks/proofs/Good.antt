@@ -12,21 +12,22 @@ use borrow.Author.Tests.{ltb-true, ltb-false, not-false}
 use Rattle.integers.proofs.Booleans.{dec, clash, nor-r}
 use Rattle.geom.specs.declared.Point.{Point}
 use Rattle.geom.specs.Points.{within, ltP, eqP}
-use Rattle.geom.proofs.Points.{within-l, within-r, eqZ-true, eqP-true, not-less-trans}
+use Rattle.geom.proofs.Points.{within-l, within-r, eqZ-true, eqP-true}
 use Rattle.segm.specs.declared.Segment.{Segment}
 use Rattle.segm.specs.Lists.{_∈_, Pairs, any}
 use Rattle.segm.specs.Segments.{Drawing, count, whole, segments, nowhere, segmentAt}
-use Rattle.segm.proofs.Lists.{stands, pairs-of, pairs-map, pairs-places, in-after, any-false}
-use Rattle.segm.proofs.Segments.{length-segments, total-none}
+use Rattle.segm.proofs.Lists.{pairs-of, pairs-map, pairs-places, in-after, any-false}
+use Rattle.segm.proofs.Segments.{length-segments, everywhere, total-none}
 use Rattle.meetings.specs.Meetings.{Proper, sameEnds, meetsWrongly}
 use Rattle.meetings.proofs.Apart.{apart-ends, same-ends-sym}
+use Rattle.balance.specs.Balance.{balance, balances}
 use Rattle.checks.specs.declared.Verdict.{Verdict}
 use Rattle.checks.specs.declared.Verdict.the-variants.{Accepted, Refused}
-use Rattle.checks.specs.Drawing.{endsInRange, rises, bitsInRange, faultAt, meetingAt, balance, balances, unbalancedAt}
+use Rattle.checks.specs.Drawing.{endsInRange, rises, bitsInRange, faultAt, meetingAt, unbalancedAt}
 use Rattle.checks.specs.Verdict.{Choice, Lent, Run, wrongLength, unknownChoice, tooShort, isAccepted, verdict}
 use Rattle.checks.specs.Runs.{clipRun}
 use Rattle.checks.specs.Accepted.{Good, inputOf, accepts}
-use Rattle.checks.proofs.Faults.{Faultless, faultless-at, proper, meetingless, balanced-at}
+use Rattle.checks.proofs.Faults.{Faultless, faultless-at, rising-starts, proper, meetingless, balanced-at}
 use Rattle.checks.proofs.Balances.{winding-bound}
 use Rattle.checks.proofs.Places.{first-none}
 use Rattle.checks.proofs.Order.{Passed, passed, passes}
@@ -34,27 +35,6 @@ use Rattle.checks.proofs.Order.{Passed, passed, passes}
 is-accepted : (v : Verdict) → isAccepted v ≡ true → v ≡ Accepted
 is-accepted Accepted e = refl
 is-accepted (Refused number place) e = absurd (true≢false (sym e))
-
--- ---- rising starts: each not less than the one before is each not less than any before
-abbrev Neighbours : Drawing → Type 0
-Neighbours [] = Unit {0}
-Neighbours (s ∷ []) = Unit {0}
-Neighbours (s ∷ (t ∷ d)) = (ltP (t .a) (s .a) ≡ false) × Neighbours (t ∷ d)
-
-neighbours : (d : Drawing) → ((i : ℕ) → suc i < length d → ltP (segmentAt d (suc i) .a) (segmentAt d i .a) ≡ false) → Neighbours d
-unfolding segmentAt
-neighbours [] h = tt
-neighbours (s ∷ []) h = tt
-neighbours (s ∷ (t ∷ d)) h = (h 0 (omega arith), neighbours (t ∷ d) (λ i l. h (suc i) (omega arith)))
-
-rising-pairs : (d : Drawing) → Neighbours d → Pairs (λ s t. ltP (t .a) (s .a) ≡ false) d
-rising-pairs [] n = tt
-rising-pairs (s ∷ []) n = (λ t m. absurd m, tt)
-rising-pairs (s ∷ (t ∷ d)) n = let p = rising-pairs (t ∷ d) (n .1) in (go (p .0), p)
-  where
-    go : ((u : Segment) → u ∈ d → ltP (u .a) (t .a) ≡ false) → (u : Segment) → (u ≡ t) ⊎ (u ∈ d) → ltP (u .a) (s .a) ≡ false
-    go p u (inl e) = ap (λ (i : Segment). ltP (i .a) (s .a)) e ∙ n .0
-    go p u (inr m) = not-less-trans (s .a) (t .a) (u .a) (n .0) (p u m)
 
 -- ---- balance: a point is an end, or nothing starts or ends there
 data End (d : Drawing) (p : Point) : Type 0 where
@@ -99,21 +79,17 @@ module _ (r : Run) (p : Passed r) where
   at : (i : ℕ) → i < length d → Faultless (segmentAt d (i - 1) .a) (segmentAt d i)
   at i l = faultless-at d i (first-none (faultAt d) d (p .faultless) i l)
 
-  everywhere : (P : Segment → Type 0) → ((i : ℕ) → i < length d → P (segmentAt d i)) → (s : Segment) → s ∈ d → P s
-  unfolding segmentAt
-  everywhere P h s m = let w = stands d nowhere s m in subst P (w .is) (h (w .place) (w .inside))
-
   pub passed-good : Good d
   unfolding segmentAt rises bitsInRange wrongLength
   passed-good = record {
     few = omega (arith, length-segments (r .numbers), ltb-false 1024 (count (r .numbers)) (nor-r (not (whole (r .numbers))) (ltb 1024 (count (r .numbers))) (p .right-length)));
-    near = everywhere (λ s. endsInRange s ≡ true) (λ i l. at i l .ends);
-    proper = everywhere (λ s. ltP (s .a) (s .b) ≡ true) (λ i l. at i l .order);
-    winding = everywhere _ (λ i l. winding-bound (segmentAt d i) (at i l .winding));
-    bits = everywhere _ (λ i l. (within-l (pos 0) (pos 3) (segmentAt d i .bits) (at i l .bits), within-r (pos 0) (pos 3) (segmentAt d i .bits) (at i l .bits)));
-    rising = rising-pairs d (neighbours d (λ i l. let k : suc i - 1 ≡ i = omega arith in subst (λ (k : ℕ). ltP (segmentAt d (suc i) .a) (segmentAt d k .a) ≡ false) k (at (suc i) l .after)));
+    near = everywhere d (λ s. endsInRange s ≡ true) (λ i l. at i l .ends);
+    proper = everywhere d (λ s. ltP (s .a) (s .b) ≡ true) (λ i l. at i l .order);
+    winding = everywhere d _ (λ i l. winding-bound (segmentAt d i) (at i l .winding));
+    bits = everywhere d _ (λ i l. (within-l (pos 0) (pos 3) (segmentAt d i .bits) (at i l .bits), within-r (pos 0) (pos 3) (segmentAt d i .bits) (at i l .bits)));
+    rising = rising-starts d at;
     apart = pairs-of (λ s t. meetsWrongly s t ≡ false) d nowhere (λ i l y m. any-false (meetsWrongly (segmentAt d i)) (drop (suc i) d) (meetingless d i (first-none (meetingAt d) d (p .apart) i l)) y m);
-    balanced = balanced-all d (everywhere (λ s. (balances d (s .a) ≡ true) × (balances d (s .b) ≡ true)) (λ i l. balanced-at d i (first-none (unbalancedAt d) d (p .balanced) i l)));
+    balanced = balanced-all d (everywhere d (λ s. (balances d (s .a) ≡ true) × (balances d (s .b) ≡ true)) (λ i l. balanced-at d i (first-none (unbalancedAt d) d (p .balanced) i l)));
   }
 
 pub verdict-good : (r : Run) → verdict r ≡ Accepted → Good (segments (r .numbers))

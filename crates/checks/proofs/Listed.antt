@@ -15,9 +15,10 @@ use Rattle.segm.specs.Lists.{_∈_, any}
 use Rattle.segm.specs.Segments.{Drawing, count, segments, nowhere, segmentAt}
 use Rattle.segm.proofs.Lists.{stands, any-some, any-false, in-after}
 use Rattle.meetings.specs.Meetings.{meetsWrongly}
+use Rattle.balance.specs.Balance.{balances}
 use Rattle.checks.specs.declared.Verdict.{Verdict}
 use Rattle.checks.specs.declared.Verdict.the-variants.{Accepted, Refused}
-use Rattle.checks.specs.Drawing.{endsInRange, rises, windingInRange, bitsInRange, fault, faultAt, meetingAt, balances, unbalancedAt}
+use Rattle.checks.specs.Drawing.{endsInRange, rises, windingInRange, bitsInRange, fault, faultAt, meetingAt, unbalancedAt}
 use Rattle.checks.specs.Verdict.{Run, wrongLength, unknownChoice, tooShort, refuseIf, first, inOrder, verdict}
 use Rattle.checks.specs.Accepted.{Fits, wrong-length, coordinate-out, not-rising, winding-out, bits-out, start-falls, wrong-meeting, a-unbalanced, b-unbalanced, unknown-choice, too-short}
 use Rattle.checks.proofs.Faults.{Faultless, faultless-at, meetingless, balanced-at}

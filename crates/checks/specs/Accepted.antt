@@ -12,7 +12,8 @@ use Rattle.segm.specs.declared.Segment.{Segment}
 use Rattle.segm.specs.Lists.{_∈_, Pairs}
 use Rattle.segm.specs.Segments.{Drawing, count, segments, segmentAt}
 use Rattle.meetings.specs.Meetings.{meetsWrongly}
-use Rattle.checks.specs.Drawing.{endsInRange, rises, windingInRange, bitsInRange, balance, balances}
+use Rattle.balance.specs.Balance.{balance, balances}
+use Rattle.checks.specs.Drawing.{endsInRange, rises, windingInRange, bitsInRange}
 use Rattle.checks.specs.Verdict.{Choice, Lent, Run, wrongLength, unknownChoice, tooShort, isAccepted, verdict}
 use Rattle.checks.specs.Runs.{clipRun}
 

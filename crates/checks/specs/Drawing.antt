@@ -2,13 +2,14 @@
 use mathlib.Core.Bool.{Bool, not, _&&_, cond}
 use Prim.Native.Nat.{ℕ, suc, _-_}
 use lib.ListN.{drop}
-use lib.IntN.{ℤ, pos, negℤ, _-ℤ_}
+use lib.IntN.{pos, negℤ}
 use Rattle.geom.specs.declared.Point.{Point}
-use Rattle.geom.specs.Points.{eqZ, within, ltP, eqP, inRange}
+use Rattle.geom.specs.Points.{within, ltP, inRange}
 use Rattle.segm.specs.declared.Segment.{Segment}
 use Rattle.segm.specs.Lists.{any}
-use Rattle.segm.specs.Segments.{Drawing, segmentAt, total}
+use Rattle.segm.specs.Segments.{Drawing, segmentAt}
 use Rattle.meetings.specs.Meetings.{meetsWrongly}
+use Rattle.balance.specs.Balance.{balances}
 
 -- ---- one segment
 -- both ends are in the coordinate range
@@ -46,13 +47,6 @@ unfoldable pub meetingAt : Drawing → ℕ → ℕ
 meetingAt d i = cond (any (meetsWrongly (segmentAt d i)) (drop (suc i) d)) 8 0
 
 -- ---- the segments at a point
--- the windings of the segments starting at p, less those of the segments ending there
-unfoldable pub balance : Drawing → Point → ℤ
-balance d p = total (λ s. eqP (s .a) p) d -ℤ total (λ s. eqP (s .b) p) d
-
-unfoldable pub balances : Drawing → Point → Bool
-balances d p = eqZ (balance d p) (pos 0)
-
 -- 9, at a segment that touches an unbalanced point
 unfoldable pub unbalancedAt : Drawing → ℕ → ℕ
 unbalancedAt d i = cond (balances d (segmentAt d i .a) && balances d (segmentAt d i .b)) 0 9

@@ -1,16 +1,11 @@
--- What the contracts of the inner functions cite: the code searches for refusals by place in one loop, and sums a balance segment by segment. Assumes nothing.
+-- What the contracts of the inner functions cite: the code searches for refusals 3 to 8 by place in one loop. Assumes nothing.
 use mathlib.Core.Path.{_≡_}
 use Prim.Native.Nat.{ℕ, _<_, _≤_}
 use lib.ListN.{length}
-use lib.IntN.{ℤ, _-ℤ_}
-use Rattle.geom.specs.declared.Point.{Point}
-use Rattle.geom.specs.Points.{eqP}
-use Rattle.segm.specs.declared.Segment.{Segment}
-use Rattle.segm.specs.Lists.{only}
 use Rattle.segm.specs.Segments.{Drawing}
 use Rattle.checks.specs.declared.Search.{Search}
-use Rattle.checks.specs.declared.Search.the-variants.{Faults, Meetings, Balance}
-use Rattle.checks.specs.Drawing.{faultAt, meetingAt, unbalancedAt}
+use Rattle.checks.specs.declared.Search.the-variants.{Faults, Meetings}
+use Rattle.checks.specs.Drawing.{faultAt, meetingAt}
 
 -- what 2 to 7 leave: enough to look at meetings and balance without overflow
 pub record Sound (d : Drawing) : Type 0 where
@@ -20,14 +15,8 @@ pub record Sound (d : Drawing) : Type 0 where
 abbrev pub numberAt : Search → Drawing → ℕ → ℕ
 numberAt Faults d = faultAt d
 numberAt Meetings d = meetingAt d
-numberAt Balance d = unbalancedAt d
 
--- meetings and balance are looked at only where 3 to 7 found nothing
+-- meetings are looked at only where 3 to 7 found nothing
 abbrev pub Ready : Search → Drawing → Type 0
 Ready Faults d = Unit {0}
 Ready Meetings d = Sound d
-Ready Balance d = Sound d
-
--- what s adds to the balance at p
-unfoldable pub share : Point → Segment → ℤ
-share p s = only (eqP (s .a) p) (s .winding) -ℤ only (eqP (s .b) p) (s .winding)

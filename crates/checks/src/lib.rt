@@ -4,15 +4,14 @@ use geom::Point;
 use segm::Segment;
 ghost use mathlib.Core.Path.{_≡_};
 ghost use Prim.Native.Nat.{_-_, _<_};
-ghost use mathlib.Core.Bool.{true};
 ghost use lib.ListN.{length, drop};
 ghost use Rattle.segm.specs.Lists.{any};
 ghost use Rattle.segm.specs.Segments.{segments};
 ghost use Rattle.meetings.specs.Meetings.{Proper, meetsWrongly};
-ghost use Rattle.checks.specs.Drawing.{windingInRange, fault, faultAt, meetingAt, balance, unbalancedAt};
+ghost use Rattle.checks.specs.Drawing.{fault, faultAt, meetingAt, unbalancedAt};
 ghost use Rattle.checks.specs.Verdict.{wrongLength, unknownChoice, tooShort, first, inOrder, verdict};
 ghost use Rattle.checks.specs.Runs.{upTo, lent, fillsRun, clipRun, sliceRun};
-ghost use Rattle.checks.specs.Search.{Sound, Ready, numberAt, share};
+ghost use Rattle.checks.specs.Search.{Sound, Ready, numberAt};
 
 // What a check finds: nothing wrong, or a refusal's number and place.
 pub enum Verdict {
@@ -90,53 +89,10 @@ fn meeting_at(s: &[i32], i: usize) -> u32
     0
 }
 
-// What t adds to the balance at p.
-fn share(p: Point, t: Segment) -> i32
-    requires { ⌜ windingInRange t ≡ true ⌝ }
-    ensures { λ r. ⌜ r ≡ share p t ⌝ }
-{
-    let a = t.a;
-    let b = t.b;
-    segm::only(geom::same(a, p), t.winding) - segm::only(geom::same(b, p), t.winding)
-}
-
-// The windings starting at p, less those ending there.
-fn balance(s: &[i32], p: Point) -> i32
-    requires { ⌜ Sound (segments (now s)) ⌝ }
-    ensures { λ r. ⌜ r ≡ balance (segments (now (s .entry))) p ⌝ }
-{
-    let n = segm::count(s);
-    let mut sum: i32 = 0;
-    let mut i: usize = 0;
-    while i < n {
-        sum += share(p, segm::segment_at(s, i));
-        i += 1;
-    }
-    sum
-}
-
-// Refusal 9 at place i.
-fn unbalanced_at(s: &[i32], i: usize) -> u32
-    requires { ⌜ Sound (segments (now s)) ⌝ }
-    ensures { λ r. ⌜ r ≡ unbalancedAt (segments (now (s .entry))) i ⌝ }
-{
-    let t = segm::segment_at(s, i);
-    let a = t.a;
-    let b = t.b;
-    if balance(s, a) != 0 {
-        return 9;
-    }
-    if balance(s, b) != 0 {
-        return 9;
-    }
-    0
-}
-
 // The refusals that are searched for by place.
 enum Search {
     Faults,
     Meetings,
-    Balance,
 }
 
 // What a search finds at place i, 0 for nothing.
@@ -147,7 +103,6 @@ fn number_at(search: Search, s: &[i32], i: usize) -> u32
     match search {
         Search::Faults => fault_at(s, i),
         Search::Meetings => meeting_at(s, i),
-        Search::Balance => unbalanced_at(s, i),
     }
 }
 
@@ -166,6 +121,18 @@ fn find_first(search: Search, s: &[i32]) -> Verdict
         i += 1;
     }
     Verdict::Accepted
+}
+
+// Refusal 9, at the first place of a segment that touches an unbalanced point.
+fn find_unbalanced(s: &[i32]) -> Verdict
+    requires { ⌜ Sound (segments (now s)) ⌝ }
+    ensures { λ r. ⌜ r ≡ first (unbalancedAt (segments (now (s .entry)))) (segments (now (s .entry))) ⌝ }
+{
+    let place = balance::first_unbalanced(s);
+    if segm::count(s) <= place {
+        return Verdict::Accepted;
+    }
+    Verdict::Refused(9, place)
 }
 
 // Every refusal in its order, of which 10 and 11 have been tried.
@@ -192,7 +159,7 @@ fn in_order(s: &[i32], unknown: bool, short: bool) -> Verdict
     let Verdict::Accepted = meetings else {
         return meetings;
     };
-    find_first(Search::Balance, s)
+    find_unbalanced(s)
 }
 
 // Whether a choice is none of 0 to the greatest.

@@ -24,7 +24,7 @@ use Rattle.checks.specs.Runs.{upTo, ruleChoice, flagChoice, clipRun}
 use Rattle.checks.specs.Accepted.{accepts, Good}
 use Rattle.checks.proofs.Order.{passed}
 use Rattle.checks.proofs.Good.{verdict-known, accepted-input, accepted-good, accepted-run}
-use Rattle.build.specs.Fills.{ruleOf}
+use Rattle.fill_rule.specs.FillRule.{ruleOf}
 use Rattle.build.specs.Links.{filterOf}
 use Rattle.string_clip.specs.declared.Clipped.the-variants.{Done}
 use Rattle.string_clip.specs.Claim.{Room}

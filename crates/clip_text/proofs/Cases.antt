@@ -6,10 +6,13 @@ use Rattle.geom.specs.Points.{eqZ, within, ltP, eqP, coordinate, inRange, cross
 use Rattle.segm.specs.Lists.{any, sum, tally, keep, written, upFrom}
 use Rattle.segm.specs.Segments.{front, segmentsOf, count, whole, segments, segmentAt, total}
 use Rattle.meetings.specs.Meetings.{side, parts, inside, sameEnds, meetsWrongly}
-use Rattle.checks.specs.Drawing.{endsInRange, rises, windingInRange, bitsInRange, fault, faultAt, meetingAt, balance, balances, unbalancedAt}
+use Rattle.balance.specs.Balance.{balance, balances}
+use Rattle.checks.specs.Drawing.{endsInRange, rises, windingInRange, bitsInRange, fault, faultAt, meetingAt, unbalancedAt}
 use Rattle.checks.specs.Verdict.{wrongLength, unknownChoice, tooShort, firstFrom, first, inOrder, verdict}
 use Rattle.checks.specs.Runs.{clipRun}
-use Rattle.build.specs.Fills.{spans, above, clockwise, met, bottom, top, filled, ruleOf, fillOf, fill}
+use Rattle.fill_rule.specs.FillRule.{filled, ruleOf, fillOf}
+use Rattle.strip.specs.Strip.{spans, above, clockwise}
+use Rattle.ray.specs.Ray.{met, bottom, top, fill}
 use Rattle.build.specs.Links.{sidesSet, keepsSides, keeps, filterOf, keptLinks}
 use Rattle.graph.specs.Nodes.{node}
 use Rattle.clip_walk.specs.Walk.{has, clear, asDrawn, isLeft, taken, takenAll, bitsLeft, firstLeft, bothMoves, begins, way, over, other, fitting, goesOn, follow, pathFrom, walkFrom, walk}

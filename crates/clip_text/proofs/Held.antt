@@ -13,7 +13,7 @@ use Rattle.checks.specs.declared.Verdict.{Verdict}
 use Rattle.checks.specs.declared.Verdict.the-variants as verdict-is
 use Rattle.checks.specs.Verdict.{verdict}
 use Rattle.checks.specs.Runs.{clipRun}
-use Rattle.build.specs.Fills.{ruleOf}
+use Rattle.fill_rule.specs.FillRule.{ruleOf}
 use Rattle.build.specs.Links.{filterOf}
 use Rattle.string_clip.specs.declared.Clipped.the-variants.{Refused}
 use Rattle.string_clip.specs.Paths.{clipPaths}

@@ -1,5 +1,7 @@
+pub mod Congruence
 pub mod Ends
 pub mod Merging
 pub mod Ordered
 pub mod Parts
+pub mod Turns
 pub mod Unique

@@ -31,7 +31,7 @@ cross-four a b c d =
 
 -- ---- the angular order about a
 -- b stands above a, c is not to the left of a: c is not left of a b
-not-left : (a b c : Point) → a .x ≡ b .x → a .y <ℤ b .y → a .x ≤ℤ c .x → pos 0 <ℤ cross a b c → ⊥
+pub not-left : (a b c : Point) → a .x ≡ b .x → a .y <ℤ b .y → a .x ≤ℤ c .x → pos 0 <ℤ cross a b c → ⊥
 unfolding cross
 not-left a b c e h k l = clash (subst (λ x. pos 0 <ℤ cross a (record { x = x; y = b .y }) c) (sym e) l)
   where

@@ -1,5 +1,5 @@
 -- The ends of all links in order, and the nodes that parts of them are.
-use mathlib.Core.Path.{_≡_, sym, ap, ap₂, subst, _∙_}
+use mathlib.Core.Path.{_≡_, refl, sym, ap, ap₂, subst, _∙_}
 use mathlib.Core.List.{List, map}
 use mathlib.Core.Bool.{Bool, true, false, _||_}
 use Prim.Native.Nat.{ℕ, _-_, _*_, _<_}
@@ -10,18 +10,18 @@ use borrow.Author.Tests.{eqb-true, eqb-false}
 use Rattle.integers.proofs.Booleans.{one-of, nor-l, nor-r}
 use Rattle.geom.specs.declared.Point.{Point}
 use Rattle.geom.specs.Points.{ltP, eqP}
-use Rattle.geom.proofs.Points.{eqP-true, ltP-irrefl}
+use Rattle.geom.proofs.Points.{eqP-true, eq-eqP, ltP-irrefl}
 use Rattle.segm.specs.Lists.{_∈_, Pairs, keep, upFrom}
 use Rattle.segm.specs.Segments.{Drawing}
 use Rattle.segm.proofs.Lists.{stands}
-use Rattle.segm.proofs.Tallies.{cases, keep-in, in-upFrom, upFrom-in, length-upFrom}
+use Rattle.segm.proofs.Tallies.{cases, keep-in, in-keep, in-upFrom, upFrom-in, length-upFrom, pairs-upFrom}
 use Rattle.ends.specs.Ends.{endPoint, endBefore}
 use Rattle.ends.specs.Ordering.{ordering}
 use Rattle.ends.proofs.Ordered.{length-ordering, in-ordering, pairs-ordering, rises, stable, ends-weak}
 use Rattle.graph.specs.Nodes.{linkOf, part, Nodes}
-use Rattle.graph.proofs.Node.{pairs-upFrom, links-at}
+use Rattle.graph.proofs.Node.{links-at}
 use Rattle.graph.proofs.Parts.{pointAt, begins-first, together}
-use Rattle.graph.proofs.Numbering.{Whole}
+use Rattle.graph.proofs.Numbering.{Whole, Agree}
 
 module _ (links : Drawing) where
   -- the ends at p
@@ -61,7 +61,8 @@ module _ (links : Drawing) where
 
   -- each place has its node
   module _ {flat : List ℕ} (o : Ordered flat) (S N : List ℕ) (long : length N ≡ 2 * length links)
-      (whole : (q : ℕ) → q < length flat → Whole (endPoint links) flat S (pointAt (endPoint links) flat q) (getD N (getD flat q 0) 0)) where
+      (whole : (q : ℕ) → q < length flat → Whole (endPoint links) flat S (pointAt (endPoint links) flat q) (getD N (getD flat q 0) 0))
+      (agree : Agree (endPoint links) flat (length flat) N) where
     each : (e : ℕ) → e < 2 * length links → Whole (endPoint links) flat S (endPoint links e) (getD N e 0)
     each e h = let s = stands flat 0 e (o .has e h) in subst (λ x. Whole (endPoint links) flat S (endPoint links x) (getD N x 0)) (s .is) (whole (s .place) (s .inside))
 
@@ -69,11 +70,27 @@ module _ (links : Drawing) where
     unfolding part
     part-is e h = let t = each e h in together (endPoint links) flat (t .begins) (t .stops)
 
+    one-node : (e f : ℕ) → e < 2 * length links → f < 2 * length links → endPoint links e ≡ endPoint links f → getD N e 0 ≡ getD N f 0
+    one-node e f h k p =
+        let s = stands flat 0 e (o .has e h) in
+        let t = stands flat 0 f (o .has f k) in
+        let eq = ap (endPoint links) (s .is) ∙ p ∙ ap (endPoint links) (sym (t .is)) in
+        ap (λ x. getD N x 0) (sym (s .is)) ∙ agree (s .place) (t .place) (s .inside) (t .inside) eq ∙ ap (λ x. getD N x 0) (t .is)
+
+    -- e is in its own part, which is that of f
+    one-point : (e f : ℕ) → e < 2 * length links → f < 2 * length links → getD N e 0 ≡ getD N f 0 → endPoint links e ≡ endPoint links f
+    one-point e f h k n =
+        let m = in-keep (here (endPoint links e)) e flat (o .has e h) (eq-eqP refl) in
+        let p = sym (part-is e h) ∙ ap (part flat S) n ∙ part-is f k in
+        eqP-true (keep-in (here (endPoint links f)) e flat (subst (λ (l : List ℕ). e ∈ l) p m) .1)
+
     pub nodes-of : Nodes links flat S N
     nodes-of = record {
       all-ends = o .all;
       each-end = omega arith;
       known = λ e h. each e h .known;
+      same = one-node;
+      at-one = one-point;
       rising = λ e h. let t = each e h in begins-first (endPoint links) flat (t .begins) (t .stops);
       inside = λ e h. omega (arith, each e h .stops .inside, o .all);
       ends = λ e f h m. let r = keep-in (here (endPoint links e)) f flat (subst (λ (l : List ℕ). f ∈ l) (part-is e h) m) in (o .below f (r .0), eqP-true (r .1));

@@ -11,13 +11,13 @@ use Rattle.segm.specs.declared.Segment.{Segment}
 use Rattle.segm.specs.Lists.{upFrom}
 use Rattle.segm.specs.Segments.{Drawing, nowhere, segmentAt}
 use Rattle.segm.proofs.Lists.{in-after, pairs-places}
-use Rattle.segm.proofs.Tallies.{length-upFrom}
+use Rattle.segm.proofs.Tallies.{length-upFrom, pairs-upFrom}
 use Rattle.ends.specs.Ends.{endBefore}
 use Rattle.ends.specs.Ordering.{ordering, merge}
 use Rattle.ends.proofs.Ends.{end-a}
 use Rattle.ends.proofs.Ordered.{Rises, merge-ordering, ordering-same, ends-weak}
 use Rattle.graph.specs.Nodes.{Rising}
-use Rattle.graph.proofs.Node.{pairs-upFrom, both-ends}
+use Rattle.graph.proofs.Node.{both-ends}
 
 module _ (links : Drawing) where
   abbrev before : ℕ → ℕ → Bool

@@ -11,7 +11,7 @@ use borrow.Author.Tests.{lt-ltb, le-ltb}
 use Rattle.geom.specs.declared.Point.{Point}
 use Rattle.geom.specs.Points.{eqP}
 use Rattle.geom.proofs.Points.{eqP-true}
-use Rattle.segm.specs.Lists.{_∈_, Pairs, keep, upFrom}
+use Rattle.segm.specs.Lists.{_∈_, keep, upFrom}
 use Rattle.segm.specs.Segments.{Drawing, segmentAt}
 use Rattle.segm.proofs.Tallies.{cases, in-++, in-upFrom, keep-in, keep-++, keep-cong, keep-map, upFrom-++}
 use Rattle.ends.specs.Ends.{endPoint}
@@ -19,12 +19,6 @@ use Rattle.ends.proofs.Ends.{end-a, end-b}
 use Rattle.graph.specs.Nodes.{node, linkOf, otherEnd}
 
 -- ---- numbers in a row
--- R holds of every two, the lesser first
-pub pairs-upFrom : (R : ℕ → ℕ → Type 0) (k n : ℕ) → ((i j : ℕ) → i < j → j < k + n → R i j) → Pairs R (upFrom k n)
-unfolding upFrom
-pairs-upFrom R k zero f = tt
-pairs-upFrom R k (suc n) f = (λ j m. let b = in-upFrom j (suc k) n m in f k j (omega (arith, b .0)) (omega (arith, b .1)), pairs-upFrom R (suc k) n (λ i j h l. f i j h (omega arith)))
-
 -- the starting ends of m links, then the others
 pub both-ends : (m : ℕ) → upFrom 0 (2 * m) ≡ upFrom 0 m ++ upFrom m m
 both-ends m =

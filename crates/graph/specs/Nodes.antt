@@ -36,6 +36,9 @@ pub record Nodes (links : Drawing) (flat starts nodes : List ℕ) : Type 0 where
   pub all-ends : length flat ≡ 2 * length links
   pub each-end : 2 * length links ≤ length nodes
   pub known : (e : ℕ) → e < 2 * length links → suc (getD nodes e 0) < length starts
+  -- ends at one point have one node, and those of one node are at one point
+  pub same : (e f : ℕ) → e < 2 * length links → f < 2 * length links → endPoint links e ≡ endPoint links f → getD nodes e 0 ≡ getD nodes f 0
+  pub at-one : (e f : ℕ) → e < 2 * length links → f < 2 * length links → getD nodes e 0 ≡ getD nodes f 0 → endPoint links e ≡ endPoint links f
   pub rising : (e : ℕ) → e < 2 * length links → getD starts (getD nodes e 0) 0 ≤ getD starts (suc (getD nodes e 0)) 0
   pub inside : (e : ℕ) → e < 2 * length links → getD starts (suc (getD nodes e 0)) 0 ≤ 2 * length links
   pub ends : (e f : ℕ) → e < 2 * length links → f ∈ part flat starts (getD nodes e 0) → (f < 2 * length links) × (endPoint links f ≡ endPoint links e)

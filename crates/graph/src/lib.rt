@@ -1,4 +1,5 @@
 // Nodes: the links at each point, as one flat list of ends with starts. Every function here is proved, and the crate assumes nothing of its own.
+use ends::By;
 ghost use mathlib.Core.Path.{_≡_};
 ghost use mathlib.Core.Bool.{_||_};
 ghost use Prim.Native.Nat.{_-_, _*_, _≤_, _<_};
@@ -25,18 +26,6 @@ pub fn other_end(m: usize, e: usize) -> usize
     if e < m { m + e } else { e - m }
 }
 
-// 0, 1, 2, ..
-fn count_up(order: &mut [u32])
-    requires { ⌜ length (now order) ≤ 2048 ⌝ }
-    ensures { λ _. ⌜ now (order .exit) ≡ upFrom 0 (length (now (order .entry))) ⌝ }
-{
-    let mut k: usize = 0;
-    while k < order.len() {
-        order[k] = k as u32;
-        k += 1;
-    }
-}
-
 // Whether a node starts at place i of the ordered ends: the end in front of it lies before it, or there is none.
 fn starts_node(links: &[i32], flat: &[u32], i: usize) -> bool
     requires { ⌜ i < length (now flat) ⌝ }
@@ -45,7 +34,7 @@ fn starts_node(links: &[i32], flat: &[u32], i: usize) -> bool
     if i == 0 {
         return true;
     }
-    ends::is_before(links, flat[i - 1], flat[i])
+    ends::is_before(By::Position, links, flat[i - 1], flat[i])
 }
 
 // Numbers the nodes: where each one starts among the ordered ends, and which one each end is at.
@@ -80,8 +69,8 @@ pub fn build_nodes(links: &[i32], flat: &mut [u32], starts: &mut [u32], nodes: &
     ensures { λ _. ⌜ Nodes (segments (now (links .entry))) (now (flat .exit)) (now (starts .exit)) (now (nodes .exit)) ⌝ }
 {
     let m = segm::count(links);
-    count_up(nodes);
-    ends::order_ends(links, &mut nodes[m..], flat);
-    ends::merge_into(links, nodes, m, flat);
+    ends::count_from(nodes, 0);
+    ends::order_ends(By::Position, links, &mut nodes[m..], flat);
+    ends::merge_into(By::Position, links, nodes, m, flat);
     number_nodes(links, flat, starts, nodes);
 }

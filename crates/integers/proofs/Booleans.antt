@@ -26,6 +26,10 @@ pub not-r : (a : Bool) {b : Bool} → b ≡ false → (a && b) ≡ false
 not-r true p = p
 not-r false p = refl
 
+-- a test that holds, before another
+pub on : {s u v : Bool} → s ≡ true → u ≡ v → (s && u) ≡ v
+on {u = u} p q = ap (λ (b : Bool). b && u) p ∙ q
+
 pub and-true : (a : Bool) {b : Bool} → b ≡ true → (a && b) ≡ a
 and-true true p = p
 and-true false p = refl

@@ -2,8 +2,8 @@
 use mathlib.Core.List.{List}
 use Prim.Native.Nat.{ℕ}
 use lib.IntN.{ℤ}
-use Rattle.build.specs.declared.ray.Filled.{Filled}
-use Rattle.build.specs.declared.ray.Filled.the-variants.{Done, Refused}
+use Rattle.build.specs.declared.run.Filled.{Filled}
+use Rattle.build.specs.declared.run.Filled.the-variants.{Done, Refused}
 use Rattle.build.specs.Fills.{fillsOutcome}
 use Rattle.string_clip.specs.declared.Clipped.{Clipped}
 use Rattle.string_clip.specs.declared.Clipped.the-variants as clipped-is

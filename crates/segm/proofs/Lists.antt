@@ -1,5 +1,5 @@
 -- Laws of lists, members, places and sums: each once, for any list and any summand.
-use mathlib.Core.Path.{_≡_, refl, sym, _∙_, ap, ap₂}
+use mathlib.Core.Path.{_≡_, refl, sym, _∙_, ap, ap₂, subst}
 use mathlib.Core.List.{List, [], _∷_, _++_, map, flatten, map-append, append-assoc, append-nil}
 use mathlib.Core.Logic.{_⊎_, inl, inr}
 use mathlib.Core.Bool.{Bool, true, false, _||_, true≢false}
@@ -60,6 +60,14 @@ module _ {A : Type 0} where
   pairs-map [] f h = tt
   pairs-map (x ∷ l) f h = (λ y m. f x y (inl refl) (inr m) (h .0 y m), pairs-map l (λ y z m n. f y z (inr m) (inr n)) (h .1))
 
+  -- two members stand at one place or at two
+  pub pairs-at : (R : A → A → Type 0) (l : List A) → Pairs R l → (x y : A) → x ∈ l → y ∈ l → (x ≡ y) ⊎ (R x y ⊎ R y x)
+  pairs-at R [] h x y m n = absurd m
+  pairs-at R (z ∷ l) h x y (inl e) (inl f) = inl (e ∙ sym f)
+  pairs-at R (z ∷ l) h x y (inl e) (inr n) = inr (inl (subst (λ w. R w y) (sym e) (h .0 y n)))
+  pairs-at R (z ∷ l) h x y (inr m) (inl f) = inr (inr (subst (λ w. R w x) (sym f) (h .0 x m)))
+  pairs-at R (z ∷ l) h x y (inr m) (inr n) = pairs-at R l (h .1) x y m n
+
   -- a later place
   pub in-after : (l : List A) (z : A) (i j : ℕ) → i < j → j < length l → getD l j z ∈ drop (suc i) l
   in-after [] z i j h k = absurd (omega arith)
@@ -73,6 +81,12 @@ module _ {A : Type 0} where
   in-take (suc k) [] x m = absurd m
   in-take (suc k) (y ∷ l) x (inl e) = inl e
   in-take (suc k) (y ∷ l) x (inr m) = inr (in-take k l x m)
+
+  -- past the first k
+  pub in-drop : (k : ℕ) (l : List A) (x : A) → x ∈ drop k l → x ∈ l
+  in-drop zero l x m = m
+  in-drop (suc k) [] x m = m
+  in-drop (suc k) (y ∷ l) x m = inr (in-drop k l x m)
 
   -- ---- some member
   pub any-false : (P : A → Bool) (l : List A) → any P l ≡ false → (x : A) → x ∈ l → P x ≡ false

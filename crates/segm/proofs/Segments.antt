@@ -1,16 +1,16 @@
 -- Segments by place, and what a sum of windings depends on.
-use mathlib.Core.Path.{_≡_, refl, sym, _∙_, ap, subst}
+use mathlib.Core.Path.{_≡_, refl, sym, _∙_, ap, ap₂, subst}
 use mathlib.Core.List.{List, _++_}
-use mathlib.Core.Bool.{Bool, true, false}
+use mathlib.Core.Bool.{Bool, true, false, _&&_}
 use Prim.Native.Nat.{ℕ, zero, suc, _+_, _*_, _<_, _≤_}
 use native.Mathlib.Omega.{arith}
 use lib.ListN.{length, getD, drop, List·getD-eq-default}
 use lib.Seq.{drop-drop, getD-drop}
-use lib.IntN.{ℤ, pos, natAbs, _+ℤ_}
+use lib.IntN.{ℤ, pos, natAbs, _+ℤ_, +ℤ-comm, +ℤ-idl, +ℤ-idr}
 use Rattle.segm.specs.declared.Segment.{Segment}
 use Rattle.segm.specs.Lists.{_∈_, only}
 use Rattle.segm.specs.Segments.{Drawing, width, front, segmentsOf, count, segments, nowhere, segmentAt, total}
-use Rattle.segm.proofs.Lists.{in-at, sum-cong, sum-zero, sum-++, sum-split, sum-trade}
+use Rattle.segm.proofs.Lists.{in-at, stands, sum-cong, sum-zero, sum-++, sum-split, sum-trade}
 
 length-segmentsOf : (n : ℕ) (l : List ℤ) → length (segmentsOf n l) ≡ n
 unfolding segmentsOf
@@ -53,6 +53,11 @@ pub segment-in : (d : Drawing) (i : ℕ) {s : Segment} → s ≡ segmentAt d i �
 unfolding segmentAt
 segment-in d i e h = subst (λ (t : Segment). t ∈ d) (sym e) (in-at d nowhere i h)
 
+-- what holds of every place holds of every segment
+pub everywhere : (d : Drawing) (P : Segment → Type 0) → ((i : ℕ) → i < length d → P (segmentAt d i)) → (s : Segment) → s ∈ d → P s
+unfolding segmentAt
+everywhere d P h s m = let w = stands d nowhere s m in subst P (w .is) (h (w .place) (w .inside))
+
 pub past : (d : Drawing) (i : ℕ) → length d ≤ i → segmentAt d i ≡ nowhere
 unfolding segmentAt
 past d i h = List·getD-eq-default d nowhere h
@@ -62,8 +67,26 @@ pub only-bound : (b : Bool) (w : ℤ) {k : ℕ} → natAbs w ≤ k → natAbs (o
 only-bound true w h = h
 only-bound false w h = omega arith
 
-only-cong : {a b : Bool} (w : ℤ) → a ≡ b → only a w ≡ only b w
+pub only-cong : {a b : Bool} (w : ℤ) → a ≡ b → only a w ≡ only b w
 only-cong w e = ap (λ (c : Bool). only c w) e
+
+-- two tests that say the same as two others, in their order or crossed
+pub straight : {a b c d : Bool} (w : ℤ) → a ≡ c → b ≡ d → only a w +ℤ only b w ≡ only c w +ℤ only d w
+straight w p q = ap₂ _+ℤ_ (only-cong w p) (only-cong w q)
+
+pub crossed : {a b c d : Bool} (w : ℤ) → a ≡ d → b ≡ c → only a w +ℤ only b w ≡ only c w +ℤ only d w
+crossed {c = c} {d = d} w p q = straight w p q ∙ +ℤ-comm (only d w) (only c w)
+
+-- a test that says the same as one of two, where the other does not hold
+pub first-only : {a b c : Bool} (w : ℤ) → a ≡ b → c ≡ false → only a w ≡ only b w +ℤ only c w
+first-only {b = b} w p q = only-cong w p ∙ sym (+ℤ-idr (only b w)) ∙ ap (λ z. only b w +ℤ z) (only-cong w (sym q))
+
+pub second-only : {a b c : Bool} (w : ℤ) → b ≡ false → a ≡ c → only a w ≡ only b w +ℤ only c w
+second-only {c = c} w p q = only-cong w q ∙ sym (+ℤ-idl (only c w)) ∙ ap (λ z. z +ℤ only c w) (only-cong w (sym p))
+
+pub only-both : (p q : Bool) (w : ℤ) → only p (only q w) ≡ only (p && q) w
+only-both true q w = refl
+only-both false q w = refl
 
 module _ (d : Drawing) where
   pub total-cong : (P Q : Segment → Bool) → ((s : Segment) → s ∈ d → P s ≡ Q s) → total P d ≡ total Q d

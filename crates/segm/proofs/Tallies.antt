@@ -1,5 +1,5 @@
 -- Laws of tallies, of members of joined and mapped lists, of the members that pass a test, and of numbers in a row.
-use mathlib.Core.Path.{_≡_, refl, _∙_, ap, ap₂}
+use mathlib.Core.Path.{_≡_, refl, sym, _∙_, ap, ap₂}
 use mathlib.Core.List.{List, [], _∷_, _++_, map}
 use mathlib.Core.Logic.{_⊎_, inl, inr}
 use mathlib.Core.Bool.{Bool, true, false, cond}
@@ -9,7 +9,8 @@ use native.Mathlib.Decide.{decLe}
 use native.Mathlib.Numerals.{add-one}
 use lib.ListN.{length, getD, take, drop, take-append-drop}
 use lib.Seq.{take-suc}
-use Rattle.segm.specs.Lists.{_∈_, Pairs, tally, keep, upFrom}
+use lib.IntN.{ℤ, pos, _+ℤ_, +ℤ-idl}
+use Rattle.segm.specs.Lists.{_∈_, Pairs, sum, tally, keep, upFrom, only}
 
 pub cases : {A B C : Type 0} → (A → C) → (B → C) → A ⊎ B → C
 cases f g (inl a) = f a
@@ -41,6 +42,11 @@ module _ {A : Type 0} where
   unfolding tally
   tally-map f g [] = refl
   tally-map f g (x ∷ l) = ap (f (g x) +_) (tally-map f g l)
+
+  pub sum-tally : (f : A → ℕ) (l : List A) → sum (λ x. pos (f x)) l ≡ pos (tally f l)
+  unfolding sum tally
+  sum-tally f [] = refl
+  sum-tally f (x ∷ l) = ap (λ z. pos (f x) +ℤ z) (sum-tally f l)
 
   pub tally-in : (f : A → ℕ) (x : A) (l : List A) → x ∈ l → f x ≤ tally f l
   unfolding tally
@@ -153,6 +159,15 @@ module _ {A : Type 0} where
         go true h = omega arith
         go false h = omega arith
 
+    pub keep-sum : (f : A → ℤ) (l : List A) → sum f (keep P l) ≡ sum (λ x. only (P x) (f x)) l
+    unfolding keep sum
+    keep-sum f [] = refl
+    keep-sum f (x ∷ l) = go (P x) (keep-sum f l)
+      where
+        go : (b : Bool) → sum f (keep P l) ≡ sum (λ y. only (P y) (f y)) l → sum f (cond b (x ∷ keep P l) (keep P l)) ≡ only b (f x) +ℤ sum (λ y. only (P y) (f y)) l
+        go true e = ap (λ z. f x +ℤ z) e
+        go false e = e ∙ sym (+ℤ-idl (sum (λ y. only (P y) (f y)) l))
+
     -- what holds of every two places
     pub pairs-keep : (R : A → A → Type 0) (l : List A) → Pairs R l → Pairs R (keep P l)
     unfolding keep
@@ -204,3 +219,9 @@ pub upFrom-++ : (k m n : ℕ) → upFrom k (m + n) ≡ upFrom k m ++ upFrom (k +
 unfolding upFrom
 upFrom-++ k zero n = let e : k + 0 ≡ k = omega arith in let f : 0 + n ≡ n = omega arith in rw (e, f)
 upFrom-++ k (suc m) n = let e : k + suc m ≡ suc k + m = omega arith in let f : suc m + n ≡ suc (m + n) = omega arith in rw (e, f) (ap (k ∷_) (upFrom-++ (suc k) m n))
+
+-- R holds of every two, the lesser first
+pub pairs-upFrom : (R : ℕ → ℕ → Type 0) (k n : ℕ) → ((i j : ℕ) → i < j → j < k + n → R i j) → Pairs R (upFrom k n)
+unfolding upFrom
+pairs-upFrom R k zero f = tt
+pairs-upFrom R k (suc n) f = (λ j m. let b = in-upFrom j (suc k) n m in f k j (omega (arith, b .0)) (omega (arith, b .1)), pairs-upFrom R (suc k) n (λ i j h l. f i j h (omega arith)))

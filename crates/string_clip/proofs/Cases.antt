@@ -11,11 +11,14 @@ use Rattle.segm.specs.CaseA.{segment, A}
 use Rattle.segm.specs.Segments.{front, segmentsOf, count, whole, segments, segmentAt, total}
 use Rattle.meetings.specs.Meetings.{side, parts, inside, sameEnds, meetsWrongly}
 use Rattle.checks.specs.declared.Verdict.the-variants.{Accepted}
-use Rattle.checks.specs.Drawing.{endsInRange, rises, windingInRange, bitsInRange, fault, faultAt, meetingAt, balance, balances, unbalancedAt}
+use Rattle.balance.specs.Balance.{balance, balances}
+use Rattle.checks.specs.Drawing.{endsInRange, rises, windingInRange, bitsInRange, fault, faultAt, meetingAt, unbalancedAt}
 use Rattle.checks.specs.Verdict.{wrongLength, unknownChoice, tooShort, firstFrom, first, inOrder, verdict}
 use Rattle.checks.specs.Runs.{clipRun}
 use Rattle.checks.specs.Accepted.{accepts}
-use Rattle.build.specs.Fills.{spans, above, clockwise, met, bottom, top, filled, ruleOf, fillOf, fill}
+use Rattle.fill_rule.specs.FillRule.{filled, ruleOf, fillOf}
+use Rattle.strip.specs.Strip.{spans, above, clockwise}
+use Rattle.ray.specs.Ray.{met, bottom, top, fill}
 use Rattle.build.specs.Links.{sidesSet, keepsSides, keeps, filterOf, keptLinks}
 use Rattle.graph.specs.Nodes.{node}
 use Rattle.string_clip.specs.declared.Clipped.{Clipped}

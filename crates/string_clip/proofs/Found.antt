@@ -14,9 +14,9 @@ use Rattle.segm.specs.Lists.{_∈_, tally}
 use Rattle.segm.specs.Segments.{Drawing}
 use Rattle.segm.proofs.Tallies.{tally-cong, tally-one, tally-map, length-keep}
 use Rattle.checks.specs.Accepted.{Good}
-use Rattle.build.specs.declared.ray.Rule.{Rule}
+use Rattle.fill_rule.specs.declared.Rule.{Rule}
 use Rattle.build.specs.declared.links.Filter.{Filter}
-use Rattle.build.specs.Fills.{fill}
+use Rattle.ray.specs.Ray.{fill}
 use Rattle.build.specs.Links.{keeps, keptLinks}
 use Rattle.clip_walk.specs.Walk.{has, lineBits, Step, asDrawn, one, linesIn, bitsLeft, walk}
 use Rattle.string_clip.specs.Paths.{linesOf, pathPoints, clipPaths, stepsFrom, stepsOfPath, stepsOf, travelOf}

@@ -14,7 +14,7 @@ use Rattle.segm.specs.declared.Segment.{Segment}
 use Rattle.segm.specs.Segments.{Drawing}
 use Rattle.checks.specs.Drawing.{endsInRange}
 use Rattle.checks.specs.Accepted.{Good}
-use Rattle.build.specs.declared.ray.Rule.{Rule}
+use Rattle.fill_rule.specs.declared.Rule.{Rule}
 use Rattle.build.specs.declared.links.Filter.{Filter}
 use Rattle.build.specs.Links.{keptLinks}
 use Rattle.build.proofs.Kept.{length-kept, kept-in, pairs-kept}

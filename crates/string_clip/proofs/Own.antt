@@ -16,12 +16,13 @@ use Rattle.segm.specs.Lists.{_∈_, Pairs, tally, keep}
 use Rattle.segm.specs.Segments.{Drawing}
 use Rattle.segm.proofs.Tallies.{cases, tally-nil, keep-in}
 use Rattle.meetings.specs.Meetings.{sameEnds}
-use Rattle.build.specs.declared.ray.Rule.{Rule}
+use Rattle.fill_rule.specs.declared.Rule.{Rule}
 use Rattle.build.specs.declared.links.Filter.{Filter}
 use Rattle.build.specs.declared.links.Filter.the-variants.{InsideIncluded, InsideExcluded, OutsideIncluded, OutsideExcluded}
-use Rattle.build.specs.Fills.{bottom, top, filled, fill}
+use Rattle.fill_rule.specs.FillRule.{filled}
+use Rattle.ray.specs.Ray.{bottom, top, fill}
 use Rattle.build.specs.Links.{sidesSet, keepsSides, keeps, filterOf, keptLinks}
-use Rattle.build.proofs.Parts.{fill-top, fill-bottom, fill-lines}
+use Rattle.ray.proofs.Fills.{fill-top, fill-bottom, fill-lines}
 use Rattle.clip_walk.specs.Walk.{has, lineBits, Step, asDrawn, one}
 use Rattle.string_clip.specs.Paths.{clipPaths, stepsOf}
 use Rattle.string_clip.specs.Claim.{Direction, along, putIf, drawn, travelled, same, enough, rayKeeps}

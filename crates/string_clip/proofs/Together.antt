@@ -21,9 +21,10 @@ use Rattle.checks.specs.Runs.{ruleChoice, flagChoice, lent, clipRun}
 use Rattle.checks.specs.Accepted.{Good, accepts}
 use Rattle.checks.proofs.Order.{passed}
 use Rattle.checks.proofs.Good.{distinct, verdict-good, verdict-room, accepted-input, accepted-run}
-use Rattle.build.specs.declared.ray.Rule.{Rule}
+use Rattle.fill_rule.specs.declared.Rule.{Rule}
 use Rattle.build.specs.declared.links.Filter.{Filter}
-use Rattle.build.specs.Fills.{ruleOf, fill}
+use Rattle.fill_rule.specs.FillRule.{ruleOf}
+use Rattle.ray.specs.Ray.{fill}
 use Rattle.build.specs.Links.{keeps, filterOf}
 use Rattle.clip_walk.specs.Walk.{Step, one}
 use Rattle.string_clip.specs.Paths.{clipPaths, stepsOf, travelOf}

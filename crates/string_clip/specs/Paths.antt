@@ -6,7 +6,7 @@ use lib.IntN.{natAbs, _-ℤ_}
 use Rattle.geom.specs.declared.Point.{Point}
 use Rattle.segm.specs.declared.Segment.{Segment}
 use Rattle.segm.specs.Segments.{Drawing}
-use Rattle.build.specs.declared.ray.Rule.{Rule}
+use Rattle.fill_rule.specs.declared.Rule.{Rule}
 use Rattle.build.specs.declared.links.Filter.{Filter}
 use Rattle.build.specs.Links.{keptLinks}
 use Rattle.clip_walk.specs.Walk.{linesIn, Step, step, Move, over, walk}

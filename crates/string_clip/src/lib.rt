@@ -5,8 +5,8 @@ mod run;
 mod sums;
 
 use build::Filter;
-use build::Rule;
 use checks::Verdict;
+use fill_rule::Rule;
 use run::clip_links;
 ghost use mathlib.Core.Path.{_≡_};
 ghost use Prim.Native.Nat.{_*_, _≤_};
@@ -101,7 +101,7 @@ pub fn clip(
     ) {
         Verdict::Accepted => Clipped::Done(clip_accepted(
             segments,
-            build::rule_of(rule),
+            fill_rule::rule_of(rule),
             build::filter_of(invert, boundary),
             points,
             lengths,

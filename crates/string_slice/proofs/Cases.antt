@@ -13,12 +13,15 @@ use Rattle.segm.specs.Segments.{front, segmentsOf, count, whole, segments, segm
 use Rattle.contour.specs.Points.{coordinates}
 use Rattle.contour.specs.Area.{crossProduct, around, shoelace, isClockwise, isLarge}
 use Rattle.meetings.specs.Meetings.{side, parts, inside, sameEnds, meetsWrongly}
-use Rattle.checks.specs.Drawing.{endsInRange, rises, windingInRange, bitsInRange, fault, faultAt, meetingAt, balance, balances, unbalancedAt}
+use Rattle.balance.specs.Balance.{balance, balances}
+use Rattle.checks.specs.Drawing.{endsInRange, rises, windingInRange, bitsInRange, fault, faultAt, meetingAt, unbalancedAt}
 use Rattle.checks.specs.Verdict.{wrongLength, unknownChoice, tooShort, firstFrom, first, inOrder, verdict}
 use Rattle.checks.specs.Runs.{sliceRun}
 use Rattle.segm.specs.CaseA.{segment, A}
-use Rattle.build.specs.declared.ray.Rule.the-variants.{NonZero}
-use Rattle.build.specs.Fills.{spans, above, clockwise, met, bottom, top, filled, ruleOf, fillOf, fill, fills}
+use Rattle.fill_rule.specs.declared.Rule.the-variants.{NonZero}
+use Rattle.fill_rule.specs.FillRule.{filled, ruleOf, fillOf}
+use Rattle.strip.specs.Strip.{spans, above, clockwise}
+use Rattle.ray.specs.Ray.{met, bottom, top, fill, fills}
 use Rattle.graph.specs.Nodes.{node}
 use Rattle.clip_walk.specs.Walk.{has, clear, asDrawn, isLeft, taken, takenAll, bitsLeft, firstLeft, bothMoves, begins, way, over, other, fitting}
 use Rattle.bin_store.specs.Sightings.{isSighted, numberOf, sight}

@@ -18,7 +18,7 @@ use Rattle.contour.proofs.Coordinates.{pair-coordinates}
 use Rattle.contour.proofs.Areas.{near-all}
 use Rattle.contour.proofs.CutWritten.{cut-written, tally-lengths}
 use Rattle.checks.specs.Accepted.{Good}
-use Rattle.build.specs.declared.ray.Rule.{Rule}
+use Rattle.fill_rule.specs.declared.Rule.{Rule}
 use Rattle.clip_walk.specs.Walk.{one, Move, bitsLeft}
 use Rattle.clip_walk.proofs.Flat.{bits-few}
 use Rattle.slice_walk.specs.declared.Walks.{Walks}

@@ -12,9 +12,9 @@ use Rattle.segm.specs.Segments.{Drawing}
 use Rattle.segm.proofs.Lists.{written-map}
 use Rattle.checks.specs.Drawing.{endsInRange}
 use Rattle.checks.specs.Accepted.{Good}
-use Rattle.build.specs.declared.ray.Rule.{Rule}
-use Rattle.build.specs.Fills.{fills}
-use Rattle.build.proofs.Parts.{length-fills}
+use Rattle.fill_rule.specs.declared.Rule.{Rule}
+use Rattle.ray.specs.Ray.{fills}
+use Rattle.ray.proofs.Fills.{length-fills}
 use Rattle.slice_walk.specs.Writing.{Proper}
 use Rattle.string_slice.specs.Contours.{sideBits}
 

@@ -5,8 +5,8 @@ use mathlib.Core.Bool.{Bool}
 use Prim.Native.Nat.{ℕ, _%_}
 use Rattle.segm.specs.Segments.{Drawing}
 use Rattle.contour.specs.Contour.{Contour}
-use Rattle.build.specs.declared.ray.Rule.{Rule}
-use Rattle.build.specs.Fills.{fills}
+use Rattle.fill_rule.specs.declared.Rule.{Rule}
+use Rattle.ray.specs.Ray.{fills}
 use Rattle.clip_walk.specs.Walk.{Move}
 use Rattle.slice_walk.specs.Walk.{walks, directionOf, walkPoints}
 use Rattle.slice_cut.specs.Cutting.{walkContours}

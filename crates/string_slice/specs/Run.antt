@@ -13,7 +13,7 @@ use Rattle.checks.specs.declared.Verdict.{Verdict}
 use Rattle.checks.specs.declared.Verdict.the-variants as verdict-is
 use Rattle.checks.specs.Verdict.{verdict}
 use Rattle.checks.specs.Runs.{sliceRun}
-use Rattle.build.specs.Fills.{ruleOf}
+use Rattle.fill_rule.specs.FillRule.{ruleOf}
 use Rattle.slice_cut.specs.Cutting.{pointsOf, rolesOf, counts}
 use Rattle.string_slice.specs.declared.Sliced.{Sliced}
 use Rattle.string_slice.specs.declared.Sliced.the-variants.{Done, Refused}

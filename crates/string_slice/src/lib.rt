@@ -2,8 +2,8 @@
 // its own. No public operation has a `requires`: any numbers, any choices and any lengths of lent lists get an answer.
 mod walking;
 
-use build::Rule;
 use checks::Verdict;
+use fill_rule::Rule;
 pub use slice_cut::Contours;
 use slice_cut::cut_walks;
 use slice_walk::Walks;
@@ -81,7 +81,7 @@ pub fn slice(
     ) {
         Verdict::Accepted => slice_accepted(
             segments,
-            build::rule_of(rule),
+            fill_rule::rule_of(rule),
             direction == 1,
             min_area,
             points,

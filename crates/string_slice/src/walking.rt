@@ -1,5 +1,5 @@
 // The walks of an accepted drawing: over all its segments, each with its side bits.
-use build::Rule;
+use fill_rule::Rule;
 use slice_walk::Walks;
 ghost use mathlib.Core.Path.{_≡_};
 ghost use mathlib.Core.List.{map};
@@ -46,7 +46,7 @@ fn walk_links(
 {
     let m = segm::count(s);
     let e = 2 * m;
-    build::write_fills(s, rule, &mut bits[..m]);
+    fill_sweep::write_fills(s, rule, &mut bits[..m]);
     keep_sides(&mut bits[..m]);
     graph::build_nodes(s, &mut flat[..e], starts, &mut nodes[..e]);
     slice_walk::write_walks(

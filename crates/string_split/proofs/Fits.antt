@@ -3,7 +3,7 @@ use mathlib.Core.Path.{_≡_, refl, sym, ap, _∙_, subst}
 use mathlib.Core.List.{List, [], _∷_, _++_, flatten, append-nil}
 use mathlib.Core.Logic.{inl, inr}
 use mathlib.Core.Bool.{Bool, true, false, cond}
-use Prim.Native.Nat.{ℕ, zero, suc, _+_, _≤_}
+use Prim.Native.Nat.{ℕ, suc, _+_, _≤_}
 use native.Mathlib.Omega.{arith}
 use lib.Dec.{ltb}
 use lib.ListN.{length, take, drop, length-append, length-take, length-drop}
@@ -11,7 +11,7 @@ use borrow.Author.Tests.{ltb-true}
 use Rattle.geom.specs.declared.Point.{Point}
 use Rattle.geom.specs.Points.{inRange}
 use Rattle.segm.specs.Lists.{_∈_, keep}
-use Rattle.segm.proofs.Lists.{in-take, flatten-++}
+use Rattle.segm.proofs.Lists.{in-take, in-drop, flatten-++}
 use Rattle.segm.proofs.Tallies.{cases, in-++, keep-in, length-keep}
 use Rattle.contour.proofs.Areas.{near-all}
 use Rattle.contour.specs.Points.{Near}
@@ -98,11 +98,6 @@ unfolding splitLoops
 loops-few least points = let f = all-fit points in omega (arith, length-keep (isLarge least) (allLoops points), f .points, f .loops)
 
 -- ---- in range
-in-drop : {A : Type 0} (k : ℕ) (l : List A) (x : A) → x ∈ drop k l → x ∈ l
-in-drop zero l x m = m
-in-drop (suc k) [] x m = m
-in-drop (suc k) (y ∷ l) x m = inr (in-drop k l x m)
-
 pub near-more : (l : List Point) (p : Point) → Near l → inRange p ≡ true → Near (l ++ (p ∷ []))
 near-more l p n h q m = cases (n q) (cases (λ e. ap inRange e ∙ h) (λ i. absurd i)) (in-++ q l (p ∷ []) m)
 

@@ -7,10 +7,14 @@ use Rattle.segm.specs.Segments.{front, segmentsOf, count, whole, segments, segm
 use Rattle.contour.specs.Points.{coordinates, pairUp}
 use Rattle.contour.specs.Area.{crossProduct, around, shoelace, isLarge}
 use Rattle.meetings.specs.Meetings.{side, parts, inside, sameEnds, meetsWrongly}
-use Rattle.checks.specs.Drawing.{endsInRange, rises, windingInRange, bitsInRange, fault, faultAt, meetingAt, balance, balances, unbalancedAt}
+use Rattle.balance.specs.Balance.{balance, balances}
+use Rattle.checks.specs.Drawing.{endsInRange, rises, windingInRange, bitsInRange, fault, faultAt, meetingAt, unbalancedAt}
 use Rattle.checks.specs.Verdict.{wrongLength, unknownChoice, tooShort, firstFrom, first, inOrder, verdict}
 use Rattle.checks.specs.Runs.{fillsRun, clipRun}
-use Rattle.build.specs.Fills.{spans, above, clockwise, met, bottom, top, filled, ruleOf, fillOf, fill, fills, fillsOutcome}
+use Rattle.fill_rule.specs.FillRule.{filled, ruleOf, fillOf}
+use Rattle.strip.specs.Strip.{spans, above, clockwise}
+use Rattle.ray.specs.Ray.{met, bottom, top, fill, fills}
+use Rattle.build.specs.Fills.{fillsOutcome}
 use Rattle.build.specs.Links.{sidesSet, keepsSides, keeps, filterOf, keptLinks}
 use Rattle.graph.specs.Nodes.{node}
 use Rattle.clip_walk.specs.Walk.{has, clear, asDrawn, isLeft, taken, takenAll, bitsLeft, firstLeft, bothMoves, begins, way, over, other, fitting, goesOn, follow, pathFrom, walkFrom, walk}

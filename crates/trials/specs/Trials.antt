@@ -11,7 +11,7 @@ use Rattle.checks.specs.declared.Verdict.the-variants as verdict-is
 use Rattle.checks.specs.Verdict.{verdict}
 use Rattle.checks.specs.Runs.{clipRun}
 use Rattle.segm.specs.CaseA.{segment, A}
-use Rattle.build.specs.declared.ray.Filled.the-variants as fills-are
+use Rattle.build.specs.declared.run.Filled.the-variants as fills-are
 use Rattle.build.specs.Fills as fills
 use Rattle.string_clip.specs.declared.Clipped.the-variants as clip-is
 use Rattle.string_clip.specs.Run as clip

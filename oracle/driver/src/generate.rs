@@ -1,11 +1,13 @@
 //! Random drawings that should be accepted.
 
-use crate::drawing::MOST_SEGMENTS;
+use crate::drawing::{MOST_SEGMENTS, WIDTH};
 use crate::lines::{both_ways, joined, scattered, Draw};
 use crate::placement::{self, placed};
 use crate::plane::Plane;
+use crate::prose::Checked;
 use crate::random::Random;
 use crate::shapes;
+use std::ops::RangeInclusive;
 
 /// Makes a shape of about so many segments.
 pub type Make = fn(&mut Random, usize) -> Plane;
@@ -101,4 +103,15 @@ fn full(random: &mut Random, _: usize) -> Plane {
     random.shuffle(&mut plane.edges);
     plane.edges.truncate(MOST_SEGMENTS);
     plane
+}
+
+/// An accepted drawing of so many segments.
+pub fn accepted(generators: &[Generator], sizes: RangeInclusive<usize>, random: &mut Random) -> Vec<i32> {
+    loop {
+        let generator = &generators[random.below(generators.len())];
+        let (numbers, _) = generator.drawing(random);
+        if sizes.contains(&(numbers.len() / WIDTH)) && Checked::new(&numbers).refused.is_none() {
+            return numbers;
+        }
+    }
 }

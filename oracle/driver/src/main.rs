@@ -46,6 +46,7 @@ mod split;
 #[cfg(feature = "rust")]
 mod store;
 mod stored;
+mod sweeps;
 mod table;
 mod tally;
 mod text;
@@ -67,6 +68,7 @@ driver texts [--seed S] [--texts N]  compare the clip program alone, on N texts
 driver replay [FOLDER]               compare with the stored answers, in crates/replay if not said
 driver store [FOLDER]                make the stored answers (needs the Rust)
 driver cases [FOLDER]                make the cases of the clip program, in crates/clip_cases if not said
+driver sweeps [FOLDER]               make the drawings that the definition of the sweep is computed on, in crates/sweep_cases if not said
 driver bench                         time ours and the Rust (needs the Rust)";
 
 struct Options {
@@ -95,9 +97,13 @@ fn run(words: &[&str]) -> Option<bool> {
         ["check", options @ ..] => {
             let Options { seed, drawings, lists, texts } = options_of(options)?;
             println!("{}, seed {seed}", theirs::NOTE);
-            let stored = [stored::replay(&stored::folder()), cases::check(&cases::folder())];
+            let stored = [
+                stored::replay(&stored::folder()),
+                cases::check(&cases::folder()),
+                sweeps::check(&sweeps::folder()),
+            ];
             let made = [check::check(seed, drawings), check_split::check(seed, lists), check_texts::check(seed, texts)];
-            Some(stored == [true; 2] && made == [true; 3])
+            Some(stored == [true; 3] && made == [true; 3])
         }
         ["lists", options @ ..] => {
             let Options { seed, lists, .. } = options_of(options)?;
@@ -111,6 +117,8 @@ fn run(words: &[&str]) -> Option<bool> {
         ["replay", folder] => Some(stored::replay(Path::new(folder))),
         ["cases"] => Some(cases::store(&cases::folder())),
         ["cases", folder] => Some(cases::store(Path::new(folder))),
+        ["sweeps"] => Some(sweeps::store(&sweeps::folder())),
+        ["sweeps", folder] => Some(sweeps::store(Path::new(folder))),
         ["bench" | "store"] => Some(with_rust(words[0], &stored::folder())),
         ["store", folder] => Some(with_rust("store", Path::new(folder))),
         _ => None,

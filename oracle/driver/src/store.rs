@@ -6,8 +6,8 @@ use crate::case::Case;
 use crate::choices::{known, known_but, unknown, Choices, SliceChoices, MOST, RULES, SLICE_MOST};
 use crate::counts::Counts;
 use crate::damage::damaged;
-use crate::drawing::{commas, pairs, MOST_POINTS, MOST_SEGMENTS, WIDTH};
-use crate::generate::{Generator, JOINED, SCATTERED};
+use crate::drawing::{commas, pairs, MOST_POINTS, MOST_SEGMENTS};
+use crate::generate::{accepted, Generator, JOINED, SCATTERED};
 use crate::loops::Loops;
 use crate::output::{Output, SLICE_EACH};
 use crate::point_lists;
@@ -85,7 +85,7 @@ fn accepted_fills(place: usize, random: &mut Random) -> Line {
         _ if place.is_multiple_of(5) => 20..=40,
         _ => 1..=16,
     };
-    let numbers = drawing(&SCATTERED, sizes, random);
+    let numbers = accepted(&SCATTERED, sizes, random);
     let rule = RULES[place % RULES.len()];
     let mut theirs = Theirs::new(&numbers);
     let (_, fills) = theirs.fills(rule)[0];
@@ -105,7 +105,7 @@ fn accepted_clip(place: usize, random: &mut Random) -> Line {
     let choices = Choices { rule, invert, boundary };
     loop {
         let generators: &[Generator] = if place.is_multiple_of(5) { &SCATTERED } else { &JOINED };
-        let numbers = drawing(generators, sizes.clone(), random);
+        let numbers = accepted(generators, sizes.clone(), random);
         let mut theirs = Theirs::new(&numbers);
         let mut paths = |boundary| theirs.clip(Choices { boundary, ..choices }).remove(0).1;
         let (paths, other) = (paths(boundary), paths(1 - boundary));
@@ -160,7 +160,7 @@ fn accepted_slice(place: usize, random: &mut Random) -> Line {
     let sizes = if place.is_multiple_of(9) { 20..=40 } else { 3..=14 };
     let [rule, direction] = [place % 4, place / 4 % 2].map(|choice| choice as i32);
     loop {
-        let numbers = drawing(&SCATTERED, sizes.clone(), random);
+        let numbers = accepted(&SCATTERED, sizes.clone(), random);
         let walks = Case::new(&numbers).walks(rule).expect("a move is found");
         let loops: Vec<_> = walks.iter().flat_map(|walk| &walk.loops.all).collect();
         let min_area = if place % 3 == 2 { stored_area(&areas(&loops, random), random) } else { 0 };
@@ -243,7 +243,7 @@ fn refused(
     random: &mut Random,
 ) -> (Vec<i32>, Vec<i32>, Refusal) {
     loop {
-        let good = drawing(&SCATTERED, sizes.clone(), random);
+        let good = accepted(&SCATTERED, sizes.clone(), random);
         let numbers = damaged(&good, random);
         let choices = choose(random);
         let limited: Vec<_> = choices.iter().copied().zip(MOST).collect();
@@ -252,17 +252,6 @@ fn refused(
                 return (choices, numbers, refusal);
             }
             _ => {}
-        }
-    }
-}
-
-/// An accepted drawing of so many segments.
-fn drawing(generators: &[Generator], sizes: RangeInclusive<usize>, random: &mut Random) -> Vec<i32> {
-    loop {
-        let generator = &generators[random.below(generators.len())];
-        let (numbers, _) = generator.drawing(random);
-        if sizes.contains(&(numbers.len() / WIDTH)) && Checked::new(&numbers).refused.is_none() {
-            return numbers;
         }
     }
 }

@@ -105,15 +105,15 @@ returns-6 c =
     let g = f (e .before) in
     e .find-first2 .ensures ∙ sym (two-left (e .before) ∙ refused-then (first (meetingAt (d g)) (d g)) (first (unbalancedAt (d g)) (d g)) (sym (e .find-first2 .ensures) ∙ c .enum-told4 .given .1))
 
-find-first-requires-3 : tie.Need-find-first-requires-3
-find-first-requires-3 c κs = sound (c .before .before .before)
+find-unbalanced-requires : tie.Need-find-unbalanced-requires
+find-unbalanced-requires c κs = sound (c .before .before .before)
 
 returns-7 : tie.Need-returns-7
 returns-7 c =
     let k = c .before in
     let e = k .before .before in
     let g = f (e .before) in
-    c .find-first3 .ensures ∙ sym (two-left (e .before) ∙ ap (λ (v : Verdict). v then first (unbalancedAt (d g)) (d g)) (sym (e .find-first2 .ensures) ∙ k .enum-told3 .given .1))
+    c .find-unbalanced .ensures ∙ sym (two-left (e .before) ∙ ap (λ (v : Verdict). v then first (unbalancedAt (d g)) (d g)) (sym (e .find-first2 .ensures) ∙ k .enum-told3 .given .1))
 
 pub in-order-spec : {M : Type 1} → statement M
 in-order-spec =
@@ -133,5 +133,5 @@ in-order-spec =
     enum-told-3
     enum-told-4
     returns-6
-    find-first-requires-3
+    find-unbalanced-requires
     returns-7)

@@ -3,7 +3,7 @@ use borrow.Author.Needs.{needs}
 use mathlib.Core.Path.{_≡_, sym, ap, subst, _∙_}
 use Rattle.segm.specs.Segments.{segments}
 use Rattle.checks.specs.declared.Search.{Search}
-use Rattle.checks.specs.declared.Search.the-variants.{Faults, Meetings, Balance}
+use Rattle.checks.specs.declared.Search.the-variants.{Faults, Meetings}
 use Rattle.checks.specs.Search.{Ready, numberAt}
 use Rattle.checks.proofs.number_at.Statement.{statement}
 use Rattle.checks.proofs.number_at.Tie as tie
@@ -22,14 +22,6 @@ meeting-at-requires c κs =
     let s = c .before .before in
     (subst (λ (x : Search). Ready x (segments (s .args .s .now))) (c .enum-told2 .given .1) (s .pre .0), s .pre .1)
 
-enum-told-3 : tie.Need-enum-told-3
-enum-told-3 c = search needs
-
-unbalanced-at-requires : tie.Need-unbalanced-at-requires
-unbalanced-at-requires c κs =
-    let s = c .before .before in
-    subst (λ (x : Search). Ready x (segments (s .args .s .now))) (c .enum-told3 .given .1) (s .pre .0)
-
 -- a search that is known
 module _ (s : tie.Start) (x : Search) (e : s .args .search ≡ x) where
   told : numberAt x (segments (s .args .s .now)) (s .args .i) ≡ numberAt (s .args .search) (segments (s .args .s .now)) (s .args .i)
@@ -41,9 +33,6 @@ returns c = c .fault-at .ensures ∙ told (c .before .before .before) Faults (c 
 returns-2 : tie.Need-returns-2
 returns-2 c = c .meeting-at .ensures ∙ told (c .before .before .before) Meetings (c .before .enum-told2 .given .1)
 
-returns-3 : tie.Need-returns-3
-returns-3 c = c .unbalanced-at .ensures ∙ told (c .before .before .before) Balance (c .before .enum-told3 .given .1)
-
 pub number-at-spec : {M : Type 1} → statement M
 number-at-spec =
     tie.close
@@ -52,8 +41,5 @@ number-at-spec =
     fault-at-requires
     enum-told-2
     meeting-at-requires
-    enum-told-3
-    unbalanced-at-requires
     returns
-    returns-2
-    returns-3)
+    returns-2)

@@ -16,11 +16,11 @@ use Rattle.graph.proofs.build_nodes.Tie as tie
 count-requires : tie.Need-count-requires
 count-requires c κs = search needs
 
-count-up-requires : tie.Need-count-up-requires
-count-up-requires c κs = search needs
+count-from-requires : tie.Need-count-from-requires
+count-from-requires c κs = search needs
 
 -- the ends counted
-module _ (c : tie.After-count-up) where
+module _ (c : tie.After-count-from) where
   abbrev s : tie.Start
   s = c .before .before .before .before .before .before
 
@@ -31,13 +31,13 @@ module _ (c : tie.After-count-up) where
   m = c .before .before .count .result
 
   abbrev nodes : List ℕ
-  nodes = c .count-up .last .0
+  nodes = c .count-from .last .0
 
   links-m : m ≡ length links
   links-m = c .before .before .count .ensures ∙ sym (length-segments (s .args .links .now))
 
   counted : nodes ≡ upFrom 0 (2 * length links)
-  counted = c .count-up .ensures ∙ ap (upFrom 0) (s .pre .4)
+  counted = c .count-from .ensures ∙ ap (upFrom 0) (s .pre .4)
 
   twice : length nodes ≡ 2 * length links
   twice = ap length counted ∙ length-upFrom 0 (2 * length links)
@@ -59,23 +59,23 @@ order-ends-requires c κs = let u = c .before .before .before .before in omega (
 
 -- the rest come back
 module _ (o : tie.After-order-ends) where
-  abbrev u : tie.After-count-up
+  abbrev u : tie.After-count-from
   u = o .before .before .before .before .before
 
-  length-all : length (relent (links u) (m u) (links-m u) (nodes u) (counted u) (o .order-ends .last .1 .0)) ≡ 2 * length (links u)
-  length-all = length-relent (links u) (m u) (links-m u) (nodes u) (counted u) (o .order-ends .last .1 .0) (o .order-ends .kept .1 .0)
+  length-all : length (relent (links u) (m u) (links-m u) (nodes u) (counted u) (o .order-ends .last .1 .1 .0)) ≡ 2 * length (links u)
+  length-all = length-relent (links u) (m u) (links-m u) (nodes u) (counted u) (o .order-ends .last .1 .1 .0) (o .order-ends .kept .1 .1 .0)
 
 merge-into-requires : tie.Need-merge-into-requires
 merge-into-requires c κs =
     let o = c .before .before .before .before .before .before in
-    omega (arith, links-m (u o), length-all o, o .order-ends .kept .1 .1 .0, s (u o) .pre .2)
+    omega (arith, links-m (u o), length-all o, o .order-ends .kept .1 .1 .1 .0, s (u o) .pre .2)
 
 number-nodes-requires : tie.Need-number-nodes-requires
 number-nodes-requires c κs =
     let g = c .before .before .before .before .before in
     let o = g .before .before .before .before .before .before .before in
     let p = s (u o) .pre in
-    (p .1, merged (links (u o)) (m (u o)) (links-m (u o)) (nodes (u o)) (counted (u o)) (o .order-ends .last .1 .0) (p .0) (o .order-ends .ensures) (g .merge-into .ensures), p .3, length-all o)
+    (p .1, merged (links (u o)) (m (u o)) (links-m (u o)) (nodes (u o)) (counted (u o)) (o .order-ends .last .1 .1 .0) (p .0) (o .order-ends .ensures) (g .merge-into .ensures), p .3, length-all o)
 
 same-length : tie.Need-same-length
 same-length c = search needs
@@ -94,7 +94,7 @@ build-nodes-spec =
     tie.close
     (tie.spec
     count-requires
-    count-up-requires
+    count-from-requires
     mul-order-ends
     sub-order-ends
     part-order-ends-start

@@ -1,6 +1,6 @@
 -- The ends at the places passed have their nodes. Assumes nothing.
 use borrow.Author.Needs.{needs}
-use mathlib.Core.Path.{_≡_, refl, sym, _∙_}
+use mathlib.Core.Path.{_≡_, refl, sym, subst, _∙_}
 use mathlib.Core.List.{List}
 use mathlib.Core.Bool.{Bool, true, false}
 use mathlib.Core.Logic.{⊎-elim}
@@ -11,7 +11,7 @@ use Rattle.segm.specs.Segments.{Drawing, segments}
 use Rattle.segm.proofs.Lists.{in-at}
 use Rattle.ends.specs.Ends.{endPoint}
 use Rattle.graph.proofs.Parts.{pointAt}
-use Rattle.graph.proofs.Numbering.{Numbered, State, starting, opens, stays, numbers, finished}
+use Rattle.graph.proofs.Numbering.{Agree, Numbered, State, starting, opens, stays, numbers, finished, agreed}
 use Rattle.graph.proofs.Flat.{Ordered, ordered, nodes-of, starts, not-first, goes-on}
 use Rattle.graph.proofs.number_nodes.Statement.{statement}
 use Rattle.graph.proofs.number_nodes.Tie as tie
@@ -158,7 +158,7 @@ loop-again c =
       inside = omega (arith, t);
       starts-room = b .room;
       nodes-room = length-set (l .loop .nodes) e (j .if1 .v - 1) ∙ l .loop .inv .nodes-room;
-      state = numbers (endPoint (links l)) (flat l) (ends l .distinct) (l .loop .i) (j .if1 .v) (j .if1 .starts) (l .loop .nodes) t (end-room l t) (b .few) (b .numbered);
+      state = numbers (endPoint (links l)) (flat l) (ends l .distinct) (l .loop .i) (j .if1 .v) (j .if1 .starts) (l .loop .nodes) t (end-room l t) (b .numbered) (b .few);
     }
 
 cast-starts-2 : tie.Need-cast-starts-2 Inv-loop μ-loop
@@ -183,6 +183,7 @@ returns c =
     let e : l .loop .i ≡ length (flat l) = omega (arith, i .inside, c .loop-test .left) in
     nodes-of (links l) (ends l) (set (l .loop .starts) (l .loop .v) (length (flat l))) (l .loop .nodes) (i .nodes-room ∙ s l .pre .3)
     (finished (endPoint (links l)) (flat l) (ends l .rise) (l .loop .i) (l .loop .v) (l .loop .starts) (l .loop .nodes) (i .state) e (room l))
+    (subst (λ k. Agree (endPoint (links l)) (flat l) k (l .loop .nodes)) e (agreed (endPoint (links l)) (flat l) (l .loop .i) (l .loop .v) (l .loop .starts) (l .loop .nodes) (i .state)))
 
 pub number-nodes-spec : {M : Type 1} → statement M
 number-nodes-spec =

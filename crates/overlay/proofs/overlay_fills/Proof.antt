@@ -3,7 +3,7 @@ use borrow.Author.Needs.{needs}
 use mathlib.Core.Path.{_≡_, sym, ap, _∙_}
 use lib.IntN.{ℤ}
 use mir.Facts.{toZ-ofZ}
-use Rattle.build.specs.declared.ray.Filled.{Filled}
+use Rattle.build.specs.declared.run.Filled.{Filled}
 use Rattle.build.specs.Fills.{Outcome, fillsOutcome}
 use Rattle.overlay.specs.Numbers.{returned, filledNumbers, fillsNumbers}
 use Rattle.overlay.proofs.overlay_fills.Statement.{statement}

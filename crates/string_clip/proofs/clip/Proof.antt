@@ -16,7 +16,7 @@ use Rattle.checks.specs.declared.Verdict.the-variants.{Accepted}
 use Rattle.checks.specs.Verdict.{Run, verdict}
 use Rattle.checks.specs.Runs.{lent, clipRun}
 use Rattle.checks.proofs.Good.{verdict-good, verdict-room}
-use Rattle.build.specs.Fills.{ruleOf}
+use Rattle.fill_rule.specs.FillRule.{ruleOf}
 use Rattle.build.specs.Links.{filterOf}
 use Rattle.string_clip.specs.declared.Clipped.the-variants.{Done}
 use Rattle.string_clip.specs.Paths.{clipPaths}

@@ -22,9 +22,9 @@ use Rattle.checks.specs.declared.Verdict.the-variants.{Accepted}
 use Rattle.checks.specs.Verdict.{Run, verdict}
 use Rattle.checks.specs.Runs.{lent, sliceRun}
 use Rattle.checks.proofs.Good.{verdict-good, verdict-room}
-use Rattle.build.specs.declared.ray.Rule.{Rule}
-use Rattle.build.specs.Fills.{ruleOf}
-use Rattle.build.proofs.Choices.{is, is-not}
+use Rattle.fill_rule.specs.declared.Rule.{Rule}
+use Rattle.fill_rule.specs.FillRule.{ruleOf}
+use Rattle.fill_rule.proofs.Choices.{is, is-not}
 use Rattle.contour.specs.Contour.{Contour}
 use Rattle.string_slice.specs.Contours.{sliceContours}
 use Rattle.string_slice.specs.Run.{outcome, handedOver, answered, sliceOutcome}

@@ -2,7 +2,7 @@
 use mathlib.Core.Path.{sym}
 use lib.Dec.{lit<}
 use Rattle.build.specs.Links.{filterOf}
-use Rattle.build.proofs.Choices.{is, is-not}
+use Rattle.fill_rule.proofs.Choices.{is, is-not}
 use Rattle.build.proofs.links.filter_of.Statement.{statement}
 use Rattle.build.proofs.links.filter_of.Tie as tie
 

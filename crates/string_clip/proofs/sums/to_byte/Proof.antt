@@ -2,7 +2,7 @@ use lib.Dec.{lit<}
 use mir.Syntax.{w32}
 use mir.Val.{toZ, ofZ}
 use Rattle.integers.proofs.Machine.{Val, par, to-u, u-is}
-use Rattle.build.proofs.Parts.{bits-abs}
+use Rattle.fill_rule.proofs.Parts.{bits-abs}
 use Rattle.string_clip.proofs.sums.to_byte.Statement.{statement}
 use Rattle.string_clip.proofs.sums.to_byte.Tie as tie
 

@@ -11,8 +11,8 @@ use Rattle.segm.proofs.Lists.{written-whole}
 use Rattle.segm.proofs.Segments.{length-segments}
 use Rattle.ends.proofs.Parts.{prefix-back, prefix-length}
 use Rattle.graph.specs.Nodes.{Nodes}
-use Rattle.build.specs.Fills.{fills}
-use Rattle.build.proofs.Parts.{length-fills}
+use Rattle.ray.specs.Ray.{fills}
+use Rattle.ray.proofs.Fills.{length-fills}
 use Rattle.slice_walk.specs.Walk.{walks}
 use Rattle.slice_walk.specs.Writing.{Walking, WalksAre}
 use Rattle.string_slice.specs.Contours.{sideBits}

@@ -1,0 +1,36 @@
+-- Balance: at every point as much winding starts as ends. The contracts of `balance` cite these. Assumes nothing.
+use mathlib.Core.Bool.{Bool, not, _&&_, cond}
+use Prim.Native.Nat.{ℕ, zero, suc, _≤_}
+use lib.ListN.{length}
+use lib.IntN.{ℤ, pos, natAbs, _-ℤ_}
+use Rattle.geom.specs.declared.Point.{Point}
+use Rattle.geom.specs.Points.{eqZ, eqP}
+use Rattle.segm.specs.declared.Segment.{Segment}
+use Rattle.segm.specs.Lists.{_∈_}
+use Rattle.segm.specs.Segments.{Drawing, segmentAt, total}
+use Rattle.graph.specs.Nodes.{Rising}
+
+-- the windings of the segments starting at p, less those of the segments ending there
+unfoldable pub balance : Drawing → Point → ℤ
+balance d p = total (λ s. eqP (s .a) p) d -ℤ total (λ s. eqP (s .b) p) d
+
+unfoldable pub balances : Drawing → Point → Bool
+balances d p = eqZ (balance d p) (pos 0)
+
+-- the segment at place i touches an unbalanced point
+unfoldable pub unbalanced : Drawing → ℕ → Bool
+unbalanced d i = not (balances d (segmentAt d i .a) && balances d (segmentAt d i .b))
+
+-- the first of `left` places from i on that passes a test, or the place after the last
+unfoldable pub firstPlace : (ℕ → Bool) → ℕ → ℕ → ℕ
+firstPlace test zero i = i
+firstPlace test (suc left) i = cond (test i) i (firstPlace test left (suc i))
+
+unfoldable pub firstUnbalanced : Drawing → ℕ
+firstUnbalanced d = firstPlace (unbalanced d) (length d) 0
+
+-- what refusals 2 to 7 leave: few segments in order, with small windings
+pub record Weighed (d : Drawing) : Type 0 where
+  pub few : length d ≤ 1024
+  pub rising : Rising d
+  pub winding : (s : Segment) → s ∈ d → natAbs (s .winding) ≤ 1000

@@ -1,0 +1,13 @@
+pub mod Flow
+pub mod Invariance
+pub mod Ray
+pub mod Beneath
+pub mod Sorting
+pub mod Visits
+pub mod Telescope
+pub mod Starts
+pub mod Ends
+pub mod Ways
+pub mod Counts
+pub mod Fills
+pub mod Trail

@@ -1,0 +1,3 @@
+pub mod Ray
+pub mod Sorting
+pub mod Trail

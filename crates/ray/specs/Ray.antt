@@ -1,0 +1,36 @@
+-- Sides by a ray: which sides of each segment are filled. Assumes nothing.
+use mathlib.Core.List.{List, map}
+use mathlib.Core.Bool.{Bool, _&&_, _||_}
+use Prim.Native.Nat.{ℕ}
+use lib.IntN.{ℤ, _+ℤ_}
+use Rattle.geom.specs.declared.Point.{Point}
+use Rattle.geom.specs.Points.{eqP}
+use Rattle.segm.specs.declared.Segment.{Segment}
+use Rattle.segm.specs.Segments.{Drawing, total}
+use Rattle.fill_rule.specs.declared.Rule.{Rule}
+use Rattle.fill_rule.specs.FillRule.{fillOf}
+use Rattle.strip.specs.Strip.{spans, above, clockwise}
+
+-- ---- the ray straight down from where i starts
+-- j is counted: it spans ai.x, and has ai strictly above its line or starts at ai with a direction clockwise of i's
+unfoldable pub met : Segment → Segment → Bool
+met i j = spans j (i .a .x) && (above j (i .a) || (eqP (j .a) (i .a) && clockwise j i))
+
+-- the bottom count: of the side right of a to b
+unfoldable pub bottom : Drawing → Segment → ℤ
+bottom d i = total (met i) d
+
+-- the top count: of the side left of a to b
+unfoldable pub top : Drawing → Segment → ℤ
+top d i = bottom d i +ℤ i .winding
+
+-- the count straight under p, in the strip right of it
+unfoldable pub beneathPoint : Drawing → Point → ℤ
+beneathPoint d p = total (λ j. spans j (p .x) && above j p) d
+
+-- ---- the fills
+unfoldable pub fill : Rule → Drawing → Segment → ℕ
+fill rule d i = fillOf rule (top d i) (bottom d i) (i .bits)
+
+unfoldable pub fills : Rule → Drawing → List ℕ
+fills rule d = map (fill rule d) d

@@ -1,0 +1,133 @@
+// The ordered list of the open segments, by their places, the lowest first. Every function here is proved, and the crate assumes nothing of its own.
+use geom::Point;
+ghost use mathlib.Core.Path.{_≡_};
+ghost use mathlib.Core.Bool.{true};
+ghost use Prim.Native.Nat.{suc, _≤_, _<_};
+ghost use lib.ListN.{length, take};
+ghost use lib.Signed.{_≤ℤ_};
+ghost use Rattle.geom.specs.Points.{inRange};
+ghost use Rattle.segm.specs.Lists.{written};
+ghost use Rattle.segm.specs.Segments.{segments, segmentAt};
+ghost use Rattle.meetings.specs.Meetings.{Proper};
+ghost use Rattle.strip.specs.Strip.{above};
+ghost use Rattle.scan.specs.Scan.{stillOpen, placeOf, putAt, EndFrom, AllProper};
+
+// How many are open, and an x that none of them ends before.
+pub struct Open {
+    pub count: usize,
+    pub soonest: i32,
+}
+
+// The list with nothing in it.
+pub fn nothing() -> Open
+    ensures { λ r. ⌜ r .count ≡ 0 ⌝ }
+{
+    Open {
+        count: 0,
+        soonest: 2147483647,
+    }
+}
+
+fn lesser(x: i32, y: i32) -> i32
+    ensures { λ r. ⌜ (r ≤ℤ x) × (r ≤ℤ y) ⌝ }
+{
+    if x < y { x } else { y }
+}
+
+// Whether the segment at place i lies strictly under p.
+pub fn is_under(s: &[i32], i: usize, p: Point) -> bool
+    requires { ⌜ Proper (segmentAt (segments (now s)) i) × (inRange p ≡ true) ⌝ }
+    ensures { λ r. ⌜ r ≡ above (segmentAt (segments (now (s .entry))) i) p ⌝ }
+{
+    let t = segm::segment_at(s, i);
+    0 < geom::cross(t.a, t.b, p)
+}
+
+// Those that end at or before x leave the list.
+fn sift(s: &[i32], x: i32, list: &mut [u32], count: usize) -> Open
+    requires { ⌜ count ≤ length (now list) ⌝ }
+    ensures { λ r. ⌜ (now (list .exit) ≡ written (stillOpen (segments (now (s .entry))) x (take count (now (list .entry)))) (now (list .entry)))
+        × (r .count ≡ length (stillOpen (segments (now (s .entry))) x (take count (now (list .entry)))))
+        × EndFrom (segments (now (s .entry))) (r .soonest) (stillOpen (segments (now (s .entry))) x (take count (now (list .entry)))) ⌝ }
+{
+    let mut kept: usize = 0;
+    let mut soonest: i32 = 2147483647;
+    let mut k: usize = 0;
+    while k < count {
+        let i = list[k];
+        let t = segm::segment_at(s, i as usize);
+        let b = t.b;
+        if x < b.x {
+            list[kept] = i;
+            kept += 1;
+            soonest = lesser(b.x, soonest);
+        }
+        k += 1;
+    }
+    Open {
+        count: kept,
+        soonest: soonest,
+    }
+}
+
+// The same, with nothing to do where the first end is still to come.
+pub fn leave(s: &[i32], x: i32, list: &mut [u32], held: Open) -> Open
+    requires { ⌜ (held .count ≤ length (now list)) × EndFrom (segments (now s)) (held .soonest) (take (held .count) (now list)) ⌝ }
+    ensures { λ r. ⌜ (now (list .exit) ≡ written (stillOpen (segments (now (s .entry))) x (take (held .count) (now (list .entry)))) (now (list .entry)))
+        × (r .count ≡ length (stillOpen (segments (now (s .entry))) x (take (held .count) (now (list .entry)))))
+        × EndFrom (segments (now (s .entry))) (r .soonest) (stillOpen (segments (now (s .entry))) x (take (held .count) (now (list .entry)))) ⌝ }
+{
+    if x < held.soonest {
+        return held;
+    }
+    sift(s, x, list, held.count)
+}
+
+// The place of p in the list, by bisection.
+pub fn place_of(s: &[i32], list: &[u32], p: Point) -> usize
+    requires { ⌜ AllProper (segments (now s)) (now list) × (inRange p ≡ true) ⌝ }
+    ensures { λ r. ⌜ r ≡ placeOf (segments (now (s .entry))) p (now (list .entry)) ⌝ }
+{
+    let mut low: usize = 0;
+    let mut high = list.len();
+    while low < high {
+        let middle = low + (high - low) / 2;
+        if is_under(s, list[middle] as usize, p) {
+            low = middle + 1;
+        } else {
+            high = middle;
+        }
+    }
+    low
+}
+
+// i goes to place k of the list, and those from there on move up.
+fn insert(list: &mut [u32], count: usize, k: usize, i: u32)
+    requires { ⌜ (k ≤ count) × (count < length (now list)) ⌝ }
+    ensures { λ _. ⌜ now (list .exit) ≡ written (putAt k i (take count (now (list .entry)))) (now (list .entry)) ⌝ }
+{
+    let mut j = count;
+    while k < j {
+        list[j] = list[j - 1];
+        j -= 1;
+    }
+    list[k] = i;
+}
+
+// The segment at place i of the drawing enters the list at place k.
+pub fn enter(s: &[i32], list: &mut [u32], held: Open, k: usize, i: u32) -> Open
+    requires { ⌜ (k ≤ held .count)
+        × (held .count < length (now list))
+        × EndFrom (segments (now s)) (held .soonest) (take (held .count) (now list)) ⌝ }
+    ensures { λ r. ⌜ (now (list .exit) ≡ written (putAt k i (take (held .count) (now (list .entry)))) (now (list .entry)))
+        × (r .count ≡ suc (held .count))
+        × EndFrom (segments (now (s .entry))) (r .soonest) (putAt k i (take (held .count) (now (list .entry)))) ⌝ }
+{
+    let t = segm::segment_at(s, i as usize);
+    let b = t.b;
+    insert(list, held.count, k, i);
+    Open {
+        count: held.count + 1,
+        soonest: lesser(b.x, held.soonest),
+    }
+}

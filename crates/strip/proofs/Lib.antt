@@ -1,0 +1,6 @@
+pub mod Signs
+pub mod Gap
+pub mod Apart
+pub mod Above
+pub mod Visits
+pub mod Compare

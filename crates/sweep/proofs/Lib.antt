@@ -1,0 +1,11 @@
+pub mod Visiting
+pub mod Late
+pub mod StoredScan
+pub mod OpenList
+pub mod OpenScan
+pub mod Nodes
+pub mod VisitOrder
+pub mod Bottoms
+pub mod AsRay
+pub mod Theorem
+pub mod Cases

@@ -1,0 +1,35 @@
+-- The sweep with an ordered list of the segments still open, as the code has it: nothing is looked at twice that has ended, and the highest one under a point
+-- is found by bisection. Assumes nothing.
+use mathlib.Core.List.{List, []}
+use mathlib.Core.Bool.{cond}
+use Prim.Native.Nat.{ℕ, suc, _-_}
+use lib.Dec.{eqb}
+use lib.ListN.{getD, set}
+use lib.IntN.{ℤ, pos}
+use Rattle.geom.specs.declared.Point.{Point}
+use Rattle.segm.specs.Segments.{Drawing}
+use Rattle.scan.specs.Scan.{stillOpen, placeOf, putAt}
+use Rattle.fill_rule.specs.declared.Rule.{Rule}
+use Rattle.sweep.specs.Sweep.{sweepWith}
+
+pub record Opened : Type 0 where
+  -- the places of the open segments, the lowest first
+  pub list : List ℕ
+  -- at each of those places, the top count
+  pub tops : List ℤ
+  -- the place in the list where the next segment of the node goes: so many are under its point
+  pub next : ℕ
+
+unfoldable pub seekOpen : Drawing → Point → Opened → Opened
+seekOpen d p o = let list = stillOpen d (p .x) (o .list) in record { list = list; tops = o .tops; next = placeOf d p list }
+
+-- the top count of the last one under the point
+unfoldable pub countOpen : Point → Opened → ℤ
+countOpen p o = cond (eqb (o .next) 0) (pos 0) (getD (o .tops) (getD (o .list) (o .next - 1) 0) (pos 0))
+
+unfoldable pub storeOpen : ℕ → ℤ → Opened → Opened
+storeOpen i top o = record { list = putAt (o .next) i (o .list); tops = set (o .tops) i top; next = suc (o .next) }
+
+-- into a list of fills, with a list for the top counts
+unfoldable pub openSweep : Rule → Drawing → List ℤ → List ℕ → List ℕ
+openSweep rule d tops fills = sweepWith (seekOpen d) countOpen storeOpen rule d (record { list = []; tops = tops; next = 0 }) fills

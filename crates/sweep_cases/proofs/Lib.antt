@@ -1,0 +1,2 @@
+pub mod Drawings
+pub mod Computed
