@@ -97,6 +97,3 @@ module _ (d : Drawing) (h : Sound d) (i : ℕ) (within : i < length d) where
 
   pub proper-at : Proper (segmentAt d i)
   proper-at = proper (segmentAt d i) (at .ends) (at .order)
-
-  pub winding-at : windingInRange (segmentAt d i) ≡ true
-  winding-at = at .winding

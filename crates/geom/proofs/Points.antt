@@ -120,14 +120,6 @@ ltP-antisym {p} {q} h k = go (compare p q)
     go (inr (inl b)) = absurd (clash (before b) k)
     go (inr (inr e)) = e
 
--- not less: not to the left
-pub not-less-x : (p q : Point) → ltP q p ≡ false → p .x ≤ℤ q .x
-not-less-x p q h = go (order (q .x) (p .x))
-  where
-    go : (q .x <ℤ p .x) ⊎ (p .x ≤ℤ q .x) → p .x ≤ℤ q .x
-    go (inl l) = absurd (clash (before {p = q} {q = p} (inl l)) h)
-    go (inr l) = l
-
 -- not less is transitive too
 pub not-less-trans : (p q r : Point) → ltP q p ≡ false → ltP r q ≡ false → ltP r p ≡ false
 not-less-trans p q r h k = is-false (ltP r p) (λ e. go (compare p q) (ltP-true e))

@@ -51,13 +51,6 @@ got w a h e = read w a h ∙ e
 pub lit : (a : ℤ) → Val (natAbs a) a a
 lit a = record { is = refl; bound = N.le-refl (natAbs a) }
 
--- what is known of the integer otherwise
-pub at-most : {n m : ℕ} {x a : ℤ} → Val n x a → natAbs a ≤ m → Val m x a
-at-most i h = record { is = i .is; bound = h }
-
-pub same-as : {n : ℕ} {x a b : ℤ} → Val n x a → a ≡ b → Val n x b
-same-as {n} i e = record { is = i .is ∙ e; bound = subst (λ z. natAbs z ≤ n) e (i .bound) }
-
 -- ---- the operations
 pub cast : {w : Width} {n : ℕ} {x a : ℤ} → Val n x a → n < 2 ^ hbits w → Is w n x a
 cast {w} i t = record { val = i; fits = subst (SFits w) (sym (i .is)) (sfits-abs (N.lt-of-le-of-lt (i .bound) t)) }

@@ -1,16 +1,15 @@
 -- The order of visiting is strict and total among the segments of a good drawing.
 use mathlib.Core.Path.{_≡_}
-use mathlib.Core.Bool.{true, false}
+use mathlib.Core.Bool.{false}
 use Rattle.segm.specs.Lists.{Pairs}
 use Rattle.segm.specs.Segments.{Drawing}
 use Rattle.segm.proofs.Lists.{pairs-map}
 use Rattle.meetings.specs.Meetings.{meetsWrongly}
 use Rattle.checks.specs.Accepted.{Good}
 use Rattle.strip.specs.Visits.{first}
-use Rattle.strip.proofs.Visits.{First, first-true, first-by, first-trans, first-total, first-either}
+use Rattle.strip.proofs.Visits.{first-true, first-by, first-trans, first-total, first-either}
 use Rattle.strip.proofs.Apart.{apart}
-use Rattle.ray.specs.Sorting.{sort}
-use Rattle.ray.proofs.Sorting.{Either, Chains, sorted}
+use Rattle.ray.proofs.Sorting.{Either, Chains}
 use Rattle.ray.proofs.Invariance.{proper}
 
 module _ {d : Drawing} (g : Good d) where
@@ -19,6 +18,3 @@ module _ {d : Drawing} (g : Good d) where
 
   pub visits-chain : Chains first d
   visits-chain = λ s t u m n o p q. first-by (first-trans (proper g s m) (proper g t n) (proper g u o) (first-true p) (first-true q))
-
-  pub visits-sorted : Pairs First (sort first d)
-  visits-sorted = pairs-map {R = λ s t. first s t ≡ true} (sort first d) (λ s t m n e. first-true e) (sorted first d visits-either visits-chain)

@@ -3,18 +3,15 @@ use mathlib.Core.Path.{_≡_, refl, sym, _∙_, ap, ap₂, subst}
 use mathlib.Core.List.{List, [], _∷_, _++_, map, flatten, map-append, append-assoc, append-nil}
 use mathlib.Core.Logic.{_⊎_, inl, inr}
 use mathlib.Core.Bool.{Bool, true, false, _||_, true≢false}
-use Prim.Native.Nat.{ℕ, zero, suc, _<_, _≤_, _+_, _-_, _*_, _^_}
+use Prim.Native.Nat.{ℕ, zero, suc, _<_, _≤_, _+_, _-_, _*_}
 use native.Mathlib.Nat as N
 use native.Mathlib.Omega.{arith}
 use lib.ListN.{length, getD, take, drop, set, length-append, length-map, length-take, length-drop, drop-of-length-le}
 use native.Mathlib.Numerals.{add-one}
 use lib.Seq.{take-suc, take-at, take-all, drop-at, drop-cons, drop-drop, set-at}
-use lib.IntN.{ℤ, pos, natAbs, _+ℤ_, _-ℤ_, +ℤ-idl, +ℤ-idr, +ℤ-assoc}
-use mir.Syntax.{Width}
-use mir.Val.{hbits}
+use lib.IntN.{ℤ, pos, natAbs, _+ℤ_, _-ℤ_, +ℤ-idl, +ℤ-assoc}
 use Rattle.integers.proofs.Booleans.{nor-l, nor-r, one-of}
 use Rattle.integers.proofs.Linear.{ints, of-+}
-use Rattle.integers.proofs.Machine.{Is, cast}
 use Rattle.integers.proofs.Order.{abs-+}
 use Rattle.integers.proofs.Ring.{_⊞_, _⊟_, _≐_, ring4}
 use Rattle.segm.specs.Lists.{_∈_, Pairs, any, sum, written}
@@ -131,31 +128,11 @@ module _ {A : Type 0} where
   sum-++ f [] l = sym (+ℤ-idl (sum f l))
   sum-++ f (x ∷ k) l = ap (λ z. f x +ℤ z) (sum-++ f k l) ∙ sym (+ℤ-assoc (f x) (sum f k) (sum f l))
 
-  -- one place more
-  pub sum-take : (f : A → ℤ) (l : List A) (z : A) (i : ℕ) → i < length l → sum f (take (i + 1) l) ≡ sum f (take i l) +ℤ f (getD l i z)
-  unfolding sum
-  sum-take f l z i h = ap (λ k. sum f (take k l)) (add-one i) ∙ ap (sum f) (take-suc l i z h) ∙ sum-++ f (take i l) (getD l i z ∷ []) ∙ ap (λ y. sum f (take i l) +ℤ y) (+ℤ-idr (f (getD l i z)))
-
-  -- where nothing from place i on counts, the first i are all
-  pub sum-rest : (f : A → ℤ) (l : List A) (i : ℕ) → ((x : A) → x ∈ drop i l → f x ≡ pos 0) → sum f (take i l) ≡ sum f l
-  unfolding sum
-  sum-rest f l zero h = sym (sum-zero l h)
-  sum-rest f [] (suc i) h = refl
-  sum-rest f (x ∷ l) (suc i) h = ap (λ z. f x +ℤ z) (sum-rest f l i h)
-
   -- no summand is larger than k
   pub sum-bound : (f : A → ℤ) (k : ℕ) (l : List A) → ((x : A) → x ∈ l → natAbs (f x) ≤ k) → natAbs (sum f l) ≤ length l * k
   unfolding sum
   sum-bound f k [] h = omega arith
   sum-bound f k (x ∷ l) h = omega (arith, abs-+ (f x) (sum f l), h x (inl refl), sum-bound f k l (λ y m. h y (inr m)))
-
-  -- a machine's sum over the first i places, with the next one added
-  pub sum-next : {w : Width} (f : A → ℤ) (l : List A) (z : A) (k i : ℕ) → ((x : A) → x ∈ l → natAbs (f x) ≤ k) → length l * k < 2 ^ hbits w → i < length l
-      → {x y : ℤ} → x ≡ sum f (take i l) → y ≡ f (getD l i z) → Is w (length l * k) (x +ℤ y) (sum f (take (i + 1) l))
-  sum-next f l z k i h t j ex ey = cast (record { is = ap₂ _+ℤ_ ex ey ∙ sym (sum-take f l z i j); bound = N.le-trans (sum-bound f k (take (i + 1) l) (λ x m. h x (in-take (i + 1) l x m))) (N.mul-le-mul shorter (N.le-refl k)) }) t
-    where
-      shorter : length (take (i + 1) l) ≤ length l
-      shorter = omega (arith, length-take (i + 1) l)
 
   pub sum-map : {B : Type 0} (f : B → ℤ) (g : A → B) (l : List A) → sum f (map g l) ≡ sum (λ x. f (g x)) l
   unfolding sum

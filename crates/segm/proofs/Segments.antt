@@ -1,6 +1,6 @@
 -- Segments by place, and what a sum of windings depends on.
 use mathlib.Core.Path.{_≡_, refl, sym, _∙_, ap, ap₂, subst}
-use mathlib.Core.List.{List, _++_}
+use mathlib.Core.List.{List}
 use mathlib.Core.Bool.{Bool, true, false, _&&_}
 use Prim.Native.Nat.{ℕ, zero, suc, _+_, _*_, _<_, _≤_}
 use native.Mathlib.Omega.{arith}
@@ -10,7 +10,7 @@ use lib.IntN.{ℤ, pos, natAbs, _+ℤ_, +ℤ-comm, +ℤ-idl, +ℤ-idr}
 use Rattle.segm.specs.declared.Segment.{Segment}
 use Rattle.segm.specs.Lists.{_∈_, only}
 use Rattle.segm.specs.Segments.{Drawing, width, front, segmentsOf, count, segments, nowhere, segmentAt, total}
-use Rattle.segm.proofs.Lists.{in-at, stands, sum-cong, sum-zero, sum-++, sum-split, sum-trade}
+use Rattle.segm.proofs.Lists.{in-at, stands, sum-cong, sum-zero, sum-split, sum-trade}
 
 length-segmentsOf : (n : ℕ) (l : List ℤ) → length (segmentsOf n l) ≡ n
 unfolding segmentsOf
@@ -107,7 +107,3 @@ module _ (d : Drawing) where
   unfolding total
   total-trade P Q P′ Q′ h e =
       sum-trade (λ s. only (P s) (s .winding)) (λ s. only (Q s) (s .winding)) (λ s. only (P′ s) (s .winding)) (λ s. only (Q′ s) (s .winding)) d (λ s m. h s m (s .winding)) e
-
-pub total-++ : (P : Segment → Bool) (d e : Drawing) → total P (d ++ e) ≡ total P d +ℤ total P e
-unfolding total
-total-++ P d e = sum-++ (λ s. only (P s) (s .winding)) d e

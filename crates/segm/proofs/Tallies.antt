@@ -64,11 +64,6 @@ module _ {A : Type 0} where
       go zero e ih = let r = ih (omega arith) in (r .0, inr (r .1), r .2)
       go (suc n) e ih = (x, inl refl, omega arith)
 
-  pub tally-le : {f g : A → ℕ} (l : List A) → ((x : A) → x ∈ l → f x ≤ g x) → tally f l ≤ tally g l
-  unfolding tally
-  tally-le [] h = omega arith
-  tally-le (x ∷ l) h = omega (arith, h x (inl refl), tally-le l (λ y m. h y (inr m)))
-
   -- one place more
   pub tally-take : (f : A → ℕ) (l : List A) (z : A) (i : ℕ) → i < length l → tally f (take (i + 1) l) ≡ tally f (take i l) + f (getD l i z)
   unfolding tally
