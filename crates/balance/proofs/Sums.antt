@@ -28,7 +28,7 @@ use Rattle.ends.proofs.Ends.{end-a, end-b}
 use Rattle.graph.specs.Nodes.{Nodes}
 use Rattle.graph.proofs.Node.{both-ends}
 use Rattle.balance.specs.Balance.{balance, balances, unbalanced, firstUnbalanced, firstPlace, Weighed}
-use Rattle.balance.specs.Sums.{share, nodeSum, Summed, Known, isEven, isUneven}
+use Rattle.balance.specs.Sums.{share, nodeSum, Summed, Known, sumsToZero, endsUnbalanced}
 use Rattle.balance.proofs.Places.{same-first}
 
 -- a sum over the numbers from k up, one for each member of a list
@@ -155,17 +155,17 @@ module _ (d : Drawing) where
             ∙ ap (sum at-point) (both-ends n) ∙ sum-++ at-point (upFrom 0 n) (upFrom n n) ∙ ap₂ _+ℤ_ starts-sum ends-sum ∙ plus-less (sum starting d) (sum ending d)
 
       module _ {sums : List ℤ} (known : Known n nodes sums) (summed : Summed d nodes (2 * n) sums) where
-        even-is : (e : ℕ) → e < 2 * n → isEven nodes sums e ≡ balances d (endPoint d e)
-        unfolding isEven balances
-        even-is e h = ap (λ z. eqZ z (pos 0)) (summed (getD nodes e 0) (known .known e h) ∙ node-balance e h)
+        zero-is : (e : ℕ) → e < 2 * n → sumsToZero nodes sums e ≡ balances d (endPoint d e)
+        unfolding sumsToZero balances
+        zero-is e h = ap (λ z. eqZ z (pos 0)) (summed (getD nodes e 0) (known .known e h) ∙ node-balance e h)
 
-        uneven-is : (i : ℕ) → i < n → isUneven n nodes sums i ≡ unbalanced d i
-        unfolding isUneven unbalanced
-        uneven-is i h =
+        unbalanced-is : (i : ℕ) → i < n → endsUnbalanced n nodes sums i ≡ unbalanced d i
+        unfolding endsUnbalanced unbalanced
+        unbalanced-is i h =
             let z : n + i - n ≡ i = omega arith in
-            ap₂ (λ (a b : Bool). not (a && b)) (even-is i (omega arith) ∙ ap (balances d) (end-a d i h))
-            (even-is (n + i) (omega arith) ∙ ap (balances d) (end-b d (n + i) (omega arith) ∙ ap (λ j. segmentAt d j .b) z))
+            ap₂ (λ (a b : Bool). not (a && b)) (zero-is i (omega arith) ∙ ap (balances d) (end-a d i h))
+            (zero-is (n + i) (omega arith) ∙ ap (balances d) (end-b d (n + i) (omega arith) ∙ ap (λ j. segmentAt d j .b) z))
 
-        pub first-is : firstPlace (isUneven n nodes sums) n 0 ≡ firstUnbalanced d
+        pub first-is : firstPlace (endsUnbalanced n nodes sums) n 0 ≡ firstUnbalanced d
         unfolding firstUnbalanced
-        first-is = same-first (isUneven n nodes sums) (unbalanced d) n 0 (λ k l. uneven-is k (omega arith))
+        first-is = same-first (endsUnbalanced n nodes sums) (unbalanced d) n 0 (λ k l. unbalanced-is k (omega arith))

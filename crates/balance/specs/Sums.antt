@@ -28,9 +28,9 @@ pub record Known (n : ℕ) (nodes : List ℕ) (sums : List ℤ) : Type 0 where
   pub known : (e : ℕ) → e < 2 * n → getD nodes e 0 < length sums
 
 -- the sum at the node of end e is 0
-unfoldable pub isEven : List ℕ → List ℤ → ℕ → Bool
-isEven nodes sums e = eqZ (getD sums (getD nodes e 0) (pos 0)) (pos 0)
+unfoldable pub sumsToZero : List ℕ → List ℤ → ℕ → Bool
+sumsToZero nodes sums e = eqZ (getD sums (getD nodes e 0) (pos 0)) (pos 0)
 
 -- of n links, the sum at an end of link i is not 0
-unfoldable pub isUneven : ℕ → List ℕ → List ℤ → ℕ → Bool
-isUneven n nodes sums i = not (isEven nodes sums i && isEven nodes sums (n + i))
+unfoldable pub endsUnbalanced : ℕ → List ℕ → List ℤ → ℕ → Bool
+endsUnbalanced n nodes sums i = not (sumsToZero nodes sums i && sumsToZero nodes sums (n + i))

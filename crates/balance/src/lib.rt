@@ -5,7 +5,7 @@ ghost use lib.ListN.{length, getD};
 ghost use lib.IntN.{pos};
 ghost use Rattle.segm.specs.Segments.{segments};
 ghost use Rattle.balance.specs.Balance.{firstPlace, firstUnbalanced, Weighed};
-ghost use Rattle.balance.specs.Sums.{share, Summed, Known, isEven, isUneven};
+ghost use Rattle.balance.specs.Sums.{share, Summed, Known, sumsToZero, endsUnbalanced};
 
 // What end e adds to the balance at its point: its link's winding where that starts, and the opposite where it ends.
 fn share(s: &[i32], e: usize) -> i32
@@ -37,22 +37,22 @@ fn add_shares(s: &[i32], nodes: &[u32], sums: &mut [i32])
 }
 
 // Whether the sum at the node of end e is 0.
-fn is_even(nodes: &[u32], sums: &[i32], e: usize) -> bool
+fn sums_to_zero(nodes: &[u32], sums: &[i32], e: usize) -> bool
     requires { ⌜ (e < length (now nodes)) × (getD (now nodes) e 0 < length (now sums)) ⌝ }
-    ensures { λ r. ⌜ r ≡ isEven (now (nodes .entry)) (now (sums .entry)) e ⌝ }
+    ensures { λ r. ⌜ r ≡ sumsToZero (now (nodes .entry)) (now (sums .entry)) e ⌝ }
 {
     let v = nodes[e] as usize;
     sums[v] == 0
 }
 
 // Of n links, the first one with an end at which the sum is not 0; n if there is none.
-fn find_uneven(nodes: &[u32], sums: &[i32], n: usize) -> usize
+fn find_first(nodes: &[u32], sums: &[i32], n: usize) -> usize
     requires { ⌜ (n ≤ 1024) × Known n (now nodes) (now sums) ⌝ }
-    ensures { λ r. ⌜ r ≡ firstPlace (isUneven n (now (nodes .entry)) (now (sums .entry))) n 0 ⌝ }
+    ensures { λ r. ⌜ r ≡ firstPlace (endsUnbalanced n (now (nodes .entry)) (now (sums .entry))) n 0 ⌝ }
 {
     let mut i: usize = 0;
     while i < n {
-        if !(is_even(nodes, sums, i) & is_even(nodes, sums, n + i)) {
+        if !(sums_to_zero(nodes, sums, i) & sums_to_zero(nodes, sums, n + i)) {
             return i;
         }
         i += 1;
@@ -80,7 +80,7 @@ fn find_unbalanced(
     let e = 2 * n;
     graph::build_nodes(s, &mut flat[..e], starts, &mut nodes[..e]);
     add_shares(s, &nodes[..e], sums);
-    find_uneven(&nodes[..e], sums, n)
+    find_first(&nodes[..e], sums, n)
 }
 
 // The first place of a segment that touches an unbalanced point; the number of segments if there is none.

@@ -36,6 +36,7 @@ pub record Swept (S : Type 0) : Type 0 where
   pub scan : S
   pub fills : List ℕ
 
+-- a scan: `seek` is what it does when the sweep comes to a point, `count` the count it then says, and `store` takes in the segment at a place with its top count
 module _ {S : Type 0} (seek : Point → S → S) (count : Point → S → ℤ) (store : ℕ → ℤ → S → S) (rule : Rule) (d : Drawing) where
   -- the sum before a segment is its bottom count, the sum after it its top count; one that is not vertical is stored
   abbrev pub visitOne : ℕ → ℤ → Swept S → Swept S

@@ -12,7 +12,7 @@ use Rattle.segm.proofs.Segments.{length-segments}
 use Rattle.ends.proofs.Parts.{prefix-back, prefix-length}
 use Rattle.graph.specs.Nodes.{Nodes}
 use Rattle.balance.specs.Balance.{firstPlace}
-use Rattle.balance.specs.Sums.{Summed, Known, isUneven}
+use Rattle.balance.specs.Sums.{Summed, Known, endsUnbalanced}
 use Rattle.balance.proofs.Sums.{first-is}
 use Rattle.balance.proofs.find_unbalanced.Statement.{statement}
 use Rattle.balance.proofs.find_unbalanced.Tie as tie
@@ -124,14 +124,14 @@ module _ (a : tie.After-add-shares) where
   summed : Summed (d (k b)) (nodes b) (2 * length (d (k b))) sums
   summed = subst (λ m. Summed (d (k b)) (nodes b) m sums) (known .each-end) (a .add-shares .ensures)
 
-slice-reshare-prefix-find-uneven : tie.Need-slice-reshare-prefix-find-uneven
-slice-reshare-prefix-find-uneven c = nodes-inside (c .before .before .before .before .before .before .before .before .before .before)
+slice-reshare-prefix-find-first : tie.Need-slice-reshare-prefix-find-first
+slice-reshare-prefix-find-first c = nodes-inside (c .before .before .before .before .before .before .before .before .before .before)
 
-slice-aggregate-find-uneven : tie.Need-slice-aggregate-find-uneven
-slice-aggregate-find-uneven c = sym (nodes-number (c .before .before .before .before .before .before .before .before .before .before .before))
+slice-aggregate-find-first : tie.Need-slice-aggregate-find-first
+slice-aggregate-find-first c = sym (nodes-number (c .before .before .before .before .before .before .before .before .before .before .before))
 
-find-uneven-requires : tie.Need-find-uneven-requires
-find-uneven-requires c κs =
+find-first-requires : tie.Need-find-first-requires
+find-first-requires c κs =
     let a = c .before .before .before in
     (few (k (b a)), subst (λ m. Known m (nodes (b a)) (sums a)) (sym (n-is (k (b a)))) (known a))
 
@@ -150,8 +150,8 @@ same-length-4 c = search needs
 returns : tie.Need-returns
 returns c =
     let a = c .before .before .before .before in
-    c .find-uneven .ensures
-    ∙ ap (λ m. firstPlace (isUneven m (nodes (b a)) (sums a)) m 0) (n-is (k (b a)))
+    c .find-first .ensures
+    ∙ ap (λ m. firstPlace (endsUnbalanced m (nodes (b a)) (sums a)) m 0) (n-is (k (b a)))
     ∙ first-is (d (k (b a))) (nodes (b a)) (nodes-are (b a)) (known a) (summed a)
 
 pub find-unbalanced-spec : {M : Type 1} → statement M
@@ -168,9 +168,9 @@ find-unbalanced-spec =
     slice-reshare-prefix-add-shares
     slice-aggregate-add-shares
     add-shares-requires
-    slice-reshare-prefix-find-uneven
-    slice-aggregate-find-uneven
-    find-uneven-requires
+    slice-reshare-prefix-find-first
+    slice-aggregate-find-first
+    find-first-requires
     same-length
     same-length-2
     same-length-3

@@ -5,9 +5,9 @@ use lib.ListN.{getD}
 use lib.IntN.{pos}
 use mir.Syntax.{w32}
 use Rattle.geom.proofs.Points.{bits-eqZ}
-use Rattle.balance.specs.Sums.{isEven}
-use Rattle.balance.proofs.is_even.Statement.{statement}
-use Rattle.balance.proofs.is_even.Tie as tie
+use Rattle.balance.specs.Sums.{sumsToZero}
+use Rattle.balance.proofs.sums_to_zero.Statement.{statement}
+use Rattle.balance.proofs.sums_to_zero.Tie as tie
 
 mul-v : tie.Need-mul-v
 mul-v c = search needs
@@ -25,12 +25,12 @@ shared-slice-copy-out-result : tie.Need-shared-slice-copy-out-result
 shared-slice-copy-out-result c = search needs
 
 returns : tie.Need-returns
-unfolding isEven
+unfolding sumsToZero
 returns c =
     let a = c .before .before .args in
     bits-eqZ w32 (getD (a .sums .now) (getD (a .nodes .now) (a .e) 0) (pos 0)) (pos 0) (c .result .given) (lit< tt)
 
-pub is-even-spec : {M : Type 1} → statement M
-is-even-spec =
+pub sums-to-zero-spec : {M : Type 1} → statement M
+sums-to-zero-spec =
     tie.close
     (tie.spec mul-v shared-slice-read-v cast-v mul-result shared-slice-copy-out-result returns)
