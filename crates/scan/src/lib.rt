@@ -1,5 +1,6 @@
 // The ordered list of the open segments, by their places, the lowest first. Every function here is proved, and the crate assumes nothing of its own.
 use geom::Point;
+use segm::Segment;
 ghost use mathlib.Core.Path.{_≡_};
 ghost use mathlib.Core.Bool.{true};
 ghost use Prim.Native.Nat.{suc, _≤_, _<_};
@@ -9,7 +10,7 @@ ghost use Rattle.geom.specs.Points.{inRange};
 ghost use Rattle.segm.specs.Lists.{written};
 ghost use Rattle.segm.specs.Segments.{segments, segmentAt};
 ghost use Rattle.meetings.specs.Meetings.{Proper};
-ghost use Rattle.strip.specs.Strip.{above};
+ghost use Rattle.strip.specs.Strip.{isVertical, above};
 ghost use Rattle.scan.specs.Scan.{stillOpen, placeOf, putAt, EndFrom, AllProper};
 
 // How many are open, and an x that none of them ends before.
@@ -41,6 +42,15 @@ pub fn is_under(s: &[i32], i: usize, p: Point) -> bool
 {
     let t = segm::segment_at(s, i);
     0 < geom::cross(t.a, t.b, p)
+}
+
+// Whether t is vertical.
+pub fn is_vertical(t: Segment) -> bool
+    ensures { λ r. ⌜ r ≡ isVertical t ⌝ }
+{
+    let a = t.a;
+    let b = t.b;
+    a.x == b.x
 }
 
 // Those that end at or before x leave the list.

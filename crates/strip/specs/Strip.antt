@@ -3,9 +3,12 @@ use mathlib.Core.Bool.{Bool, _&&_, _||_, cond}
 use lib.IntN.{ℤ, pos, _+ℤ_, _-ℤ_, _*ℤ_}
 use lib.Signed.{ltZ, leZ}
 use Rattle.geom.specs.declared.Point.{Point}
-use Rattle.geom.specs.Points.{ltP}
+use Rattle.geom.specs.Points.{eqZ, ltP}
 use Rattle.segm.specs.declared.Segment.{Segment}
 use Rattle.meetings.specs.Meetings.{side}
+
+unfoldable pub isVertical : Segment → Bool
+isVertical s = eqZ (s .a .x) (s .b .x)
 
 -- aj.x ≤ x < bj.x: no vertical segment does that
 unfoldable pub spans : Segment → ℤ → Bool

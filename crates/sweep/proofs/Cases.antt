@@ -10,11 +10,11 @@ use Rattle.segm.specs.CaseA.{segment, A}
 use Rattle.ends.specs.Ends.{turnBefore}
 use Rattle.ends.specs.Ordering.{insert, ordering}
 use Rattle.meetings.specs.Meetings.{side}
-use Rattle.strip.specs.Strip.{spans, above, clockwise, reach, height, gap, falls, under}
+use Rattle.strip.specs.Strip.{isVertical, spans, above, clockwise, reach, height, gap, falls, under}
 use Rattle.scan.specs.Scan.{stillOpen, bisect, placeOf, putAt}
 use Rattle.fill_rule.specs.FillRule.{filled, ruleOf, fillOf}
 use Rattle.ray.specs.Ray.{met, bottom, top, fill, fills}
-use Rattle.sweep.specs.Sweep.{isVertical, startingAt, nodeSize, nodeFrom, visit, visitNode, sweepFrom, sweepWith}
+use Rattle.sweep.specs.Sweep.{startingAt, nodeSize, nodeFrom, visit, visitNode, sweepFrom, sweepWith}
 use Rattle.sweep.specs.Stored.{isUnder, higher, highest, countOf, storedCount, storeTop, sweepInto, sweep}
 use Rattle.sweep.specs.Open.{seekOpen, countOpen, storeOpen, openSweep}
 

@@ -1,23 +1,20 @@
 -- The sweep of the Rust's build/sweep.rs, line by line: nodes of one start in order, each with its segments counter-clockwise from the lowest, the scan asked once a node.
 -- As there, the scan is any collection that can be asked for the count under a point and that stores a segment with its top count. Assumes nothing.
 use mathlib.Core.List.{List, [], _∷_}
-use mathlib.Core.Bool.{Bool, cond}
+use mathlib.Core.Bool.{cond}
 use Prim.Native.Nat.{ℕ, zero, suc, _+_}
 use lib.Dec.{ltb}
 use lib.ListN.{length, drop, set}
 use lib.IntN.{ℤ, _+ℤ_}
 use Rattle.geom.specs.declared.Point.{Point}
-use Rattle.geom.specs.Points.{eqZ, eqP}
-use Rattle.segm.specs.declared.Segment.{Segment}
+use Rattle.geom.specs.Points.{eqP}
 use Rattle.segm.specs.Lists.{upFrom}
 use Rattle.segm.specs.Segments.{Drawing, segmentAt}
 use Rattle.ends.specs.Ends.{turnBefore}
 use Rattle.ends.specs.Ordering.{ordering}
+use Rattle.strip.specs.Strip.{isVertical}
 use Rattle.fill_rule.specs.declared.Rule.{Rule}
 use Rattle.fill_rule.specs.FillRule.{fillOf}
-
-unfoldable pub isVertical : Segment → Bool
-isVertical s = eqZ (s .a .x) (s .b .x)
 
 -- how many segments of the front start at p
 unfoldable pub startingAt : Point → Drawing → ℕ

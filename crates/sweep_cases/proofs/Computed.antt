@@ -3,17 +3,17 @@
 use mathlib.Core.Path.{_≡_, refl}
 use mathlib.Core.List.{List, map}
 use Prim.Native.Nat.{ℕ}
-use lib.IntN.{ℤ, pos}
-use Rattle.geom.specs.Points.{eqZ, ltP, eqP, cross}
+use lib.IntN.{pos}
+use Rattle.geom.specs.Points.{eqZ, eqP, cross}
 use Rattle.segm.specs.Lists.{upFrom, keep}
 use Rattle.segm.specs.Segments.{front, segmentsOf, count, segments, segmentAt}
 use Rattle.meetings.specs.Meetings.{side}
 use Rattle.ends.specs.Ends.{turnBefore}
 use Rattle.ends.specs.Ordering.{insert, ordering}
-use Rattle.strip.specs.Strip.{above, reach, height, gap, falls, under}
+use Rattle.strip.specs.Strip.{isVertical, above, reach, height, gap, falls, under}
 use Rattle.scan.specs.Scan.{stillOpen, bisect, placeOf, putAt}
 use Rattle.fill_rule.specs.FillRule.{filled, ruleOf, fillOf}
-use Rattle.sweep.specs.Sweep.{isVertical, startingAt, nodeSize, nodeFrom, visit, visitNode, sweepFrom, sweepWith}
+use Rattle.sweep.specs.Sweep.{startingAt, nodeSize, nodeFrom, visit, visitNode, sweepFrom, sweepWith}
 use Rattle.sweep.specs.Stored.{isUnder, higher, highest, countOf, storedCount, storeTop, sweepInto, sweep}
 use Rattle.sweep.specs.Open.{seekOpen, countOpen, storeOpen, openSweep}
 use Rattle.sweep_cases.proofs.Drawings.{Drawn, drawings}
