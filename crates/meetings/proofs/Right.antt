@@ -18,7 +18,7 @@ use Rattle.segm.specs.declared.Segment.{Segment}
 use Rattle.meetings.specs.Meetings.{side, parts, inside, sameEnds, meetsWrongly, Proper}
 
 -- the sides differ by the same on both
-same-turn : (s t : Segment) → side s (t .b) -ℤ side s (t .a) ≡ side t (s .a) -ℤ side t (s .b)
+pub same-turn : (s t : Segment) → side s (t .b) -ℤ side s (t .a) ≡ side t (s .a) -ℤ side t (s .b)
 unfolding side cross
 same-turn s t =
     ring8 (λ ax ay bx by cx cy dx dy. crossE ax ay bx by dx dy ⊟ crossE ax ay bx by cx cy ≐ crossE cx cy dx dy ax ay ⊟ crossE cx cy dx dy bx by) tt (s .a .x) (s .a .y) (s .b .x) (s .b .y) (t .a .x) (t .a .y) (t .b .x) (t .b .y)
@@ -45,7 +45,7 @@ positive-sum {k} {l} {m} {x} {y} {z} hk hx hl hy hm hz e =
     omega (ints, of-+ (k *ℤ x) (l *ℤ y +ℤ m *ℤ z), of-+ (l *ℤ y) (m *ℤ z), of-pos 0)
 
 -- p and q are strictly on opposite sides of 0
-abbrev Opposite : ℤ → ℤ → Type 0
+abbrev pub Opposite : ℤ → ℤ → Type 0
 Opposite p q = ((p <ℤ pos 0) × (pos 0 <ℤ q)) ⊎ ((pos 0 <ℤ p) × (q <ℤ pos 0))
 
 opposite : (p q : ℤ) → ((ltZ p (pos 0) && ltZ (pos 0) q) || (ltZ (pos 0) p && ltZ q (pos 0))) ≡ true → Opposite p q
@@ -55,7 +55,7 @@ opposite p q e = go (one-of (ltZ p (pos 0) && ltZ (pos 0) q) (ltZ (pos 0) p && l
     go (inl h) = inl (ltZ-true (both-l (ltZ p (pos 0)) (ltZ (pos 0) q) h), ltZ-true (both-r (ltZ p (pos 0)) (ltZ (pos 0) q) h))
     go (inr h) = inr (ltZ-true (both-l (ltZ (pos 0) p) (ltZ q (pos 0)) h), ltZ-true (both-r (ltZ (pos 0) p) (ltZ q (pos 0)) h))
 
-parts-true : (s t : Segment) → parts s t ≡ true → Opposite (side s (t .a)) (side s (t .b))
+pub parts-true : (s t : Segment) → parts s t ≡ true → Opposite (side s (t .a)) (side s (t .b))
 unfolding parts
 parts-true s t e = opposite (side s (t .a)) (side s (t .b)) e
 

@@ -4,3 +4,5 @@ pub mod Apart
 pub mod Above
 pub mod Visits
 pub mod Compare
+pub mod Tiers
+pub mod Clear

@@ -1,11 +1,12 @@
 -- Segments in a strip, the band between x and x + 1: which ones span it, which points are above them, and which of two is the lower. Assumes nothing.
-use mathlib.Core.Bool.{Bool, _&&_, _||_, cond}
+use mathlib.Core.Path.{_≡_}
+use mathlib.Core.Bool.{Bool, true, false, _&&_, _||_, cond}
 use lib.IntN.{ℤ, pos, _+ℤ_, _-ℤ_, _*ℤ_}
 use lib.Signed.{ltZ, leZ}
 use Rattle.geom.specs.declared.Point.{Point}
 use Rattle.geom.specs.Points.{eqZ, ltP}
 use Rattle.segm.specs.declared.Segment.{Segment}
-use Rattle.meetings.specs.Meetings.{side}
+use Rattle.meetings.specs.Meetings.{side, meetsWrongly}
 
 unfoldable pub isVertical : Segment → Bool
 isVertical s = eqZ (s .a .x) (s .b .x)
@@ -47,3 +48,8 @@ under x j h = falls (gap j h x) (gap j h (x +ℤ pos 1))
 -- (`Compare` proves that they agree for two that do not meet wrongly)
 unfoldable pub underBySide : Segment → Segment → Bool
 underBySide j h = cond (ltP (j .a) (h .a)) (above j (h .a)) (cond (ltP (h .a) (j .a)) (ltZ (side h (j .a)) (pos 0)) (clockwise j h))
+
+-- what is asked of neighbours in an ordered list: s is the lower, and the two do not meet wrongly. Nothing in it speaks of x
+pub record Next (s t : Segment) : Type 0 where
+  pub lower : underBySide s t ≡ true
+  pub clear : meetsWrongly s t ≡ false

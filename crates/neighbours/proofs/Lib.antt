@@ -1,0 +1,5 @@
+pub mod Chain
+pub mod Lists
+pub mod Upright
+pub mod Event
+pub mod Turn

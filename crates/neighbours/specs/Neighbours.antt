@@ -1,0 +1,46 @@
+-- Lists in which neighbours are related, and what is asked of a list of open segments and of the vertical ones beside it. Assumes nothing.
+use mathlib.Core.Path.{_≡_}
+use mathlib.Core.List.{List, [], _∷_}
+use mathlib.Core.Logic.{_⊎_}
+use Prim.Native.Nat.{ℕ, suc, _≤_, _<_}
+use lib.ListN.{length, getD}
+use lib.IntN.{ℤ, pos}
+use lib.Signed.{_<ℤ_}
+use Rattle.geom.specs.declared.Point.{Point}
+use Rattle.segm.specs.declared.Segment.{Segment}
+use Rattle.meetings.specs.Meetings.{side}
+
+module _ {A : Type 0} where
+  -- P holds of the first, and of the last, where there is one
+  abbrev pub First : (A → Type 0) → List A → Type 0
+  First P [] = Unit {0}
+  First P (x ∷ l) = P x
+
+  abbrev pub Last : (A → Type 0) → List A → Type 0
+  Last P [] = Unit {0}
+  Last P (x ∷ []) = P x
+  Last P (x ∷ (y ∷ l)) = Last P (y ∷ l)
+
+  -- R holds of every two neighbours
+  abbrev pub Chain : (A → A → Type 0) → List A → Type 0
+  Chain R [] = Unit {0}
+  Chain R (x ∷ l) = First (R x) l × Chain R l
+
+-- ---- a vertical segment and the list, e being one of the two ends
+-- s lies under p: strictly, or with its end at p. And above
+abbrev pub Under : (Segment → Point) → Point → Segment → Type 0
+Under e p s = (pos 0 <ℤ side s p) ⊎ (e s ≡ p)
+
+abbrev pub Above : (Segment → Point) → Point → Segment → Type 0
+Above e p s = (side s p <ℤ pos 0) ⊎ (e s ≡ p)
+
+-- s passes v: it lies under v's foot or above its head
+abbrev pub Passes : (Segment → Point) → Segment → Segment → Type 0
+Passes e v s = Under e (v .a) s ⊎ Above e (v .b) s
+
+-- v's cut in a list: the one before it lies under v's foot, the one after it above its head
+pub record Cut {A : Type 0} (e : Segment → Point) (seg : A → Segment) (z : A) (v : Segment) (l : List A) : Type 0 where
+  pub place : ℕ
+  pub inside : place ≤ length l
+  pub below : (k : ℕ) → suc k ≡ place → Under e (v .a) (seg (getD l k z))
+  pub above : place < length l → Above e (v .b) (seg (getD l place z))
