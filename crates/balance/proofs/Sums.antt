@@ -25,9 +25,8 @@ use Rattle.segm.proofs.Segments.{segment-in, only-bound}
 use Rattle.segm.proofs.Tallies.{in-upFrom, length-upFrom, upFrom-++}
 use Rattle.ends.specs.Ends.{endPoint}
 use Rattle.ends.proofs.Ends.{end-a, end-b}
-use Rattle.graph.specs.Nodes.{Nodes}
 use Rattle.graph.proofs.Node.{both-ends}
-use Rattle.balance.specs.Balance.{balance, balances, unbalanced, firstUnbalanced, firstPlace, Weighed}
+use Rattle.balance.specs.Balance.{balance, balances, unbalanced, firstUnbalanced, firstPlace, Weighed, Numbered}
 use Rattle.balance.specs.Sums.{share, nodeSum, Summed, Known, sumsToZero, endsUnbalanced}
 use Rattle.balance.proofs.Places.{same-first}
 
@@ -112,7 +111,7 @@ module _ (d : Drawing) where
             ∙ sym (sum-more k v ∙ ap (λ (b : Bool). nodeSum d nodes k v +ℤ only b (share d k)) f ∙ +ℤ-idr (nodeSum d nodes k v))
 
     -- ---- all ends
-    module _ {flat starts : List ℕ} (are : Nodes d flat starts nodes) where
+    module _ (are : Numbered d nodes) where
       module _ (e : ℕ) (h : e < 2 * n) where
         abbrev p : Point
         p = endPoint d e
@@ -153,6 +152,9 @@ module _ (d : Drawing) where
         node-balance =
             sum-cong (upFrom 0 (2 * n)) (λ f m. by-point f (omega (arith, in-upFrom f 0 (2 * n) m .1)))
             ∙ ap (sum at-point) (both-ends n) ∙ sum-++ at-point (upFrom 0 n) (upFrom n n) ∙ ap₂ _+ℤ_ starts-sum ends-sum ∙ plus-less (sum starting d) (sum ending d)
+
+      pub sums-known : {sums : List ℤ} → length sums ≡ 2048 → Known n nodes sums
+      sums-known h = record { each-end = are .each-end; known = λ e l. omega (arith, are .known e l) }
 
       module _ {sums : List ℤ} (known : Known n nodes sums) (summed : Summed d nodes (2 * n) sums) where
         zero-is : (e : ℕ) → e < 2 * n → sumsToZero nodes sums e ≡ balances d (endPoint d e)

@@ -1,10 +1,10 @@
-// Whether every point of a drawing balances, by its ordered ends. Every function here is proved, and the crate assumes nothing of its own.
+// Whether every point of a drawing balances, by the nodes of its ends. Every function here is proved, and the crate assumes nothing of its own.
 ghost use mathlib.Core.Path.{_≡_};
 ghost use Prim.Native.Nat.{ℕ, _*_, _≤_, _<_};
 ghost use lib.ListN.{length, getD};
 ghost use lib.IntN.{pos};
 ghost use Rattle.segm.specs.Segments.{segments};
-ghost use Rattle.balance.specs.Balance.{firstPlace, firstUnbalanced, Weighed};
+ghost use Rattle.balance.specs.Balance.{firstPlace, firstUnbalanced, Weighed, Numbered};
 ghost use Rattle.balance.specs.Sums.{share, Summed, Known, sumsToZero, endsUnbalanced};
 
 // What end e adds to the balance at its point: its link's winding where that starts, and the opposite where it ends.
@@ -60,37 +60,12 @@ fn find_first(nodes: &[u32], sums: &[i32], n: usize) -> usize
     n
 }
 
-// The first place of a segment that touches an unbalanced point. The lists but `sums` are working memory, and `sums` has 0 everywhere.
-fn find_unbalanced(
-    s: &[i32],
-    flat: &mut [u32],
-    starts: &mut [u32],
-    nodes: &mut [u32],
-    sums: &mut [i32],
-) -> usize
-    requires { ⌜ Weighed (segments (now s))
-        × (length (now flat) ≡ 2048)
-        × (length (now starts) ≡ 2049)
-        × (length (now nodes) ≡ 2048)
-        × (length (now sums) ≡ 2048)
-        × ((v : ℕ) → v < length (now sums) → getD (now sums) v (pos 0) ≡ pos 0) ⌝ }
-    ensures { λ r. ⌜ r ≡ firstUnbalanced (segments (now (s .entry))) ⌝ }
-{
-    let n = segm::count(s);
-    let e = 2 * n;
-    graph::build_nodes(s, &mut flat[..e], starts, &mut nodes[..e]);
-    add_shares(s, &nodes[..e], sums);
-    find_first(&nodes[..e], sums, n)
-}
-
 // The first place of a segment that touches an unbalanced point; the number of segments if there is none.
-pub fn first_unbalanced(s: &[i32]) -> usize
-    requires { ⌜ Weighed (segments (now s)) ⌝ }
+pub fn first_unbalanced(s: &[i32], nodes: &[u32]) -> usize
+    requires { ⌜ Weighed (segments (now s)) × Numbered (segments (now s)) (now nodes) ⌝ }
     ensures { λ r. ⌜ r ≡ firstUnbalanced (segments (now (s .entry))) ⌝ }
 {
-    let mut flat = [0u32; 2048];
-    let mut starts = [0u32; 2049];
-    let mut nodes = [0u32; 2048];
     let mut sums = [0i32; 2048];
-    find_unbalanced(s, &mut flat, &mut starts, &mut nodes, &mut sums)
+    add_shares(s, nodes, &mut sums);
+    find_first(nodes, &sums, segm::count(s))
 }

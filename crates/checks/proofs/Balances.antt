@@ -18,7 +18,7 @@ use Rattle.checks.specs.declared.Verdict.the-variants.{Accepted, Refused
 use Rattle.checks.specs.Drawing.{windingInRange, unbalancedAt}
 use Rattle.checks.specs.Verdict.{firstFrom, first}
 use Rattle.checks.specs.Search.{Sound}
-use Rattle.checks.proofs.Faults.{at, rising-starts}
+use Rattle.checks.proofs.Faults.{at}
 
 pub winding-bound : (s : Segment) → windingInRange s ≡ true → natAbs (s .winding) ≤ 1000
 unfolding windingInRange
@@ -28,7 +28,6 @@ pub weighed : (d : Drawing) → Sound d → Weighed d
 unfolding segmentAt
 weighed d h = record {
   few = h .few;
-  rising = rising-starts d (at d h);
   winding = λ s m. let w = stands d nowhere s m in subst (λ (t : Segment). natAbs (t .winding) ≤ 1000) (w .is) (winding-bound (segmentAt d (w .place)) (at d h (w .place) (w .inside) .winding));
 }
 

@@ -1,5 +1,5 @@
 -- The first place with a refusal: what it means that there is none, and that there is one.
-use mathlib.Core.Path.{_≡_, sym, ap, _∙_}
+use mathlib.Core.Path.{_≡_, refl, sym, ap, _∙_}
 use mathlib.Core.Logic.{_⊎_, inl, inr}
 use mathlib.Core.Bool.{Bool, true, false, cond}
 use Prim.Native.Nat.{ℕ, zero, suc, _+_, _-_, _<_, _≤_}
@@ -10,6 +10,7 @@ use lib.ListN.{length}
 use borrow.Author.Tests.{eqb-true, eqb-false, eq-eqb, ne-eqb}
 use Rattle.integers.proofs.Booleans.{dec}
 use Rattle.segm.specs.Segments.{Drawing}
+use Rattle.checks.specs.declared.Verdict.{Verdict}
 use Rattle.checks.specs.declared.Verdict.the-variants.{Accepted, Refused}
 use Rattle.checks.specs.Verdict.{firstFrom, first}
 
@@ -75,3 +76,11 @@ module _ (f : ℕ → ℕ) (d : Drawing) where
   pub first-at : (number place : ℕ) → first f d ≡ Refused number place → At f (length d) number place
   unfolding first
   first-at number place e = let r = at-from f (length d) 0 number place e in record { inside = omega (arith, r .inside); is = r .is; some = r .some }
+
+  -- nothing is wrong at any place
+  pub all-none : ((i : ℕ) → i < length d → f i ≡ 0) → first f d ≡ Accepted
+  all-none none = go (first f d) refl
+    where
+      go : (v : Verdict) → first f d ≡ v → v ≡ Accepted
+      go Accepted e = refl
+      go (Refused number place) e = let a = first-at number place e in absurd (a .some (sym (a .is) ∙ none place (a .inside)))

@@ -3,13 +3,16 @@
 use geom::Point;
 use segm::Segment;
 ghost use mathlib.Core.Path.{_≡_};
-ghost use Prim.Native.Nat.{_-_, _<_};
+ghost use Prim.Native.Nat.{_-_, _*_, _<_};
 ghost use lib.ListN.{length, drop};
-ghost use Rattle.segm.specs.Lists.{any};
+ghost use Rattle.segm.specs.Lists.{any, upFrom};
 ghost use Rattle.segm.specs.Segments.{segments};
+ghost use Rattle.ends.specs.Ends.{endBefore};
+ghost use Rattle.ends.specs.Ordering.{ordering};
 ghost use Rattle.meetings.specs.Meetings.{Proper, meetsWrongly};
+ghost use Rattle.balance.specs.Balance.{Numbered};
 ghost use Rattle.checks.specs.Drawing.{fault, faultAt, meetingAt, unbalancedAt};
-ghost use Rattle.checks.specs.Verdict.{wrongLength, unknownChoice, tooShort, first, inOrder, verdict};
+ghost use Rattle.checks.specs.Verdict.{wrongLength, unknownChoice, tooShort, first, _then_, inOrder, verdict};
 ghost use Rattle.checks.specs.Runs.{upTo, lent, fillsRun, clipRun, sliceRun};
 ghost use Rattle.checks.specs.Search.{Sound, Ready, numberAt};
 
@@ -123,16 +126,44 @@ fn find_first(search: Search, s: &[i32]) -> Verdict
     Verdict::Accepted
 }
 
+// Refusal 8, at the first place of a segment that meets a later one wrongly. The sweep tells of nearly every drawing without one that it has none; only where it does not are pairs looked at.
+fn find_meeting(s: &[i32], flat: &[u32]) -> Verdict
+    requires { ⌜ Sound (segments (now s)) × (now flat ≡ ordering (endBefore (segments (now s))) (upFrom 0 (2 * length (segments (now s))))) ⌝ }
+    ensures { λ r. ⌜ r ≡ first (meetingAt (segments (now (s .entry)))) (segments (now (s .entry))) ⌝ }
+{
+    if meeting_sweep::is_clear(s, flat) {
+        return Verdict::Accepted;
+    }
+    find_first(Search::Meetings, s)
+}
+
 // Refusal 9, at the first place of a segment that touches an unbalanced point.
-fn find_unbalanced(s: &[i32]) -> Verdict
-    requires { ⌜ Sound (segments (now s)) ⌝ }
+fn find_unbalanced(s: &[i32], nodes: &[u32]) -> Verdict
+    requires { ⌜ Sound (segments (now s)) × Numbered (segments (now s)) (now nodes) ⌝ }
     ensures { λ r. ⌜ r ≡ first (unbalancedAt (segments (now (s .entry)))) (segments (now (s .entry))) ⌝ }
 {
-    let place = balance::first_unbalanced(s);
+    let place = balance::first_unbalanced(s, nodes);
     if segm::count(s) <= place {
         return Verdict::Accepted;
     }
     Verdict::Refused(9, place)
+}
+
+// Refusals 8 and 9, by the ordered ends and their nodes.
+fn find_by_ends(s: &[i32]) -> Verdict
+    requires { ⌜ Sound (segments (now s)) ⌝ }
+    ensures { λ r. ⌜ r ≡ (first (meetingAt (segments (now (s .entry)))) (segments (now (s .entry))) then first (unbalancedAt (segments (now (s .entry)))) (segments (now (s .entry)))) ⌝ }
+{
+    let mut flat = [0u32; 2048];
+    let mut starts = [0u32; 2049];
+    let mut nodes = [0u32; 2048];
+    let e = 2 * segm::count(s);
+    graph::build_nodes(s, &mut flat[..e], &mut starts, &mut nodes[..e]);
+    let meetings = find_meeting(s, &flat[..e]);
+    let Verdict::Accepted = meetings else {
+        return meetings;
+    };
+    find_unbalanced(s, &nodes[..e])
 }
 
 // Every refusal in its order, of which 10 and 11 have been tried.
@@ -155,11 +186,7 @@ fn in_order(s: &[i32], unknown: bool, short: bool) -> Verdict
     let Verdict::Accepted = faults else {
         return faults;
     };
-    let meetings = find_first(Search::Meetings, s);
-    let Verdict::Accepted = meetings else {
-        return meetings;
-    };
-    find_unbalanced(s)
+    find_by_ends(s)
 }
 
 // Whether a choice is none of 0 to the greatest.

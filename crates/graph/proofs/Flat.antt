@@ -60,9 +60,12 @@ module _ (links : Drawing) where
       at-one p a b h k = ap₂ ltP (eqP-true h) (eqP-true k) ∙ ltP-irrefl p
 
   -- each place has its node
-  module _ {flat : List ℕ} (o : Ordered flat) (S N : List ℕ) (long : length N ≡ 2 * length links)
+  module _ {flat : List ℕ} (order : flat ≡ ordering (endBefore links) (upFrom 0 (2 * length links))) (S N : List ℕ) (long : length N ≡ 2 * length links)
       (whole : (q : ℕ) → q < length flat → Whole (endPoint links) flat S (pointAt (endPoint links) flat q) (getD N (getD flat q 0) 0))
       (agree : Agree (endPoint links) flat (length flat) N) where
+    abbrev o : Ordered flat
+    o = ordered order
+
     each : (e : ℕ) → e < 2 * length links → Whole (endPoint links) flat S (endPoint links e) (getD N e 0)
     each e h = let s = stands flat 0 e (o .has e h) in subst (λ x. Whole (endPoint links) flat S (endPoint links x) (getD N x 0)) (s .is) (whole (s .place) (s .inside))
 
@@ -86,6 +89,7 @@ module _ (links : Drawing) where
 
     pub nodes-of : Nodes links flat S N
     nodes-of = record {
+      order = order;
       all-ends = o .all;
       each-end = omega arith;
       known = λ e h. each e h .known;

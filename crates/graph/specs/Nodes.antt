@@ -9,7 +9,8 @@ use Rattle.geom.specs.declared.Point.{Point}
 use Rattle.geom.specs.Points.{ltP, eqP}
 use Rattle.segm.specs.Lists.{_∈_, Pairs, keep, upFrom}
 use Rattle.segm.specs.Segments.{Drawing, segmentAt}
-use Rattle.ends.specs.Ends.{endPoint}
+use Rattle.ends.specs.Ends.{endPoint, endBefore}
+use Rattle.ends.specs.Ordering.{ordering}
 
 -- the list of a node: the links starting at p in link order, then those ending there in link order
 unfoldable pub node : Drawing → Point → List ℕ
@@ -33,6 +34,8 @@ Rising links = Pairs (λ s t. ltP (t .a) (s .a) ≡ false) links
 -- nodes as one flat list of ends with starts: each end of a link knows the number of its node; the part of that node are the ends at its point,
 -- and their links are the node's list
 pub record Nodes (links : Drawing) (flat starts nodes : List ℕ) : Type 0 where
+  -- the ends in order of their points, stable
+  pub order : flat ≡ ordering (endBefore links) (upFrom 0 (2 * length links))
   pub all-ends : length flat ≡ 2 * length links
   pub each-end : 2 * length links ≤ length nodes
   pub known : (e : ℕ) → e < 2 * length links → suc (getD nodes e 0) < length starts

@@ -1,16 +1,17 @@
 -- The ordered lists of those that span a strip, from event to event. Places are of any type.
-use mathlib.Core.Path.{_≡_}
+use mathlib.Core.Path.{_≡_, sym, ap, _∙_}
 use mathlib.Core.List.{List}
 use mathlib.Core.Logic.{_⊎_, inl, inr}
 use lib.IntN.{ℤ}
 use lib.Signed.{_≤ℤ_, _<ℤ_}
+use Rattle.integers.proofs.Booleans.{clash}
 use Rattle.integers.proofs.Linear.{ints}
 use Rattle.integers.proofs.Order.{order}
 use Rattle.segm.specs.declared.Segment.{Segment}
 use Rattle.segm.specs.Lists.{_∈_, Pairs}
-use Rattle.segm.proofs.Lists.{pairs-at}
-use Rattle.strip.specs.Strip.{Next}
-use Rattle.strip.proofs.Apart.{Apart, Wide, Over, over-wide}
+use Rattle.segm.proofs.Lists.{pairs-map, pairs-at}
+use Rattle.strip.specs.Strip.{under, Next}
+use Rattle.strip.proofs.Apart.{Apart, Wide, Over, over-wide, under-irrefl}
 use Rattle.strip.proofs.Tiers.{Tier, tier-trans, next-tier, ordered-apart}
 use Rattle.neighbours.specs.Neighbours.{Chain}
 use Rattle.neighbours.proofs.Chain.{chain-pairs}
@@ -36,6 +37,10 @@ module _ {A : Type 0} (seg : A → Segment) (d : List A) where
     where
       over : (i : A) → i ∈ l → Over x (seg i)
       over i m = h .mine i m .1
+
+  -- none stands twice
+  pub holds-distinct : {x : ℤ} {l : List A} → Holds seg d x l → Pairs (λ i j. i ≡ j → ⊥) l
+  holds-distinct {x} {l} h = pairs-map {R = λ i j. Tier x (seg i) (seg j)} l (λ i j m n t e. clash (t .lower) (ap (λ k. under x (seg i) (seg k)) (sym e) ∙ under-irrefl (seg i) x)) (holds-tiers h)
 
   pub holds-fine : {x : ℤ} {l : List A} → Holds seg d x l → Fine x
   holds-fine {x} {l} h i j m n ne oi oj = go (pairs-at (λ i j. Tier x (seg i) (seg j)) l (holds-tiers h) i j (h .every i m oi) (h .every j n oj))

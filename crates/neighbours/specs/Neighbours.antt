@@ -2,13 +2,18 @@
 use mathlib.Core.Path.{_≡_}
 use mathlib.Core.List.{List, [], _∷_}
 use mathlib.Core.Logic.{_⊎_}
+use mathlib.Core.Bool.{false}
 use Prim.Native.Nat.{ℕ, suc, _≤_, _<_}
 use lib.ListN.{length, getD}
 use lib.IntN.{ℤ, pos}
 use lib.Signed.{_<ℤ_}
 use Rattle.geom.specs.declared.Point.{Point}
+use Rattle.geom.specs.Points.{ltP}
 use Rattle.segm.specs.declared.Segment.{Segment}
-use Rattle.meetings.specs.Meetings.{side}
+use Rattle.segm.specs.Lists.{_∈_, Pairs}
+use Rattle.segm.specs.Segments.{Drawing, segmentAt}
+use Rattle.meetings.specs.Meetings.{Proper, side}
+use Rattle.strip.specs.Strip.{Next}
 
 module _ {A : Type 0} where
   -- P holds of the first, and of the last, where there is one
@@ -44,3 +49,20 @@ pub record Cut {A : Type 0} (e : Segment → Point) (seg : A → Segment) (z : A
   pub inside : place ≤ length l
   pub below : (k : ℕ) → suc k ≡ place → Under e (v .a) (seg (getD l k z))
   pub above : place < length l → Above e (v .b) (seg (getD l place z))
+
+-- ---- a drawing and lists of its places
+-- a drawing that refusals 2 to 7 leave
+pub record Ready (d : Drawing) : Type 0 where
+  pub few : length d ≤ 1024
+  pub proper : (i : ℕ) → i < length d → Proper (segmentAt d i)
+  pub rising : Pairs (λ s t. ltP (t .a) (s .a) ≡ false) d
+
+abbrev pub Known : Drawing → List ℕ → Type 0
+Known d l = (i : ℕ) → i ∈ l → i < length d
+
+-- every two neighbours may stand side by side
+abbrev pub Ordered : Drawing → List ℕ → Type 0
+Ordered d l = Chain (λ i j. Next (segmentAt d i) (segmentAt d j)) l
+
+abbrev pub Distinct : List ℕ → Type 0
+Distinct l = Pairs (λ i j. i ≡ j → ⊥) l

@@ -1,15 +1,15 @@
 -- The list in place: those from a place on move up one by one, from the back, and those that stay move to the front.
 use mathlib.Core.Path.{_≡_, refl, sym, _∙_, ap, ap₂}
-use mathlib.Core.List.{List, [], _∷_, _++_, append-assoc}
+use mathlib.Core.List.{List, [], _∷_, _++_, append-assoc, append-nil}
 use Prim.Native.Nat.{ℕ, zero, suc, _+_, _-_, _<_, _≤_}
 use native.Mathlib.Omega.{arith}
-use native.Mathlib.Numerals.{unary-clauses}
+use native.Mathlib.Numerals.{unary-clauses, add-one}
 use lib.ListN.{length, getD, take, drop, set, take-append-drop, List·getD-append}
-use lib.Seq.{take-suc, take-all, drop-length, drop-cons, set-at, set-append-left, getD-take, getD-drop, length-take-le, split-at}
+use lib.Seq.{take-suc, take-all, take-take, take-append-le, drop-append-le, drop-length, drop-cons, set-at, set-append-left, getD-take, getD-drop, length-take-le, split-at}
 use Rattle.segm.specs.Lists.{written}
-use Rattle.segm.proofs.Lists.{written-past}
-use Rattle.scan.specs.Scan.{putAt}
-use Rattle.scan.proofs.Laws.{length-put}
+use Rattle.segm.proofs.Lists.{written-past, written-more}
+use Rattle.scan.specs.Scan.{putAt, outAt}
+use Rattle.scan.proofs.Laws.{length-put, length-out}
 
 -- ---- moving up: the first j as they were, the rest one place further, and any entry between them
 module _ (l old : List ℕ) where
@@ -79,3 +79,33 @@ unwritten answer old k h =
     ∙ ap (λ (a : List ℕ). getD a (k - n) 0) (written-past answer old n refl)
     ∙ getD-drop n old (k - n) 0
     ∙ ap (λ m. getD old m 0) e
+
+-- ---- moving down: one is taken out at place k, and the rest up to place j have moved
+length-moved : (old : List ℕ) (k j : ℕ) → k < j → j ≤ length old → j - 1 ≡ length (outAt k (take j old))
+length-moved old k j h l = omega (arith, length-out k (take j old) (omega (arith, length-take-le j old l)), length-take-le j old l)
+
+pub none-moved : (old : List ℕ) (k : ℕ) → k < length old → old ≡ written (outAt k (take (k + 1) old)) old
+unfolding outAt
+none-moved old k h =
+    let long : length (take (k + 1) old) ≡ k + 1 = length-take-le (k + 1) old (omega arith) in
+    let past : suc k ≡ length (take (k + 1) old) = omega (arith, long) in
+    let none : drop (suc k) (take (k + 1) old) ≡ [] = ap (λ n. drop n (take (k + 1) old)) past ∙ drop-length (take (k + 1) old) in
+    sym (ap₂ (λ (a b : List ℕ). written (a ++ b) old) (take-take k (k + 1) old (omega arith)) none ∙ ap (λ (a : List ℕ). written a old) (append-nil (take k old)) ∙ written-own old k (omega arith))
+
+out-more : (old : List ℕ) (k j : ℕ) → k < j → j < length old → outAt k (take j old) ++ (getD old j 0 ∷ []) ≡ outAt k (take (j + 1) old)
+unfolding outAt
+out-more old k j h l =
+    let long : length (take j old) ≡ j = length-take-le j old (omega arith) in
+    let one = getD old j 0 ∷ [] in
+    append-assoc (take k (take j old)) (drop (suc k) (take j old)) one
+    ∙ sym (ap₂ (λ (a b : List ℕ). a ++ b) (take-append-le k (take j old) one (omega (arith, long))) (drop-append-le (suc k) (take j old) one (omega (arith, long))))
+    ∙ ap (λ (a : List ℕ). take k a ++ drop (suc k) a) (sym (ap (λ n. take n old) (add-one j) ∙ take-suc old j 0 l))
+
+-- one moves down
+pub move-down : (old list : List ℕ) (k j : ℕ) → k < j → j < length old → list ≡ written (outAt k (take j old)) old → set list (j - 1) (getD list j 0) ≡ written (outAt k (take (j + 1) old)) old
+move-down old list k j h l e =
+    let many = length-moved old k j h (omega arith) in
+    let entry : getD list j 0 ≡ getD old j 0 = ap (λ (a : List ℕ). getD a j 0) e ∙ unwritten (outAt k (take j old)) old j (omega (arith, many)) in
+    ap₂ (λ (a : List ℕ) (y : ℕ). set a (j - 1) y) e entry
+    ∙ written-more (outAt k (take j old)) old (j - 1) (getD old j 0) many (omega arith)
+    ∙ ap (λ (a : List ℕ). written a old) (out-more old k j h l)

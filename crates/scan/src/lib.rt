@@ -10,8 +10,8 @@ ghost use Rattle.geom.specs.Points.{inRange};
 ghost use Rattle.segm.specs.Lists.{written};
 ghost use Rattle.segm.specs.Segments.{segments, segmentAt};
 ghost use Rattle.meetings.specs.Meetings.{Proper};
-ghost use Rattle.strip.specs.Strip.{isVertical, above};
-ghost use Rattle.scan.specs.Scan.{stillOpen, placeOf, putAt, EndFrom, AllProper};
+ghost use Rattle.strip.specs.Strip.{isVertical, underBySide};
+ghost use Rattle.scan.specs.Scan.{stillOpen, isBelow, placeBy, putAt, outAt, EndFrom, AllProper, Near};
 
 // How many are open, and an x that none of them ends before.
 pub struct Open {
@@ -35,13 +35,40 @@ fn lesser(x: i32, y: i32) -> i32
     if x < y { x } else { y }
 }
 
-// Whether the segment at place i lies strictly under p.
-pub fn is_under(s: &[i32], i: usize, p: Point) -> bool
-    requires { ⌜ Proper (segmentAt (segments (now s)) i) × (inRange p ≡ true) ⌝ }
-    ensures { λ r. ⌜ r ≡ above (segmentAt (segments (now (s .entry))) i) p ⌝ }
+// Whether t is lower than u, where both are: the later start is seen from the other segment.
+pub fn is_lower(t: Segment, u: Segment) -> bool
+    requires { ⌜ Proper t × Proper u ⌝ }
+    ensures { λ r. ⌜ r ≡ underBySide t u ⌝ }
+{
+    let a = t.a;
+    let b = t.b;
+    let c = u.a;
+    let d = u.b;
+    if geom::less(a, c) {
+        return 0 < geom::cross(a, b, c);
+    }
+    if geom::less(c, a) {
+        return geom::cross(c, d, a) < 0;
+    }
+    0 < geom::cross(a, b, d)
+}
+
+// What a place in the list is sought for: a point, or a segment.
+pub enum Sought {
+    At(Point),
+    Along(Segment),
+}
+
+// Whether the segment at place i is below what is sought.
+fn is_below(s: &[i32], i: usize, sought: Sought) -> bool
+    requires { ⌜ Proper (segmentAt (segments (now s)) i) × Near sought ⌝ }
+    ensures { λ r. ⌜ r ≡ isBelow (segments (now (s .entry))) sought i ⌝ }
 {
     let t = segm::segment_at(s, i);
-    0 < geom::cross(t.a, t.b, p)
+    match sought {
+        Sought::At(p) => 0 < geom::cross(t.a, t.b, p),
+        Sought::Along(u) => is_lower(t, u),
+    }
 }
 
 // Whether t is vertical.
@@ -93,16 +120,16 @@ pub fn leave(s: &[i32], x: i32, list: &mut [u32], held: Open) -> Open
     sift(s, x, list, held.count)
 }
 
-// The place of p in the list, by bisection.
-pub fn place_of(s: &[i32], list: &[u32], p: Point) -> usize
-    requires { ⌜ AllProper (segments (now s)) (now list) × (inRange p ≡ true) ⌝ }
-    ensures { λ r. ⌜ r ≡ placeOf (segments (now (s .entry))) p (now (list .entry)) ⌝ }
+// The place in the list of what is sought, by bisection.
+pub fn place_of(s: &[i32], list: &[u32], sought: Sought) -> usize
+    requires { ⌜ AllProper (segments (now s)) (now list) × Near sought ⌝ }
+    ensures { λ r. ⌜ r ≡ placeBy (isBelow (segments (now (s .entry))) sought) (now (list .entry)) ⌝ }
 {
     let mut low: usize = 0;
     let mut high = list.len();
     while low < high {
         let middle = low + (high - low) / 2;
-        if is_under(s, list[middle] as usize, p) {
+        if is_below(s, list[middle] as usize, sought) {
             low = middle + 1;
         } else {
             high = middle;
@@ -112,7 +139,7 @@ pub fn place_of(s: &[i32], list: &[u32], p: Point) -> usize
 }
 
 // i goes to place k of the list, and those from there on move up.
-fn insert(list: &mut [u32], count: usize, k: usize, i: u32)
+pub fn insert(list: &mut [u32], count: usize, k: usize, i: u32)
     requires { ⌜ (k ≤ count) × (count < length (now list)) ⌝ }
     ensures { λ _. ⌜ now (list .exit) ≡ written (putAt k i (take count (now (list .entry)))) (now (list .entry)) ⌝ }
 {
@@ -122,6 +149,18 @@ fn insert(list: &mut [u32], count: usize, k: usize, i: u32)
         j -= 1;
     }
     list[k] = i;
+}
+
+// The one at place k leaves the list, and those after it move down.
+pub fn remove(list: &mut [u32], count: usize, k: usize)
+    requires { ⌜ (k < count) × (count ≤ length (now list)) ⌝ }
+    ensures { λ _. ⌜ now (list .exit) ≡ written (outAt k (take count (now (list .entry)))) (now (list .entry)) ⌝ }
+{
+    let mut j = k + 1;
+    while j < count {
+        list[j - 1] = list[j];
+        j += 1;
+    }
 }
 
 // The segment at place i of the drawing enters the list at place k.

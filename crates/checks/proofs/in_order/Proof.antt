@@ -90,30 +90,11 @@ module _ (c : tie.After-enum-told) where
   two-left : inOrder (wrongLength (s f .args .s .now)) (s f .args .unknown) (s f .args .short) (d f) ≡ (first (meetingAt (d f)) (d f) then first (unbalancedAt (d f)) (d f))
   two-left = searches f ∙ ap (λ (v : Verdict). v then first (meetingAt (d f)) (d f) then first (unbalancedAt (d f)) (d f)) faultless
 
-find-first-requires-2 : tie.Need-find-first-requires-2
-find-first-requires-2 c κs = sound c
-
-enum-told-3 : tie.Need-enum-told-3
-enum-told-3 c = search needs
-
-enum-told-4 : tie.Need-enum-told-4
-enum-told-4 c = search needs
+find-by-ends-requires : tie.Need-find-by-ends-requires
+find-by-ends-requires c κs = sound c
 
 returns-6 : tie.Need-returns-6
-returns-6 c =
-    let e = c .before .before in
-    let g = f (e .before) in
-    e .find-first2 .ensures ∙ sym (two-left (e .before) ∙ refused-then (first (meetingAt (d g)) (d g)) (first (unbalancedAt (d g)) (d g)) (sym (e .find-first2 .ensures) ∙ c .enum-told4 .given .1))
-
-find-unbalanced-requires : tie.Need-find-unbalanced-requires
-find-unbalanced-requires c κs = sound (c .before .before .before)
-
-returns-7 : tie.Need-returns-7
-returns-7 c =
-    let k = c .before in
-    let e = k .before .before in
-    let g = f (e .before) in
-    c .find-unbalanced .ensures ∙ sym (two-left (e .before) ∙ ap (λ (v : Verdict). v then first (unbalancedAt (d g)) (d g)) (sym (e .find-first2 .ensures) ∙ k .enum-told3 .given .1))
+returns-6 c = c .find-by-ends .ensures ∙ sym (two-left (c .before))
 
 pub in-order-spec : {M : Type 1} → statement M
 in-order-spec =
@@ -129,9 +110,5 @@ in-order-spec =
     enum-told
     enum-told-2
     returns-5
-    find-first-requires-2
-    enum-told-3
-    enum-told-4
-    returns-6
-    find-unbalanced-requires
-    returns-7)
+    find-by-ends-requires
+    returns-6)

@@ -181,7 +181,7 @@ returns c =
     let l = c .before in
     let i = l .loop .inv in
     let e : l .loop .i ≡ length (flat l) = omega (arith, i .inside, c .loop-test .left) in
-    nodes-of (links l) (ends l) (set (l .loop .starts) (l .loop .v) (length (flat l))) (l .loop .nodes) (i .nodes-room ∙ s l .pre .3)
+    nodes-of (links l) (s l .pre .1) (set (l .loop .starts) (l .loop .v) (length (flat l))) (l .loop .nodes) (i .nodes-room ∙ s l .pre .3)
     (finished (endPoint (links l)) (flat l) (ends l .rise) (l .loop .i) (l .loop .v) (l .loop .starts) (l .loop .nodes) (i .state) e (room l))
     (subst (λ k. Agree (endPoint (links l)) (flat l) k (l .loop .nodes)) e (agreed (endPoint (links l)) (flat l) (l .loop .i) (l .loop .v) (l .loop .starts) (l .loop .nodes) (i .state)))
 

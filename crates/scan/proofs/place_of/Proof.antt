@@ -5,11 +5,11 @@ use mathlib.Core.Bool.{Bool, true, false}
 use native.Mathlib.Omega.{arith}
 use native.Mathlib.Numerals.{add-one}
 use Prim.Native.Nat.{ℕ, zero, suc, _+_, _-_, _<_, _≤_}
-use lib.ListN.{length}
+use lib.ListN.{length, getD}
 use Rattle.segm.specs.Segments.{segments}
 use Rattle.segm.proofs.Lists.{in-at}
-use Rattle.scan.specs.Scan.{bisect, placeOf}
-use Rattle.scan.proofs.Laws.{middle, middle-inside, bisect-end, bisect-true, bisect-false, isUnder}
+use Rattle.scan.specs.Scan.{bisect, isBelow, placeBy}
+use Rattle.scan.proofs.Laws.{middle, middle-inside, bisect-end, bisect-true, bisect-false}
 use Rattle.scan.proofs.place_of.Statement.{statement}
 use Rattle.scan.proofs.place_of.Tie as tie
 
@@ -53,13 +53,13 @@ module _ (test : ℕ → Bool) (many r low high : ℕ) (h : low < high) where
           }
 
 abbrev Inv-loop : tie.InvT-loop
-Inv-loop s list p low₀ high₀ low high = Bisecting (isUnder (segments s) p list) (length list) (placeOf (segments s) p list) low high
+Inv-loop s list sought low₀ high₀ low high = Bisecting (λ k. isBelow (segments s) sought (getD list k 0)) (length list) (placeBy (isBelow (segments s) sought) list) low high
 
 abbrev μ-loop : tie.MeasureT-loop
-μ-loop s list p low₀ high₀ low high = high - low
+μ-loop s list sought low₀ high₀ low high = high - low
 
 loop-holds : tie.Need-loop-holds Inv-loop μ-loop
-unfolding placeOf
+unfolding placeBy
 loop-holds c = record { steps = length (c .before .args .list .now); enough = omega arith; order = omega arith; top = omega arith; is = refl }
 
 sub-middle : tie.Need-sub-middle Inv-loop μ-loop
@@ -68,21 +68,21 @@ sub-middle c = search needs
 add-middle : tie.Need-add-middle Inv-loop μ-loop
 add-middle c = search needs
 
-mul-is-under : tie.Need-mul-is-under Inv-loop μ-loop
-mul-is-under c = search needs
+mul-is-below : tie.Need-mul-is-below Inv-loop μ-loop
+mul-is-below c = search needs
 
 -- the number looked at
 inside : (c : tie.In-loop Inv-loop μ-loop) → middle (c .before .loop .low) (c .before .loop .high) < length (c .before .before .before .args .list .now)
 inside c = omega (arith, middle-inside (c .before .loop .low) (c .before .loop .high) (c .loop-test .taken) .1, c .before .loop .inv .top)
 
-shared-slice-read-is-under : tie.Need-shared-slice-read-is-under Inv-loop μ-loop
-shared-slice-read-is-under c = inside (c .before)
+shared-slice-read-is-below : tie.Need-shared-slice-read-is-below Inv-loop μ-loop
+shared-slice-read-is-below c = inside (c .before)
 
-cast-is-under : tie.Need-cast-is-under Inv-loop μ-loop
-cast-is-under c = let l = c .before .before .loop in omega (arith, c .shared-slice-known2 .given (middle (l .low) (l .high)))
+cast-is-below : tie.Need-cast-is-below Inv-loop μ-loop
+cast-is-below c = let l = c .before .before .loop in omega (arith, c .shared-slice-known2 .given (middle (l .low) (l .high)))
 
-is-under-requires : tie.Need-is-under-requires Inv-loop μ-loop
-is-under-requires c κs =
+is-below-requires : tie.Need-is-below-requires Inv-loop μ-loop
+is-below-requires c κs =
     let l = c .before .before in
     let s = l .before .before in
     (s .pre .0 _ (in-at (s .args .list .now) 0 (middle (l .loop .low) (l .loop .high)) (inside (c .before))), s .pre .1)
@@ -97,7 +97,7 @@ loop-again : tie.Need-loop-again Inv-loop μ-loop
 loop-again c =
     let l = c .before .before .before .before in
     let t = c .before .before .before in
-    upper _ _ _ (l .loop .low) (l .loop .high) (t .loop-test .taken) (l .loop .inv) (sym (c .before .is-under .ensures) ∙ c .if1 .taken)
+    upper _ _ _ (l .loop .low) (l .loop .high) (t .loop-test .taken) (l .loop .inv) (sym (c .before .is-below .ensures) ∙ c .if1 .taken)
 
 loop-less-2 : tie.Need-loop-less-2 Inv-loop μ-loop
 loop-less-2 c = search needs
@@ -106,7 +106,7 @@ loop-again-2 : tie.Need-loop-again-2 Inv-loop μ-loop
 loop-again-2 c =
     let l = c .before .before .before .before in
     let t = c .before .before .before in
-    lower _ _ _ (l .loop .low) (l .loop .high) (t .loop-test .taken) (l .loop .inv) (sym (c .before .is-under .ensures) ∙ c .if1 .left)
+    lower _ _ _ (l .loop .low) (l .loop .high) (t .loop-test .taken) (l .loop .inv) (sym (c .before .is-below .ensures) ∙ c .if1 .left)
 
 returns : tie.Need-returns Inv-loop μ-loop
 returns c =
@@ -122,10 +122,10 @@ place-of-spec =
     loop-holds
     sub-middle
     add-middle
-    mul-is-under
-    shared-slice-read-is-under
-    cast-is-under
-    is-under-requires
+    mul-is-below
+    shared-slice-read-is-below
+    cast-is-below
+    is-below-requires
     add-low
     loop-less
     loop-again

@@ -1,0 +1,25 @@
+-- What happens at one x. The contracts of `meeting_sweep` cite these. Assumes nothing.
+use mathlib.Core.Path.{_≡_}
+use mathlib.Core.List.{List}
+use Prim.Native.Nat.{ℕ, _<_, _≤_}
+use lib.IntN.{ℤ}
+use Rattle.segm.specs.Segments.{Drawing}
+use Rattle.open_list.specs.OpenList.{Left, Entered}
+use Rattle.uprights.specs.declared.Edge.the-variants.{Ends, Starts}
+use Rattle.uprights.specs.Uprights.{Cuts, Stacked}
+
+-- of many numbers, r is the first from k on that is not x
+pub record Past (f : ℕ → ℤ) (k many : ℕ) (x : ℤ) (r : ℕ) : Type 0 where
+  pub from : k ≤ r
+  pub till : r ≤ many
+  pub here : (j : ℕ) → k ≤ j → j < r → f j ≡ x
+  pub past : r < many → f r ≡ x → ⊥
+
+-- the list l becomes l′: those that end there leave and those that start there enter, and the vertical ones stand in gaps before and after and on each other
+pub record Happened (d : Drawing) (ends : List ℕ) (from to : ℕ) (l l′ : List ℕ) : Type 0 where
+  pub between : List ℕ
+  pub before : Cuts d Ends from to l
+  pub left : Left d ends l between
+  pub entered : Entered d from to between l′
+  pub after : Cuts d Starts from to l′
+  pub stack : Stacked d from to

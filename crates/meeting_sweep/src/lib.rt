@@ -1,0 +1,125 @@
+// Whether no two segments of a drawing meet wrongly, by a sweep in which only neighbours are compared. It is sound: what it calls clear is clear.
+// Nothing is promised of a drawing that it does not call clear. Every function here is proved, and the crate assumes nothing of its own.
+use open_list::Held;
+use uprights::Edge;
+ghost use mathlib.Core.Path.{_≡_};
+ghost use mathlib.Core.Bool.{true, false};
+ghost use Prim.Native.Nat.{ℕ, _*_, _≤_, _<_};
+ghost use lib.ListN.{length, getD, take};
+ghost use Rattle.geom.specs.Points.{eqZ};
+ghost use Rattle.segm.specs.Lists.{_∈_, Pairs, upFrom};
+ghost use Rattle.segm.specs.Segments.{segments};
+ghost use Rattle.ends.specs.Ends.{endPoint, endBefore};
+ghost use Rattle.ends.specs.Ordering.{ordering};
+ghost use Rattle.meetings.specs.Meetings.{meetsWrongly};
+ghost use Rattle.neighbours.specs.Neighbours.{Ready, Known, Ordered, Distinct};
+ghost use Rattle.meeting_sweep.specs.Events.{Past, Happened};
+
+// All that is at one x: the ends there are passed, then the starts, with the tests of the vertical segments before and after.
+fn event(s: &[i32], ends: &[u32], from: usize, to: usize, list: &mut [u32], count: usize) -> Held
+    requires { ⌜ Ready (segments (now s))
+        × ((e : ℕ) → e ∈ now ends → e < 2 * length (segments (now s)))
+        × (from ≤ to)
+        × (to ≤ length (segments (now s)))
+        × (count ≤ from)
+        × (length (segments (now s)) ≤ length (now list))
+        × Known (segments (now s)) (take count (now list))
+        × Ordered (segments (now s)) (take count (now list))
+        × Distinct (take count (now list)) ⌝ }
+    ensures { λ r. ⌜ (r .clear ≡ true
+        → ((r .count ≤ to) × Happened (segments (now (s .entry))) (now (ends .entry)) from to (take count (now (list .entry))) (take (r .count) (now (list .exit))))) ⌝ }
+{
+    if !uprights::are_cut(s, Edge::Ends, from, to, &list[..count]) {
+        return open_list::unclear();
+    }
+    let left = open_list::leave_all(s, ends, list, count);
+    if !left.clear {
+        return open_list::unclear();
+    }
+    let entered = open_list::enter_all(s, from, to, list, left.count);
+    if !entered.clear {
+        return open_list::unclear();
+    }
+    if !uprights::are_cut(s, Edge::Starts, from, to, &list[..entered.count]) {
+        return open_list::unclear();
+    }
+    if !uprights::are_stacked(s, from, to) {
+        return open_list::unclear();
+    }
+    entered
+}
+
+// Whether ends e and f lie at one x.
+fn is_level(s: &[i32], e: usize, f: usize) -> bool
+    ensures { λ r. ⌜ r ≡ eqZ (endPoint (segments (now (s .entry))) e .x) (endPoint (segments (now (s .entry))) f .x) ⌝ }
+{
+    let p = ends::end_point(s, e);
+    let q = ends::end_point(s, f);
+    p.x == q.x
+}
+
+// The first of the ordered ends from k on that does not lie at the x of the one at k.
+fn ends_past(s: &[i32], flat: &[u32], k: usize) -> usize
+    requires { ⌜ k < length (now flat) ⌝ }
+    ensures { λ r. ⌜ Past (λ j. endPoint (segments (now (s .entry))) (getD (now (flat .entry)) j 0) .x) k (length (now (flat .entry))) (endPoint (segments (now (s .entry))) (getD (now (flat .entry)) k 0) .x) r ⌝ }
+{
+    let e = flat[k] as usize;
+    let mut j = k;
+    while j < flat.len() {
+        if !is_level(s, flat[j] as usize, e) {
+            return j;
+        }
+        j += 1;
+    }
+    j
+}
+
+// The first place from k on whose segment does not start at the x of end e.
+fn starts_past(s: &[i32], k: usize, e: usize) -> usize
+    requires { ⌜ k ≤ length (segments (now s)) ⌝ }
+    ensures { λ r. ⌜ Past (λ j. endPoint (segments (now (s .entry))) j .x) k (length (segments (now (s .entry)))) (endPoint (segments (now (s .entry))) e .x) r ⌝ }
+{
+    let n = segm::count(s);
+    let mut j = k;
+    while j < n {
+        if !is_level(s, j, e) {
+            return j;
+        }
+        j += 1;
+    }
+    j
+}
+
+// The sweep, from x to x of the ordered ends. The list is working memory.
+fn sweep(s: &[i32], flat: &[u32], list: &mut [u32]) -> bool
+    requires { ⌜ Ready (segments (now s))
+        × (now flat ≡ ordering (endBefore (segments (now s))) (upFrom 0 (2 * length (segments (now s)))))
+        × (length (now list) ≡ 1024) ⌝ }
+    ensures { λ r. ⌜ (r ≡ true → Pairs (λ t u. meetsWrongly t u ≡ false) (segments (now (s .entry)))) ⌝ }
+{
+    let mut passed: usize = 0;
+    let mut started: usize = 0;
+    let mut count: usize = 0;
+    while passed < flat.len() {
+        let ends = ends_past(s, flat, passed);
+        let starts = starts_past(s, started, flat[passed] as usize);
+        let held = event(s, &flat[passed..ends], started, starts, list, count);
+        if !held.clear {
+            return false;
+        }
+        passed = ends;
+        started = starts;
+        count = held.count;
+    }
+    true
+}
+
+// Whether no two segments meet wrongly, where it can tell, of a drawing with its ordered ends.
+pub fn is_clear(s: &[i32], flat: &[u32]) -> bool
+    requires { ⌜ Ready (segments (now s))
+        × (now flat ≡ ordering (endBefore (segments (now s))) (upFrom 0 (2 * length (segments (now s))))) ⌝ }
+    ensures { λ r. ⌜ (r ≡ true → Pairs (λ t u. meetsWrongly t u ≡ false) (segments (now (s .entry)))) ⌝ }
+{
+    let mut list = [0u32; 1024];
+    sweep(s, flat, &mut list)
+}

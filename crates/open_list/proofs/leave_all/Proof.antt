@@ -1,0 +1,106 @@
+-- As many ends as were passed are gone from the list. Assumes nothing.
+use borrow.Author.Needs.{needs}
+use borrow.Author.Tests.{not-false}
+use mathlib.Core.Path.{_≡_, sym, ap, subst, _∙_}
+use mathlib.Core.List.{List}
+use native.Mathlib.Omega.{arith}
+use native.Mathlib.Numerals.{add-one}
+use Prim.Native.Nat.{ℕ, _-_, _≤_, _<_}
+use lib.ListN.{length, getD, take}
+use lib.Seq.{take-suc, take-all}
+use Rattle.integers.proofs.Booleans.{clash}
+use Rattle.segm.specs.Segments.{Drawing, segments}
+use Rattle.segm.proofs.Lists.{in-at}
+use Rattle.open_list.specs.OpenList.{Left}
+use Rattle.open_list.proofs.Laws.{none-left, left-more, left-known}
+use Rattle.open_list.proofs.leave_all.Statement.{statement}
+use Rattle.open_list.proofs.leave_all.Tie as tie
+
+record Passed (d : Drawing) (ends old : List ℕ) (count : ℕ) (list : List ℕ) (held k : ℕ) : Type 0 where
+  until : k ≤ length ends
+  fewer : held ≤ count
+  room : length list ≡ length old
+  left : Left d (take k ends) (take count old) (take held list)
+
+abbrev Inv-loop : tie.InvT-loop
+Inv-loop s ends list₀ count held₀ k₀ list held k = Passed (segments s) ends list₀ count list held k
+
+abbrev μ-loop : tie.MeasureT-loop
+μ-loop s ends list₀ count held₀ k₀ list held k = length ends - k
+
+loop-holds : tie.Need-loop-holds Inv-loop μ-loop
+loop-holds c =
+    let s = c .before .before in
+    record { until = omega arith; fewer = omega arith; room = omega arith; left = none-left (s .pre .4) (s .pre .5) }
+
+mul-leave-one : tie.Need-mul-leave-one Inv-loop μ-loop
+mul-leave-one c = search needs
+
+shared-slice-read-leave-one : tie.Need-shared-slice-read-leave-one Inv-loop μ-loop
+shared-slice-read-leave-one c = search needs
+
+leave-one-requires : tie.Need-leave-one-requires Inv-loop μ-loop
+leave-one-requires c κs =
+    let l = c .before .before .before .loop in
+    let s = c .before .before .before .before .before .before in
+    (s .pre .0, s .pre .1 _ (in-at (s .args .ends .now) 0 (l .k) (omega arith)), omega (arith, l .inv .fewer, l .inv .room, s .pre .2), left-known (s .pre .3) (l .inv .left), l .inv .left .order, l .inv .left .distinct)
+
+unclear-requires : tie.Need-unclear-requires Inv-loop μ-loop
+unclear-requires c κs = search needs
+
+same-length : tie.Need-same-length Inv-loop μ-loop
+same-length c = search needs
+
+returns : tie.Need-returns Inv-loop μ-loop
+returns c t = absurd (clash t (c .unclear .ensures))
+
+add-k : tie.Need-add-k Inv-loop μ-loop
+add-k c = search needs
+
+loop-less : tie.Need-loop-less Inv-loop μ-loop
+loop-less c = search needs
+
+loop-again : tie.Need-loop-again Inv-loop μ-loop
+loop-again c =
+    let l = c .before .before .before .before .before .before .before .before .loop in
+    let s = c .before .before .before .before .before .before .before .before .before .before .before in
+    let one = c .before .before .before .before .leave-one in
+    let ends = s .args .ends .now in
+    let r = one .ensures (not-false _ (c .if1 .left)) in
+    let h : l .k < length ends = omega arith in
+    record {
+      until = omega arith;
+      fewer = omega (arith, r .0, l .inv .fewer);
+      room = omega (arith, one .kept, l .inv .room);
+      left = subst (λ (a : List ℕ). Left (segments (s .args .s .now)) a (take (s .args .count) (s .args .list .now)) (take (one .result .count) (one .last .1 .1 .0)))
+          (sym (ap (λ n. take n ends) (add-one (l .k)) ∙ take-suc ends (l .k) 0 h)) (left-more (getD ends (l .k) 0) (l .inv .left) (r .1));
+    }
+
+same-length-2 : tie.Need-same-length-2 Inv-loop μ-loop
+same-length-2 c = search needs
+
+returns-2 : tie.Need-returns-2 Inv-loop μ-loop
+returns-2 c t =
+    let l = c .before .loop in
+    let s = c .before .before .before .before in
+    let ends = s .args .ends .now in
+    (l .inv .fewer, subst (λ (a : List ℕ). Left (segments (s .args .s .now)) a (take (s .args .count) (s .args .list .now)) (take (l .held) (l .list))) (take-all (l .k) ends (omega arith)) (l .inv .left))
+
+pub leave-all-spec : {M : Type 1} → statement M
+leave-all-spec =
+    tie.close
+    (tie.spec
+    Inv-loop
+    μ-loop
+    loop-holds
+    mul-leave-one
+    shared-slice-read-leave-one
+    leave-one-requires
+    unclear-requires
+    same-length
+    returns
+    add-k
+    loop-less
+    loop-again
+    same-length-2
+    returns-2)

@@ -1,0 +1,38 @@
+-- Nothing is asked at the front; after it, the test of neighbours. Assumes nothing.
+use borrow.Author.Needs.{needs}
+use mathlib.Core.Path.{_≡_, sym, subst, _∙_}
+use native.Mathlib.Omega.{arith}
+use Prim.Native.Nat.{ℕ, _-_}
+use lib.ListN.{getD}
+use Rattle.segm.specs.Segments.{segments, segmentAt}
+use Rattle.strip.specs.Strip.{Next}
+use Rattle.open_list.proofs.Laws.{follows-next, known-proper}
+use Rattle.open_list.proofs.stands_over.Statement.{statement}
+use Rattle.open_list.proofs.stands_over.Tie as tie
+
+returns : tie.Need-returns
+returns c t j e = absurd (omega arith)
+
+sub-is-next : tie.Need-sub-is-next
+sub-is-next c = search needs
+
+mul-is-next : tie.Need-mul-is-next
+mul-is-next c = search needs
+
+shared-slice-read-is-next : tie.Need-shared-slice-read-is-next
+shared-slice-read-is-next c = search needs
+
+is-next-requires : tie.Need-is-next-requires
+is-next-requires c κs =
+    let s = c .before .before .before in
+    (known-proper (s .args .list .now) (s .pre .0) (s .pre .1) (s .args .k - 1) (omega arith), s .pre .0 .proper (s .args .i) (s .pre .2))
+
+returns-2 : tie.Need-returns-2
+returns-2 c t j e =
+    let s = c .before .before .before .before in
+    let low : s .args .k - 1 ≡ j = omega arith in
+    subst (λ (m : ℕ). Next (segmentAt (segments (s .args .s .now)) (getD (s .args .list .now) m 0)) (segmentAt (segments (s .args .s .now)) (s .args .i))) low
+    (follows-next _ _ (sym (c .is-next .ensures) ∙ t))
+
+pub stands-over-spec : {M : Type 1} → statement M
+stands-over-spec = tie.close (tie.spec returns sub-is-next mul-is-next shared-slice-read-is-next is-next-requires returns-2)

@@ -1,0 +1,127 @@
+-- The place by bisection is the segment's own, or the answer is unclear; what is beside it must close. Assumes nothing.
+use borrow.Author.Needs.{needs}
+use mathlib.Core.Path.{_≡_, sym, subst, _∙_}
+use mathlib.Core.List.{List, [], _∷_}
+use mathlib.Core.Bool.{true, false}
+use native.Mathlib.Omega.{arith}
+use Prim.Native.Nat.{_+_, _<_}
+use lib.ListN.{length, getD, take}
+use lib.Seq.{length-take-le, getD-take}
+use borrow.Author.Tests.{not-false}
+use Rattle.integers.proofs.Booleans.{clash}
+use Rattle.segm.specs.Segments.{segments}
+use Rattle.meetings.specs.Meetings.{Proper}
+use Rattle.open_list.specs.OpenList.{Left}
+use Rattle.open_list.proofs.Laws.{one-leaves, taken-out}
+use Rattle.open_list.proofs.take_out.Statement.{statement}
+use Rattle.open_list.proofs.take_out.Tie as tie
+
+slice-reshare-prefix-place-of : tie.Need-slice-reshare-prefix-place-of
+slice-reshare-prefix-place-of c = search needs
+
+slice-aggregate-place-of : tie.Need-slice-aggregate-place-of
+slice-aggregate-place-of c = let s = c .before .before in sym (length-take-le (s .args .count) (s .args .list .now) (s .pre .3))
+
+place-of-requires : tie.Need-place-of-requires
+place-of-requires c κs =
+    let s = c .before .before in
+    (λ i m. s .pre .0 .proper i (s .pre .4 i m), subst Proper (sym (s .pre .1)) (s .pre .0 .proper (s .args .i) (s .pre .2)))
+
+unclear-requires : tie.Need-unclear-requires
+unclear-requires c κs = search needs
+
+same-length : tie.Need-same-length
+same-length c = search needs
+
+returns : tie.Need-returns
+returns c t = absurd (clash t (c .unclear .ensures))
+
+mul-if2 : tie.Need-mul-if2
+mul-if2 c = search needs
+
+slice-read-if2 : tie.Need-slice-read-if2
+slice-read-if2 c = search needs
+
+cast-if2 : tie.Need-cast-if2
+cast-if2 c = omega (arith, c .slice-known2 .given (c .before .before .place-of .result))
+
+unclear-requires-2 : tie.Need-unclear-requires-2
+unclear-requires-2 c κs = search needs
+
+same-length-2 : tie.Need-same-length-2
+same-length-2 c = search needs
+
+returns-2 : tie.Need-returns-2
+returns-2 c t = absurd (clash t (c .unclear2 .ensures))
+
+slice-reshare-prefix-closes-at : tie.Need-slice-reshare-prefix-closes-at
+slice-reshare-prefix-closes-at c = search needs
+
+slice-aggregate-closes-at : tie.Need-slice-aggregate-closes-at
+slice-aggregate-closes-at c = let s = c .before .before .before .before .before .before .before in sym (length-take-le (s .args .count) (s .args .list .now) (s .pre .3))
+
+closes-at-requires : tie.Need-closes-at-requires
+closes-at-requires c κs =
+    let s = c .before .before .before .before .before .before .before in
+    (s .pre .0, s .pre .4, omega (arith, length-take-le (s .args .count) (s .args .list .now) (s .pre .3), c .before .before .before .if1 .left))
+
+unclear-requires-3 : tie.Need-unclear-requires-3
+unclear-requires-3 c κs = search needs
+
+same-length-3 : tie.Need-same-length-3
+same-length-3 c = search needs
+
+returns-3 : tie.Need-returns-3
+returns-3 c t = absurd (clash t (c .unclear3 .ensures))
+
+remove-requires : tie.Need-remove-requires
+remove-requires c κs = search needs
+
+sub-t11 : tie.Need-sub-t11
+sub-t11 c = search needs
+
+same-length-4 : tie.Need-same-length-4
+same-length-4 c = search needs
+
+returns-4 : tie.Need-returns-4
+returns-4 c t =
+    let closed = c .before .before .before .before .before in
+    let found = c .before .before .before .before .before .before .before in
+    let place = c .before .before .before .before .before .before .before .before .before .before in
+    let s = c .before .before .before .before .before .before .before .before .before .before .before .before .before in
+    let count = s .args .count in
+    let old = s .args .list .now in
+    let k = place .place-of .result in
+    let h : k < count = omega (arith, c .before .before .before .before .before .before .before .before .before .if1 .left) in
+    let e : getD (take count old) k 0 ≡ s .args .i = getD-take count old k 0 h ∙ omega (arith, found .if2 .left) in
+    let long = length-take-le count old (s .pre .3) in
+    (omega arith,
+    subst (Left (segments (s .args .s .now)) ((length (segments (s .args .s .now)) + s .args .i) ∷ []) (take count old)) (sym (taken-out old (c .before .before .remove .last .0) count k h (s .pre .3) (c .before .before .remove .ensures)))
+    (one-leaves k (s .args .i) (omega (arith, long)) e (s .pre .5) (s .pre .6) (closed .closes-at .ensures (not-false _ (c .before .before .before .before .if3 .left)))))
+
+pub take-out-spec : {M : Type 1} → statement M
+take-out-spec =
+    tie.close
+    (tie.spec
+    slice-reshare-prefix-place-of
+    slice-aggregate-place-of
+    place-of-requires
+    unclear-requires
+    same-length
+    returns
+    mul-if2
+    slice-read-if2
+    cast-if2
+    unclear-requires-2
+    same-length-2
+    returns-2
+    slice-reshare-prefix-closes-at
+    slice-aggregate-closes-at
+    closes-at-requires
+    unclear-requires-3
+    same-length-3
+    returns-3
+    remove-requires
+    sub-t11
+    same-length-4
+    returns-4)

@@ -1,0 +1,43 @@
+-- What is tested of neighbours in the list of the open segments, what leaves it and what enters. The contracts of `open_list` cite these. Assumes nothing.
+use mathlib.Core.Path.{_≡_}
+use mathlib.Core.List.{List}
+use mathlib.Core.Logic.{_⊎_}
+use mathlib.Core.Bool.{Bool, false, not, _&&_}
+use Prim.Native.Nat.{ℕ, suc, _+_, _<_, _≤_}
+use lib.ListN.{length, getD}
+use Rattle.segm.specs.declared.Segment.{Segment}
+use Rattle.segm.specs.Lists.{_∈_}
+use Rattle.segm.specs.Segments.{Drawing, segmentAt}
+use Rattle.meetings.specs.Meetings.{meetsWrongly}
+use Rattle.strip.specs.Strip.{isVertical, underBySide, Next}
+use Rattle.neighbours.specs.Neighbours.{Ordered, Distinct}
+
+-- t may stand right over s: s is the lower, and the two do not meet wrongly
+unfoldable pub follows : Segment → Segment → Bool
+follows s t = underBySide s t && not (meetsWrongly s t)
+
+-- i may stand right over the one before place k, and right under the one at place k
+abbrev pub StandsOver : Drawing → ℕ → ℕ → List ℕ → Type 0
+StandsOver d k i l = (j : ℕ) → suc j ≡ k → Next (segmentAt d (getD l j 0)) (segmentAt d i)
+
+abbrev pub StandsUnder : Drawing → ℕ → ℕ → List ℕ → Type 0
+StandsUnder d k i l = k < length l → Next (segmentAt d i) (segmentAt d (getD l k 0))
+
+-- the two beside place k may become neighbours
+abbrev pub ClosesAt : Drawing → ℕ → List ℕ → Type 0
+ClosesAt d k l = (j : ℕ) → suc j ≡ k → suc k < length l → Next (segmentAt d (getD l j 0)) (segmentAt d (getD l (suc k) 0))
+
+-- l′ is l without the segments that are not vertical and end at one of the ends (end length d + i is the b of the segment at place i)
+pub record Left (d : Drawing) (ends l l′ : List ℕ) : Type 0 where
+  pub order : Ordered d l′
+  pub distinct : Distinct l′
+  pub kept : (i : ℕ) → i ∈ l′ → i ∈ l
+  pub gone : (i : ℕ) → length d + i ∈ ends → isVertical (segmentAt d i) ≡ false → i ∈ l′ → ⊥
+  pub rest : (i : ℕ) → i ∈ l → (i ∈ l′) ⊎ (length d + i ∈ ends)
+
+-- l′ is l with the segments of places from..to that are not vertical
+pub record Entered (d : Drawing) (from to : ℕ) (l l′ : List ℕ) : Type 0 where
+  pub order : Ordered d l′
+  pub kept : (i : ℕ) → i ∈ l → i ∈ l′
+  pub came : (i : ℕ) → from ≤ i → i < to → isVertical (segmentAt d i) ≡ false → i ∈ l′
+  pub mine : (i : ℕ) → i ∈ l′ → (i ∈ l) ⊎ ((from ≤ i) × (i < to) × (isVertical (segmentAt d i) ≡ false))

@@ -1,0 +1,220 @@
+// What enters and leaves the ordered list of the open segments, with a test of every two that become neighbours. Every function here is proved, and the crate
+// assumes nothing of its own. The tests are sound: what is promised holds where all were passed.
+use scan::Sought;
+use segm::Segment;
+ghost use mathlib.Core.Path.{_≡_};
+ghost use mathlib.Core.List.{[], _∷_};
+ghost use mathlib.Core.Bool.{true, false};
+ghost use Prim.Native.Nat.{ℕ, _+_, _*_, _≤_, _<_};
+ghost use lib.ListN.{length, take};
+ghost use Rattle.segm.specs.Lists.{_∈_};
+ghost use Rattle.segm.specs.Segments.{segments, segmentAt};
+ghost use Rattle.meetings.specs.Meetings.{Proper};
+ghost use Rattle.neighbours.specs.Neighbours.{Ready, Known, Ordered, Distinct};
+ghost use Rattle.open_list.specs.OpenList.{follows, StandsOver, StandsUnder, ClosesAt, Left, Entered};
+
+// How many segments are open, and whether all tests were passed so far.
+pub struct Held {
+    pub count: usize,
+    pub clear: bool,
+}
+
+// A test was not passed.
+pub fn unclear() -> Held
+    ensures { λ r. ⌜ r .clear ≡ false ⌝ }
+{
+    Held {
+        count: 0,
+        clear: false,
+    }
+}
+
+// Whether the segment at place i may stand right under that at place j.
+fn is_next(s: &[i32], i: u32, j: u32) -> bool
+    requires { ⌜ Proper (segmentAt (segments (now s)) i) × Proper (segmentAt (segments (now s)) j) ⌝ }
+    ensures { λ r. ⌜ r ≡ follows (segmentAt (segments (now (s .entry))) i) (segmentAt (segments (now (s .entry))) j) ⌝ }
+{
+    let t = segm::segment_at(s, i as usize);
+    let u = segm::segment_at(s, j as usize);
+    if !scan::is_lower(t, u) {
+        return false;
+    }
+    !meetings::meets_wrongly(t, u)
+}
+
+// Whether the segment at place i may stand right over the one before place k of the list, if there is one.
+fn stands_over(s: &[i32], list: &[u32], k: usize, i: u32) -> bool
+    requires { ⌜ Ready (segments (now s)) × Known (segments (now s)) (now list) × (i < length (segments (now s))) × (k ≤ length (now list)) ⌝ }
+    ensures { λ r. ⌜ (r ≡ true → StandsOver (segments (now (s .entry))) k i (now (list .entry))) ⌝ }
+{
+    if k == 0 {
+        return true;
+    }
+    is_next(s, list[k - 1], i)
+}
+
+// Whether it may stand right under the one at place k, if there is one.
+fn stands_under(s: &[i32], list: &[u32], k: usize, i: u32) -> bool
+    requires { ⌜ Ready (segments (now s)) × Known (segments (now s)) (now list) × (i < length (segments (now s))) ⌝ }
+    ensures { λ r. ⌜ (r ≡ true → StandsUnder (segments (now (s .entry))) k i (now (list .entry))) ⌝ }
+{
+    if list.len() <= k {
+        return true;
+    }
+    is_next(s, i, list[k])
+}
+
+// Whether the two beside place k of the list may become neighbours.
+fn closes_at(s: &[i32], list: &[u32], k: usize) -> bool
+    requires { ⌜ Ready (segments (now s)) × Known (segments (now s)) (now list) × (k < length (now list)) ⌝ }
+    ensures { λ r. ⌜ (r ≡ true → ClosesAt (segments (now (s .entry))) k (now (list .entry))) ⌝ }
+{
+    if k == 0 {
+        return true;
+    }
+    if list.len() <= k + 1 {
+        return true;
+    }
+    is_next(s, list[k - 1], list[k + 1])
+}
+
+// End e is passed: where a segment that is not vertical ends there, it leaves the list.
+fn leave_one(s: &[i32], e: u32, list: &mut [u32], count: usize) -> Held
+    requires { ⌜ Ready (segments (now s))
+        × (e < 2 * length (segments (now s)))
+        × (count ≤ length (now list))
+        × Known (segments (now s)) (take count (now list))
+        × Ordered (segments (now s)) (take count (now list))
+        × Distinct (take count (now list)) ⌝ }
+    ensures { λ r. ⌜ (r .clear ≡ true → ((r .count ≤ count) × Left (segments (now (s .entry))) (e ∷ []) (take count (now (list .entry))) (take (r .count) (now (list .exit))))) ⌝ }
+{
+    let n = segm::count(s);
+    let end = e as usize;
+    if end < n {
+        return Held {
+            count: count,
+            clear: true,
+        };
+    }
+    let i = end - n;
+    let t = segm::segment_at(s, i);
+    if scan::is_vertical(t) {
+        return Held {
+            count: count,
+            clear: true,
+        };
+    }
+    take_out(s, t, i, list, count)
+}
+
+// The segment t, at place i of the drawing, leaves the list.
+fn take_out(s: &[i32], t: Segment, i: usize, list: &mut [u32], count: usize) -> Held
+    requires { ⌜ Ready (segments (now s))
+        × (t ≡ segmentAt (segments (now s)) i)
+        × (i < length (segments (now s)))
+        × (count ≤ length (now list))
+        × Known (segments (now s)) (take count (now list))
+        × Ordered (segments (now s)) (take count (now list))
+        × Distinct (take count (now list)) ⌝ }
+    ensures { λ r. ⌜ (r .clear ≡ true
+        → ((r .count ≤ count) × Left (segments (now (s .entry))) ((length (segments (now (s .entry))) + i) ∷ []) (take count (now (list .entry))) (take (r .count) (now (list .exit))))) ⌝ }
+{
+    let k = scan::place_of(s, &list[..count], Sought::Along(t));
+    if count <= k {
+        return unclear();
+    }
+    if list[k] as usize != i {
+        return unclear();
+    }
+    if !closes_at(s, &list[..count], k) {
+        return unclear();
+    }
+    scan::remove(list, count, k);
+    Held {
+        count: count - 1,
+        clear: true,
+    }
+}
+
+// All ends of a block are passed.
+pub fn leave_all(s: &[i32], ends: &[u32], list: &mut [u32], count: usize) -> Held
+    requires { ⌜ Ready (segments (now s))
+        × ((e : ℕ) → e ∈ now ends → e < 2 * length (segments (now s)))
+        × (count ≤ length (now list))
+        × Known (segments (now s)) (take count (now list))
+        × Ordered (segments (now s)) (take count (now list))
+        × Distinct (take count (now list)) ⌝ }
+    ensures { λ r. ⌜ (r .clear ≡ true → ((r .count ≤ count) × Left (segments (now (s .entry))) (now (ends .entry)) (take count (now (list .entry))) (take (r .count) (now (list .exit))))) ⌝ }
+{
+    let mut held = count;
+    let mut k: usize = 0;
+    while k < ends.len() {
+        let left = leave_one(s, ends[k], list, held);
+        if !left.clear {
+            return unclear();
+        }
+        held = left.count;
+        k += 1;
+    }
+    Held {
+        count: held,
+        clear: true,
+    }
+}
+
+// The segment at place i is passed: where it is not vertical it enters the list.
+fn enter_one(s: &[i32], i: usize, list: &mut [u32], count: usize) -> Held
+    requires { ⌜ Ready (segments (now s))
+        × (i < length (segments (now s)))
+        × (count < length (now list))
+        × Known (segments (now s)) (take count (now list))
+        × Ordered (segments (now s)) (take count (now list)) ⌝ }
+    ensures { λ r. ⌜ (r .clear ≡ true → ((r .count ≤ count + 1) × Entered (segments (now (s .entry))) i (i + 1) (take count (now (list .entry))) (take (r .count) (now (list .exit))))) ⌝ }
+{
+    let t = segm::segment_at(s, i);
+    if scan::is_vertical(t) {
+        return Held {
+            count: count,
+            clear: true,
+        };
+    }
+    let k = scan::place_of(s, &list[..count], Sought::Along(t));
+    if !stands_over(s, &list[..count], k, i as u32) {
+        return unclear();
+    }
+    if !stands_under(s, &list[..count], k, i as u32) {
+        return unclear();
+    }
+    scan::insert(list, count, k, i as u32);
+    Held {
+        count: count + 1,
+        clear: true,
+    }
+}
+
+// The segments from one place up to another are passed.
+pub fn enter_all(s: &[i32], from: usize, to: usize, list: &mut [u32], count: usize) -> Held
+    requires { ⌜ Ready (segments (now s))
+        × (from ≤ to)
+        × (to ≤ length (segments (now s)))
+        × (count ≤ from)
+        × (length (segments (now s)) ≤ length (now list))
+        × Known (segments (now s)) (take count (now list))
+        × Ordered (segments (now s)) (take count (now list)) ⌝ }
+    ensures { λ r. ⌜ (r .clear ≡ true → ((r .count ≤ to) × Entered (segments (now (s .entry))) from to (take count (now (list .entry))) (take (r .count) (now (list .exit))))) ⌝ }
+{
+    let mut held = count;
+    let mut i = from;
+    while i < to {
+        let entered = enter_one(s, i, list, held);
+        if !entered.clear {
+            return unclear();
+        }
+        held = entered.count;
+        i += 1;
+    }
+    Held {
+        count: held,
+        clear: true,
+    }
+}

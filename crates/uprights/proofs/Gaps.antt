@@ -1,0 +1,58 @@
+-- The gaps of a list: what the tests at a place tell, and one place more.
+use mathlib.Core.Path.{_≡_, subst}
+use mathlib.Core.List.{List}
+use mathlib.Core.Bool.{true}
+use mathlib.Core.Logic.{inl, inr}
+use Prim.Native.Nat.{ℕ, suc, _+_, _-_, _<_, _≤_}
+use native.Mathlib.Omega.{arith}
+use native.Mathlib.Decide.{decLe}
+use lib.ListN.{length, getD}
+use lib.IntN.{pos}
+use lib.Signed.{ltZ}
+use Rattle.integers.proofs.Booleans.{one-of}
+use Rattle.integers.proofs.Order.{ltZ-true}
+use Rattle.geom.specs.declared.Point.{Point}
+use Rattle.geom.specs.Points.{eqP}
+use Rattle.geom.proofs.Points.{eqP-true}
+use Rattle.segm.specs.declared.Segment.{Segment}
+use Rattle.segm.specs.Segments.{Drawing, segmentAt}
+use Rattle.segm.proofs.Tallies.{cases}
+use Rattle.meetings.specs.Meetings.{side}
+use Rattle.strip.specs.Strip.{above}
+use Rattle.strip.proofs.Above.{above-yes}
+use Rattle.neighbours.specs.Neighbours.{Under, Above}
+use Rattle.uprights.specs.declared.Edge.{Edge}
+use Rattle.uprights.specs.Uprights.{endOf, liesUnder, liesAbove, CutIn}
+
+-- ---- the tests
+module _ (edge : Edge) (p : Point) (t : Segment) where
+  under-true : liesUnder edge p t ≡ true → Under (endOf edge) p t
+  unfolding liesUnder
+  under-true e = cases (λ h. inl (above-yes t p h)) (λ h. inr (eqP-true h)) (one-of (above t p) (eqP (endOf edge t) p) e)
+
+  above-true : liesAbove edge p t ≡ true → Above (endOf edge) p t
+  unfolding liesAbove
+  above-true e = cases (λ h. inl (ltZ-true h)) (λ h. inr (eqP-true h)) (one-of (ltZ (side t p) (pos 0)) (eqP (endOf edge t) p) e)
+
+-- v is cut at place k
+pub cut-at : (d : Drawing) (edge : Edge) (v : Segment) (l : List ℕ) (k : ℕ) → k ≤ length l
+    → (0 < k → liesUnder edge (v .a) (segmentAt d (getD l (k - 1) 0)) ≡ true)
+    → (k < length l → liesAbove edge (v .b) (segmentAt d (getD l k 0)) ≡ true)
+    → CutIn d edge v l
+cut-at d edge v l k h f g =
+    record {
+      place = k;
+      inside = h;
+      below = λ j e.
+          let last : k - 1 ≡ j = omega arith in
+          under-true edge (v .a) (segmentAt d (getD l j 0)) (subst (λ (n : ℕ). liesUnder edge (v .a) (segmentAt d (getD l n 0)) ≡ true) last (f (omega arith)));
+      above = λ m. above-true edge (v .b) (segmentAt d (getD l k 0)) (g m);
+    }
+
+-- ---- places: what holds from one up to i, and at i, holds up to i + 1
+pub one-more : (P : ℕ → Type 0) (from i : ℕ) → ((v : ℕ) → from ≤ v → v < i → P v) → P i → (v : ℕ) → from ≤ v → v < i + 1 → P v
+one-more P from i f h v l m = go (decLe (suc v) i)
+  where
+    go : Dec (suc v ≤ i) → P v
+    go (yes k) = f v l k
+    go (no k) = let e : i ≡ v = omega arith in subst P e h

@@ -1,0 +1,58 @@
+-- The machine's cross product is the side, and where that does not decide the end does. Assumes nothing.
+use borrow.Author.Needs.{needs}
+use mathlib.Core.Path.{_≡_, sym, subst, ap, _∙_}
+use mathlib.Core.Bool.{Bool}
+use lib.IntN.{pos}
+use lib.Signed.{ltZ}
+use mir.Syntax.{w64}
+use mir.Val.{toZ, ofZ}
+use Rattle.integers.proofs.Booleans.{or-l}
+use Rattle.segm.specs.declared.Segment.{Segment}
+use Rattle.segm.specs.Segments.{segments, segmentAt}
+use Rattle.meetings.specs.Meetings.{Proper, side}
+use Rattle.uprights.specs.Uprights.{liesAbove}
+use Rattle.uprights.proofs.Sides.{side-got, end-got}
+use Rattle.uprights.proofs.lies_above.Statement.{statement}
+use Rattle.uprights.proofs.lies_above.Tie as tie
+
+segment-at-requires : tie.Need-segment-at-requires
+segment-at-requires c κs = search needs
+
+cross-requires : tie.Need-cross-requires
+cross-requires c κs =
+    let s = c .before in
+    let t = subst Proper (sym (c .segment-at .ensures)) (s .pre .0) in
+    (t .near-a, t .near-b, s .pre .1)
+
+-- the first test
+module _ (c : tie.After-cross) where
+  abbrev s : tie.Start
+  s = c .before .before
+
+  abbrev t : Segment
+  t = segmentAt (segments (s .args .s .now)) (s .args .i)
+
+  strict : {b : Bool} → ltZ (toZ w64 (ofZ w64 (c .cross .result))) (pos 0) ≡ b → ltZ (side t (s .args .p)) (pos 0) ≡ b
+  strict e = ap (λ z. ltZ z (pos 0)) (sym (side-got (c .before .segment-at .ensures) (s .args .p) (c .cross .result) (c .cross .ok) (c .cross .ensures))) ∙ e
+
+returns : tie.Need-returns
+unfolding liesAbove
+returns c = sym (or-l _ (strict (c .before) (c .if1 .taken)))
+
+end-of-requires : tie.Need-end-of-requires
+end-of-requires c κs = search needs
+
+same-requires : tie.Need-same-requires
+same-requires c κs = search needs
+
+returns-2 : tie.Need-returns-2
+unfolding liesAbove
+returns-2 c =
+    let e = c .before in
+    let k = e .before .before in
+    end-got (k .before .segment-at .ensures) (s k .args .p) (s k .args .edge) (strict k (e .before .if1 .left)) (e .end-of .ensures) (c .same .ensures)
+
+pub lies-above-spec : {M : Type 1} → statement M
+lies-above-spec =
+    tie.close
+    (tie.spec segment-at-requires cross-requires returns end-of-requires same-requires returns-2)

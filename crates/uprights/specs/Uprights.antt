@@ -1,0 +1,41 @@
+-- What is tested of vertical segments. The contracts of `uprights` cite these. Assumes nothing.
+use mathlib.Core.Path.{_≡_}
+use mathlib.Core.List.{List}
+use mathlib.Core.Bool.{Bool, true, _||_}
+use Prim.Native.Nat.{ℕ, _<_, _≤_}
+use lib.IntN.{pos}
+use lib.Signed.{ltZ, _≤ℤ_}
+use Rattle.geom.specs.declared.Point.{Point}
+use Rattle.geom.specs.Points.{eqP}
+use Rattle.segm.specs.declared.Segment.{Segment}
+use Rattle.segm.specs.Segments.{Drawing, segmentAt}
+use Rattle.meetings.specs.Meetings.{side}
+use Rattle.strip.specs.Strip.{isVertical, above}
+use Rattle.neighbours.specs.Neighbours.{Cut}
+use Rattle.uprights.specs.declared.Edge.{Edge}
+use Rattle.uprights.specs.declared.Edge.the-variants.{Ends, Starts}
+
+-- the end of a segment that may touch a vertical one
+abbrev pub endOf : Edge → Segment → Point
+endOf Ends t = t .b
+endOf Starts t = t .a
+
+-- t lies under p: strictly, or with its end there. And above
+unfoldable pub liesUnder : Edge → Point → Segment → Bool
+liesUnder edge p t = above t p || eqP (endOf edge t) p
+
+unfoldable pub liesAbove : Edge → Point → Segment → Bool
+liesAbove edge p t = ltZ (side t p) (pos 0) || eqP (endOf edge t) p
+
+-- v stands in a gap of the list
+abbrev pub CutIn : Drawing → Edge → Segment → List ℕ → Type 0
+CutIn d edge v l = Cut (endOf edge) (segmentAt d) 0 v l
+
+-- each vertical segment of places from..to stands in a gap of the list
+abbrev pub Cuts : Drawing → Edge → ℕ → ℕ → List ℕ → Type 0
+Cuts d edge from to l = (v : ℕ) → from ≤ v → v < to → isVertical (segmentAt d v) ≡ true → CutIn d edge (segmentAt d v) l
+
+-- the vertical segments of places from..to stand on each other
+abbrev pub Stacked : Drawing → ℕ → ℕ → Type 0
+Stacked d from to =
+    (v w : ℕ) → from ≤ v → v < w → w < to → isVertical (segmentAt d v) ≡ true → isVertical (segmentAt d w) ≡ true → segmentAt d v .b .y ≤ℤ segmentAt d w .a .y
