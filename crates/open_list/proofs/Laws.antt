@@ -20,7 +20,7 @@ use Rattle.neighbours.specs.Neighbours.{Ready, Known, Ordered, Distinct}
 use Rattle.neighbours.proofs.Chain.{chain-put, chain-take}
 use Rattle.scan.specs.Scan.{putAt, outAt}
 use Rattle.scan.proofs.Laws.{put-in, in-put, length-put, length-out, out-in, in-out, not-out, pairs-out}
-use Rattle.open_list.specs.OpenList.{follows, StandsOver, StandsUnder, ClosesAt, Left, Entered}
+use Rattle.open_list.specs.OpenList.{follows, FitsAt, ClosesAt, Left, Entered}
 
 pub follows-next : (s t : Segment) → follows s t ≡ true → Next s t
 unfolding follows
@@ -82,10 +82,10 @@ none-enters {d} i o v = record {
   mine = λ j m. inl m;
 }
 
-pub one-enters : {d : Drawing} {l : List ℕ} (k i : ℕ) → k ≤ length l → Ordered d l → isVertical (segmentAt d i) ≡ false → StandsOver d k i l → StandsUnder d k i l → Entered d i (i + 1) l (putAt k i l)
+pub one-enters : {d : Drawing} {l : List ℕ} (k i : ℕ) → Ordered d l → isVertical (segmentAt d i) ≡ false → FitsAt d k i l → Entered d i (i + 1) l (putAt k i l)
 unfolding putAt
-one-enters {d} {l} k i h o v f g = record {
-  order = chain-put (λ i j. Next (segmentAt d i) (segmentAt d j)) 0 l k i h o f g;
+one-enters {d} {l} k i o v f = record {
+  order = chain-put (λ i j. Next (segmentAt d i) (segmentAt d j)) 0 l k i (f .inside) o (f .over) (f .under);
   kept = λ j m. in-put k i l j (inr m);
   came = λ j p q w. in-put k i l j (inl (omega arith));
   mine = λ j m. cases (λ e. inr (omega arith, omega arith, ap (λ z. isVertical (segmentAt d z)) e ∙ v)) inl (put-in k i l j m);

@@ -23,6 +23,12 @@ StandsOver d k i l = (j : ℕ) → suc j ≡ k → Next (segmentAt d (getD l j 0
 abbrev pub StandsUnder : Drawing → ℕ → ℕ → List ℕ → Type 0
 StandsUnder d k i l = k < length l → Next (segmentAt d i) (segmentAt d (getD l k 0))
 
+-- both, of a place in the list or at its end
+pub record FitsAt (d : Drawing) (k i : ℕ) (l : List ℕ) : Type 0 where
+  pub inside : k ≤ length l
+  pub over : StandsOver d k i l
+  pub under : StandsUnder d k i l
+
 -- the two beside place k may become neighbours
 abbrev pub ClosesAt : Drawing → ℕ → List ℕ → Type 0
 ClosesAt d k l = (j : ℕ) → suc j ≡ k → suc k < length l → Next (segmentAt d (getD l j 0)) (segmentAt d (getD l (suc k) 0))

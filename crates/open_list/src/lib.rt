@@ -11,11 +11,13 @@ ghost use Rattle.segm.specs.Lists.{_∈_};
 ghost use Rattle.segm.specs.Segments.{segments, segmentAt};
 ghost use Rattle.meetings.specs.Meetings.{Proper};
 ghost use Rattle.neighbours.specs.Neighbours.{Ready, Known, Ordered, Distinct};
-ghost use Rattle.open_list.specs.OpenList.{follows, StandsOver, StandsUnder, ClosesAt, Left, Entered};
+ghost use Rattle.open_list.specs.OpenList.{follows, StandsOver, StandsUnder, FitsAt, ClosesAt, Left, Entered};
 
-// How many segments are open, and whether all tests were passed so far.
+// How many segments are open, where in the list the last one left or entered, and whether all tests were passed so far. At one x ends and starts come
+// in order, so the next one's place is near.
 pub struct Held {
     pub count: usize,
+    pub near: usize,
     pub clear: bool,
 }
 
@@ -25,6 +27,7 @@ pub fn unclear() -> Held
 {
     Held {
         count: 0,
+        near: 0,
         clear: false,
     }
 }
@@ -79,7 +82,7 @@ fn closes_at(s: &[i32], list: &[u32], k: usize) -> bool
 }
 
 // End e is passed: where a segment that is not vertical ends there, it leaves the list.
-fn leave_one(s: &[i32], e: u32, list: &mut [u32], count: usize) -> Held
+fn leave_one(s: &[i32], e: u32, list: &mut [u32], count: usize, near: usize) -> Held
     requires { ⌜ Ready (segments (now s))
         × (e < 2 * length (segments (now s)))
         × (count ≤ length (now list))
@@ -93,6 +96,7 @@ fn leave_one(s: &[i32], e: u32, list: &mut [u32], count: usize) -> Held
     if end < n {
         return Held {
             count: count,
+            near: near,
             clear: true,
         };
     }
@@ -101,14 +105,27 @@ fn leave_one(s: &[i32], e: u32, list: &mut [u32], count: usize) -> Held
     if scan::is_vertical(t) {
         return Held {
             count: count,
+            near: near,
             clear: true,
         };
     }
-    take_out(s, t, i, list, count)
+    take_out(s, t, i, list, count, near)
+}
+
+// A place of the list to look for i at, whose segment is t: where the last one left, if it stands there. Nothing is promised of it.
+fn place_to_leave(s: &[i32], t: Segment, i: usize, list: &[u32], near: usize) -> usize
+    requires { ⌜ Ready (segments (now s)) × Proper t × Known (segments (now s)) (now list) ⌝ }
+{
+    if near < list.len() {
+        if list[near] as usize == i {
+            return near;
+        }
+    }
+    scan::place_near(s, list, near, Sought::Along(t))
 }
 
 // The segment t, at place i of the drawing, leaves the list.
-fn take_out(s: &[i32], t: Segment, i: usize, list: &mut [u32], count: usize) -> Held
+fn take_out(s: &[i32], t: Segment, i: usize, list: &mut [u32], count: usize, near: usize) -> Held
     requires { ⌜ Ready (segments (now s))
         × (t ≡ segmentAt (segments (now s)) i)
         × (i < length (segments (now s)))
@@ -119,7 +136,7 @@ fn take_out(s: &[i32], t: Segment, i: usize, list: &mut [u32], count: usize) -> 
     ensures { λ r. ⌜ (r .clear ≡ true
         → ((r .count ≤ count) × Left (segments (now (s .entry))) ((length (segments (now (s .entry))) + i) ∷ []) (take count (now (list .entry))) (take (r .count) (now (list .exit))))) ⌝ }
 {
-    let k = scan::place_of(s, &list[..count], Sought::Along(t));
+    let k = place_to_leave(s, t, i, &list[..count], near);
     if count <= k {
         return unclear();
     }
@@ -130,8 +147,10 @@ fn take_out(s: &[i32], t: Segment, i: usize, list: &mut [u32], count: usize) -> 
         return unclear();
     }
     scan::remove(list, count, k);
+    let fewer = count - 1;
     Held {
-        count: count - 1,
+        count: fewer,
+        near: k,
         clear: true,
     }
 }
@@ -147,23 +166,63 @@ pub fn leave_all(s: &[i32], ends: &[u32], list: &mut [u32], count: usize) -> Hel
     ensures { λ r. ⌜ (r .clear ≡ true → ((r .count ≤ count) × Left (segments (now (s .entry))) (now (ends .entry)) (take count (now (list .entry))) (take (r .count) (now (list .exit))))) ⌝ }
 {
     let mut held = count;
+    let mut near: usize = 0;
     let mut k: usize = 0;
     while k < ends.len() {
-        let left = leave_one(s, ends[k], list, held);
+        let left = leave_one(s, ends[k], list, held, near);
         if !left.clear {
             return unclear();
         }
         held = left.count;
+        near = left.near;
         k += 1;
     }
     Held {
         count: held,
+        near: near,
         clear: true,
     }
 }
 
+// Whether the segment at place i may stand at place k of the list.
+fn fits_at(s: &[i32], list: &[u32], k: usize, i: u32) -> bool
+    requires { ⌜ Ready (segments (now s)) × Known (segments (now s)) (now list) × (i < length (segments (now s))) × (k ≤ length (now list)) ⌝ }
+    ensures { λ r. ⌜ (r ≡ true → FitsAt (segments (now (s .entry))) k i (now (list .entry))) ⌝ }
+{
+    if !stands_over(s, list, k, i) {
+        return false;
+    }
+    stands_under(s, list, k, i)
+}
+
+// A place of the list, and whether a segment may stand there.
+struct Place {
+    at: usize,
+    fits: bool,
+}
+
+// A place for the segment t, at place i of the drawing: where the last one entered, if it fits there, else by search.
+fn place_to_enter(s: &[i32], t: Segment, i: u32, list: &[u32], near: usize) -> Place
+    requires { ⌜ Ready (segments (now s)) × Proper t × Known (segments (now s)) (now list) × (i < length (segments (now s))) ⌝ }
+    ensures { λ r. ⌜ (r .fits ≡ true → FitsAt (segments (now (s .entry))) (r .at) i (now (list .entry))) ⌝ }
+{
+    if near <= list.len() {
+        if fits_at(s, list, near, i) {
+            return Place {
+                at: near,
+                fits: true,
+            };
+        }
+    }
+    let k = scan::place_near(s, list, near, Sought::Along(t));
+    Place {
+        at: k,
+        fits: fits_at(s, list, k, i),
+    }
+}
+
 // The segment at place i is passed: where it is not vertical it enters the list.
-fn enter_one(s: &[i32], i: usize, list: &mut [u32], count: usize) -> Held
+fn enter_one(s: &[i32], i: usize, list: &mut [u32], count: usize, near: usize) -> Held
     requires { ⌜ Ready (segments (now s))
         × (i < length (segments (now s)))
         × (count < length (now list))
@@ -175,19 +234,21 @@ fn enter_one(s: &[i32], i: usize, list: &mut [u32], count: usize) -> Held
     if scan::is_vertical(t) {
         return Held {
             count: count,
+            near: near,
             clear: true,
         };
     }
-    let k = scan::place_of(s, &list[..count], Sought::Along(t));
-    if !stands_over(s, &list[..count], k, i as u32) {
+    let place = place_to_enter(s, t, i as u32, &list[..count], near);
+    if !place.fits {
         return unclear();
     }
-    if !stands_under(s, &list[..count], k, i as u32) {
-        return unclear();
-    }
+    let k = place.at;
     scan::insert(list, count, k, i as u32);
+    let more = count + 1;
+    let after = k + 1;
     Held {
-        count: count + 1,
+        count: more,
+        near: after,
         clear: true,
     }
 }
@@ -204,17 +265,20 @@ pub fn enter_all(s: &[i32], from: usize, to: usize, list: &mut [u32], count: usi
     ensures { λ r. ⌜ (r .clear ≡ true → ((r .count ≤ to) × Entered (segments (now (s .entry))) from to (take count (now (list .entry))) (take (r .count) (now (list .exit))))) ⌝ }
 {
     let mut held = count;
+    let mut near: usize = 0;
     let mut i = from;
     while i < to {
-        let entered = enter_one(s, i, list, held);
+        let entered = enter_one(s, i, list, held, near);
         if !entered.clear {
             return unclear();
         }
         held = entered.count;
+        near = entered.near;
         i += 1;
     }
     Held {
         count: held,
+        near: near,
         clear: true,
     }
 }

@@ -3,15 +3,15 @@ use geom::Point;
 use segm::Segment;
 ghost use mathlib.Core.Path.{_≡_};
 ghost use mathlib.Core.Bool.{true};
-ghost use Prim.Native.Nat.{suc, _≤_, _<_};
-ghost use lib.ListN.{length, take};
+ghost use Prim.Native.Nat.{suc, _-_, _≤_, _<_};
+ghost use lib.ListN.{length, getD, take};
 ghost use lib.Signed.{_≤ℤ_};
 ghost use Rattle.geom.specs.Points.{inRange};
 ghost use Rattle.segm.specs.Lists.{written};
 ghost use Rattle.segm.specs.Segments.{segments, segmentAt};
 ghost use Rattle.meetings.specs.Meetings.{Proper};
 ghost use Rattle.strip.specs.Strip.{isVertical, underBySide};
-ghost use Rattle.scan.specs.Scan.{stillOpen, isBelow, placeBy, putAt, outAt, EndFrom, AllProper, Near};
+ghost use Rattle.scan.specs.Scan.{stillOpen, bisect, isBelow, placeBy, putAt, outAt, EndFrom, AllProper, Near};
 
 // How many are open, and an x that none of them ends before.
 pub struct Open {
@@ -120,13 +120,13 @@ pub fn leave(s: &[i32], x: i32, list: &mut [u32], held: Open) -> Open
     sift(s, x, list, held.count)
 }
 
-// The place in the list of what is sought, by bisection.
-pub fn place_of(s: &[i32], list: &[u32], sought: Sought) -> usize
-    requires { ⌜ AllProper (segments (now s)) (now list) × Near sought ⌝ }
-    ensures { λ r. ⌜ r ≡ placeBy (isBelow (segments (now (s .entry))) sought) (now (list .entry)) ⌝ }
+// The place of what is sought from one place of the list up to another, by bisection.
+fn place_between(s: &[i32], list: &[u32], from: usize, to: usize, sought: Sought) -> usize
+    requires { ⌜ AllProper (segments (now s)) (now list) × Near sought × (from ≤ to) × (to ≤ length (now list)) ⌝ }
+    ensures { λ r. ⌜ r ≡ bisect (λ k. isBelow (segments (now (s .entry))) sought (getD (now (list .entry)) k 0)) (to - from) from to ⌝ }
 {
-    let mut low: usize = 0;
-    let mut high = list.len();
+    let mut low = from;
+    let mut high = to;
     while low < high {
         let middle = low + (high - low) / 2;
         if is_below(s, list[middle] as usize, sought) {
@@ -136,6 +136,68 @@ pub fn place_of(s: &[i32], list: &[u32], sought: Sought) -> usize
         }
     }
     low
+}
+
+// The place in the list of what is sought.
+pub fn place_of(s: &[i32], list: &[u32], sought: Sought) -> usize
+    requires { ⌜ AllProper (segments (now s)) (now list) × Near sought ⌝ }
+    ensures { λ r. ⌜ r ≡ placeBy (isBelow (segments (now (s .entry))) sought) (now (list .entry)) ⌝ }
+{
+    place_between(s, list, 0, list.len(), sought)
+}
+
+// Whether what is sought lies after the one before place k of the list, if there is one.
+fn is_after(s: &[i32], list: &[u32], k: usize, sought: Sought) -> bool
+    requires { ⌜ AllProper (segments (now s)) (now list) × Near sought × (k ≤ length (now list)) ⌝ }
+{
+    if k == 0 {
+        return true;
+    }
+    is_below(s, list[k - 1] as usize, sought)
+}
+
+// Places of the list, from one up to another.
+struct Stretch {
+    from: usize,
+    to: usize,
+}
+
+// A stretch from a place on that holds the place of what is sought, if that is not before it: found by steps that double.
+fn stretch_from(s: &[i32], list: &[u32], from: usize, sought: Sought) -> Stretch
+    requires { ⌜ AllProper (segments (now s)) (now list) × Near sought × (from ≤ length (now list)) ⌝ }
+    ensures { λ r. ⌜ (r .from ≤ r .to) × (r .to ≤ length (now (list .entry))) ⌝ }
+{
+    let mut low = from;
+    let mut step: usize = 1;
+    while step <= list.len() - low {
+        if !is_below(s, list[low + (step - 1)] as usize, sought) {
+            return Stretch {
+                from: low,
+                to: low + (step - 1),
+            };
+        }
+        low += step;
+        step += step;
+    }
+    Stretch {
+        from: low,
+        to: list.len(),
+    }
+}
+
+// The place of what is sought, with a guess: the nearer the guess, the fewer are looked at. Nothing is promised but that it is in the list or at its end.
+pub fn place_near(s: &[i32], list: &[u32], guess: usize, sought: Sought) -> usize
+    requires { ⌜ AllProper (segments (now s)) (now list) × Near sought ⌝ }
+    ensures { λ r. ⌜ r ≤ length (now (list .entry)) ⌝ }
+{
+    if list.len() < guess {
+        return place_of(s, list, sought);
+    }
+    if !is_after(s, list, guess, sought) {
+        return place_between(s, list, 0, guess, sought);
+    }
+    let at = stretch_from(s, list, guess, sought);
+    place_between(s, list, at.from, at.to, sought)
 }
 
 // i goes to place k of the list, and those from there on move up.

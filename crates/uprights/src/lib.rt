@@ -52,14 +52,32 @@ fn lies_above(s: &[i32], edge: Edge, i: u32, p: Point) -> bool
     geom::same(end_of(edge, t), p)
 }
 
-// Whether the vertical segment v stands in a gap of the list.
-fn is_cut(s: &[i32], edge: Edge, v: Segment, list: &[u32]) -> bool
+// A place in the list, and whether a vertical segment stands in the gap there.
+struct Gap {
+    place: usize,
+    clear: bool,
+}
+
+// Where the vertical segment v stands in a gap of the list, if it does; near the place of the one below it.
+fn gap_of(s: &[i32], edge: Edge, v: Segment, list: &[u32], near: usize) -> Gap
     requires { ⌜ Ready (segments (now s)) × Proper v × Known (segments (now s)) (now list) ⌝ }
+    ensures { λ r. ⌜ (r .clear ≡ true → CutIn (segments (now (s .entry))) edge v (now (list .entry))) ⌝ }
+{
+    let b = v.b;
+    let k = scan::place_near(s, list, near, Sought::At(b));
+    Gap {
+        place: k,
+        clear: is_cut(s, edge, v, list, k),
+    }
+}
+
+// Whether the one before place k of the list lies under v, and the one at place k above it.
+fn is_cut(s: &[i32], edge: Edge, v: Segment, list: &[u32], k: usize) -> bool
+    requires { ⌜ Ready (segments (now s)) × Proper v × Known (segments (now s)) (now list) × (k ≤ length (now list)) ⌝ }
     ensures { λ r. ⌜ (r ≡ true → CutIn (segments (now (s .entry))) edge v (now (list .entry))) ⌝ }
 {
     let a = v.a;
     let b = v.b;
-    let k = scan::place_of(s, list, Sought::At(b));
     if 0 < k {
         if !lies_under(s, edge, list[k - 1], a) {
             return false;
@@ -76,13 +94,16 @@ pub fn are_cut(s: &[i32], edge: Edge, from: usize, to: usize, list: &[u32]) -> b
     requires { ⌜ Ready (segments (now s)) × (to ≤ length (segments (now s))) × Known (segments (now s)) (now list) ⌝ }
     ensures { λ r. ⌜ (r ≡ true → Cuts (segments (now (s .entry))) edge from to (now (list .entry))) ⌝ }
 {
+    let mut near: usize = 0;
     let mut i = from;
     while i < to {
         let v = segm::segment_at(s, i);
         if scan::is_vertical(v) {
-            if !is_cut(s, edge, v, list) {
+            let gap = gap_of(s, edge, v, list, near);
+            if !gap.clear {
                 return false;
             }
+            near = gap.place;
         }
         i += 1;
     }

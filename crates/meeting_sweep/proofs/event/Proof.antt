@@ -122,16 +122,17 @@ same-length-6 c = search needs
 
 returns-6 : tie.Need-returns-6
 returns-6 c t =
-    let e = c .before .before .before .before .before in
-    (up-to e,
-    record {
-      between = _;
-      before = c .before .before .before .before .before .before .before .before .before .before .before .before .before .before .before .before .before .before .are-cut .ensures (not-false _ (c .before .before .before .before .before .before .before .before .before .before .before .before .before .before .before .before .before .if1 .left));
-      left = left (e .before .before .before .before .before .before);
-      entered = entered e;
-      after = c .before .before .before .are-cut2 .ensures (not-false _ (c .before .before .if4 .left));
-      stack = c .before .are-stacked .ensures (not-false _ (c .if5 .left));
-    })
+    let e = c .before .before .before .before .before in (
+      up-to e,
+      record {
+        between = _;
+        before = c .before .before .before .before .before .before .before .before .before .before .before .before .before .before .before .before .before .before .are-cut .ensures (not-false _ (c .before .before .before .before .before .before .before .before .before .before .before .before .before .before .before .before .before .if1 .left));
+        left = left (e .before .before .before .before .before .before);
+        entered = entered e;
+        after = c .before .before .before .are-cut2 .ensures (not-false _ (c .before .before .if4 .left));
+        stack = c .before .are-stacked .ensures (not-false _ (c .if5 .left));
+      },
+    )
 
 pub event-spec : {M : Type 1} → statement M
 event-spec =

@@ -69,9 +69,17 @@ event-requires c κs =
     let s = c .before .before .before .before .before .before .before .before .before in
     let d = segments (s .args .s .now) in
     let flat = s .args .flat .now in
-    let starts = c .before .before .starts-past .ensures in
-    (s .pre .0, (λ e m. ends s .below e (in-drop (l .passed) flat e (in-take (c .before .before .before .before .ends-past .result - l .passed) (drop (l .passed) flat) e m))), starts .from, starts .till, l .inv .few, omega (arith, l .inv .room, s .pre .2, s .pre .0 .few),
-    along-known d flat (s .pre .0) (ends s) (l .inv .along), l .inv .along .swept .holds .chain, along-distinct d flat (s .pre .0) (ends s) (l .inv .along))
+    let starts = c .before .before .starts-past .ensures in (
+      s .pre .0,
+      (λ e m. ends s .below e (in-drop (l .passed) flat e (in-take (c .before .before .before .before .ends-past .result - l .passed) (drop (l .passed) flat) e m))),
+      starts .from,
+      starts .till,
+      l .inv .few,
+      omega (arith, l .inv .room, s .pre .2, s .pre .0 .few),
+      along-known d flat (s .pre .0) (ends s) (l .inv .along),
+      l .inv .along .swept .holds .chain,
+      along-distinct d flat (s .pre .0) (ends s) (l .inv .along),
+    )
 
 same-length : tie.Need-same-length Inv-loop μ-loop
 same-length c = search needs

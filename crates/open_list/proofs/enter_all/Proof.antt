@@ -21,10 +21,10 @@ record Passed (d : Drawing) (from to : ℕ) (old : List ℕ) (count : ℕ) (list
   entered : Entered d from i (take count old) (take held list)
 
 abbrev Inv-loop : tie.InvT-loop
-Inv-loop s from to list₀ count held₀ i₀ list held i = Passed (segments s) from to list₀ count list held i
+Inv-loop s from to list₀ count held₀ near₀ i₀ list held near i = Passed (segments s) from to list₀ count list held i
 
 abbrev μ-loop : tie.MeasureT-loop
-μ-loop s from to list₀ count held₀ i₀ list held i = to - i
+μ-loop s from to list₀ count held₀ near₀ i₀ list held near i = to - i
 
 loop-holds : tie.Need-loop-holds Inv-loop μ-loop
 loop-holds c =

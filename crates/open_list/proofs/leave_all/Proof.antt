@@ -23,10 +23,10 @@ record Passed (d : Drawing) (ends old : List ℕ) (count : ℕ) (list : List ℕ
   left : Left d (take k ends) (take count old) (take held list)
 
 abbrev Inv-loop : tie.InvT-loop
-Inv-loop s ends list₀ count held₀ k₀ list held k = Passed (segments s) ends list₀ count list held k
+Inv-loop s ends list₀ count held₀ near₀ k₀ list held near k = Passed (segments s) ends list₀ count list held k
 
 abbrev μ-loop : tie.MeasureT-loop
-μ-loop s ends list₀ count held₀ k₀ list held k = length ends - k
+μ-loop s ends list₀ count held₀ near₀ k₀ list held near k = length ends - k
 
 loop-holds : tie.Need-loop-holds Inv-loop μ-loop
 loop-holds c =

@@ -37,7 +37,7 @@ returns-2 c t =
     let n = c .before .before .before .before .count .result in
     let many : n ≡ length d = c .before .before .before .before .count .ensures ∙ sym (length-segments (s .args .s .now)) in
     let upright : isVertical (segmentAt d (s .args .e - n)) ≡ true =
-        ap isVertical (sym (c .before .before .segment-at .ensures)) ∙ sym (c .before .is-vertical .ensures) ∙ c .if2 .taken in
+    ap isVertical (sym (c .before .before .segment-at .ensures)) ∙ sym (c .before .is-vertical .ensures) ∙ c .if2 .taken in
     (omega arith, none-leaves (s .args .e) (s .pre .4) (s .pre .5) (λ i q v. let same : i ≡ s .args .e - n = omega arith in clash (ap (λ (z : ℕ). isVertical (segmentAt d z)) same ∙ upright) v))
 
 take-out-requires : tie.Need-take-out-requires

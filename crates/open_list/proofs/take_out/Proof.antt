@@ -16,16 +16,16 @@ use Rattle.open_list.proofs.Laws.{one-leaves, taken-out}
 use Rattle.open_list.proofs.take_out.Statement.{statement}
 use Rattle.open_list.proofs.take_out.Tie as tie
 
-slice-reshare-prefix-place-of : tie.Need-slice-reshare-prefix-place-of
-slice-reshare-prefix-place-of c = search needs
+slice-reshare-prefix-place-to-leave : tie.Need-slice-reshare-prefix-place-to-leave
+slice-reshare-prefix-place-to-leave c = search needs
 
-slice-aggregate-place-of : tie.Need-slice-aggregate-place-of
-slice-aggregate-place-of c = let s = c .before .before in sym (length-take-le (s .args .count) (s .args .list .now) (s .pre .3))
+slice-aggregate-place-to-leave : tie.Need-slice-aggregate-place-to-leave
+slice-aggregate-place-to-leave c = let s = c .before .before in sym (length-take-le (s .args .count) (s .args .list .now) (s .pre .3))
 
-place-of-requires : tie.Need-place-of-requires
-place-of-requires c κs =
+place-to-leave-requires : tie.Need-place-to-leave-requires
+place-to-leave-requires c κs =
     let s = c .before .before in
-    (λ i m. s .pre .0 .proper i (s .pre .4 i m), subst Proper (sym (s .pre .1)) (s .pre .0 .proper (s .args .i) (s .pre .2)))
+    (s .pre .0, subst Proper (sym (s .pre .1)) (s .pre .0 .proper (s .args .i) (s .pre .2)), s .pre .4)
 
 unclear-requires : tie.Need-unclear-requires
 unclear-requires c κs = search needs
@@ -43,7 +43,7 @@ slice-read-if2 : tie.Need-slice-read-if2
 slice-read-if2 c = search needs
 
 cast-if2 : tie.Need-cast-if2
-cast-if2 c = omega (arith, c .slice-known2 .given (c .before .before .place-of .result))
+cast-if2 c = omega (arith, c .slice-known2 .given (c .before .before .place-to-leave .result))
 
 unclear-requires-2 : tie.Need-unclear-requires-2
 unclear-requires-2 c κs = search needs
@@ -77,8 +77,8 @@ returns-3 c t = absurd (clash t (c .unclear3 .ensures))
 remove-requires : tie.Need-remove-requires
 remove-requires c κs = search needs
 
-sub-t11 : tie.Need-sub-t11
-sub-t11 c = search needs
+sub-fewer : tie.Need-sub-fewer
+sub-fewer c = search needs
 
 same-length-4 : tie.Need-same-length-4
 same-length-4 c = search needs
@@ -91,21 +91,22 @@ returns-4 c t =
     let s = c .before .before .before .before .before .before .before .before .before .before .before .before .before in
     let count = s .args .count in
     let old = s .args .list .now in
-    let k = place .place-of .result in
+    let k = place .place-to-leave .result in
     let h : k < count = omega (arith, c .before .before .before .before .before .before .before .before .before .if1 .left) in
     let e : getD (take count old) k 0 ≡ s .args .i = getD-take count old k 0 h ∙ omega (arith, found .if2 .left) in
-    let long = length-take-le count old (s .pre .3) in
-    (omega arith,
-    subst (Left (segments (s .args .s .now)) ((length (segments (s .args .s .now)) + s .args .i) ∷ []) (take count old)) (sym (taken-out old (c .before .before .remove .last .0) count k h (s .pre .3) (c .before .before .remove .ensures)))
-    (one-leaves k (s .args .i) (omega (arith, long)) e (s .pre .5) (s .pre .6) (closed .closes-at .ensures (not-false _ (c .before .before .before .before .if3 .left)))))
+    let long = length-take-le count old (s .pre .3) in (
+      omega arith,
+      subst (Left (segments (s .args .s .now)) ((length (segments (s .args .s .now)) + s .args .i) ∷ []) (take count old)) (sym (taken-out old (c .before .before .remove .last .0) count k h (s .pre .3) (c .before .before .remove .ensures)))
+          (one-leaves k (s .args .i) (omega (arith, long)) e (s .pre .5) (s .pre .6) (closed .closes-at .ensures (not-false _ (c .before .before .before .before .if3 .left)))),
+    )
 
 pub take-out-spec : {M : Type 1} → statement M
 take-out-spec =
     tie.close
     (tie.spec
-    slice-reshare-prefix-place-of
-    slice-aggregate-place-of
-    place-of-requires
+    slice-reshare-prefix-place-to-leave
+    slice-aggregate-place-to-leave
+    place-to-leave-requires
     unclear-requires
     same-length
     returns
@@ -122,6 +123,6 @@ take-out-spec =
     same-length-3
     returns-3
     remove-requires
-    sub-t11
+    sub-fewer
     same-length-4
     returns-4)

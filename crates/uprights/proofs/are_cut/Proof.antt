@@ -18,10 +18,10 @@ use Rattle.uprights.proofs.are_cut.Statement.{statement}
 use Rattle.uprights.proofs.are_cut.Tie as tie
 
 abbrev Inv-loop : tie.InvT-loop
-Inv-loop s edge from to list i₀ i = Cuts (segments s) edge from i list
+Inv-loop s edge from to list near₀ i₀ near i = Cuts (segments s) edge from i list
 
 abbrev μ-loop : tie.MeasureT-loop
-μ-loop s edge from to list i₀ i = to - i
+μ-loop s edge from to list near₀ i₀ near i = to - i
 
 loop-holds : tie.Need-loop-holds Inv-loop μ-loop
 loop-holds c = λ v l m. absurd (omega arith)
@@ -52,8 +52,8 @@ module _ (c : tie.After-segment-at Inv-loop μ-loop) where
   proper : Proper (c .segment-at .result)
   proper = subst Proper (sym (c .segment-at .ensures)) (s .pre .0 .proper i inside)
 
-is-cut-requires : tie.Need-is-cut-requires Inv-loop μ-loop
-is-cut-requires c κs = let t = c .before .before in (s t .pre .0, proper t, s t .pre .2)
+gap-of-requires : tie.Need-gap-of-requires Inv-loop μ-loop
+gap-of-requires c κs = let t = c .before .before in (s t .pre .0, proper t, s t .pre .2)
 
 returns : tie.Need-returns Inv-loop μ-loop
 returns c = λ e. absurd (true≢false (sym e))
@@ -69,8 +69,8 @@ here : (c : tie.Joined1 Inv-loop μ-loop) → let t = c .before .before in isVer
 here c e =
     let t = c .before .before in
     ⊎-elim
-    (λ w. subst (λ (u : Segment). CutIn (d t) (s t .args .edge) u (s t .args .list .now)) (t .segment-at .ensures) (w .1 .ensures (not-false _ (w .2 .left))))
-    (λ w. absurd (clash (c .before .is-vertical .ensures ∙ ap isVertical (t .segment-at .ensures) ∙ e) (w .left)))
+    (λ w. subst (λ (u : Segment). CutIn (d t) (s t .args .edge) u (s t .args .list .now)) (t .segment-at .ensures) (w .1 .ensures (not-false _ (w .3 .left))))
+    (λ w. absurd (clash (c .before .is-vertical .ensures ∙ ap isVertical (t .segment-at .ensures) ∙ e) (w .0 .left)))
     (c .if1 .came)
 
 loop-again : tie.Need-loop-again Inv-loop μ-loop
@@ -90,7 +90,7 @@ are-cut-spec =
     loop-holds
     segment-at-requires
     is-vertical-requires
-    is-cut-requires
+    gap-of-requires
     returns
     add-i
     loop-less

@@ -1,0 +1,59 @@
+-- The verdict decides the arm, and an accepted drawing is good. Assumes nothing.
+use borrow.Author.Needs.{needs}
+use mathlib.Core.Path.{_≡_, refl, sym, subst, _∙_}
+use mathlib.Core.Bool.{Bool, true, false}
+use native.Mathlib.Omega.{arith}
+use Prim.Native.Nat.{ℕ, _≤_}
+use mir.Val.{boolByte}
+use Rattle.checks.specs.declared.Verdict.{Verdict}
+use Rattle.checks.specs.Runs.{clipRun}
+use Rattle.checks.proofs.Good.{verdict-good}
+use Rattle.measure.specs.Numbers.{verdictOf, Told}
+use Rattle.measure.proofs.measure_sweep.Statement.{statement}
+use Rattle.measure.proofs.measure_sweep.Tie as tie
+
+verdict-of-requires : tie.Need-verdict-of-requires
+verdict-of-requires c κs = search needs
+
+enum-told : tie.Need-enum-told
+enum-told c = search needs
+
+enum-told-2 : tie.Need-enum-told-2
+enum-told-2 c = search needs
+
+-- what `verdict_of` answered
+module _ (c : tie.After-verdict-of) {v : Verdict} (e : c .verdict-of .result ≡ v) where
+  verdict-is : verdictOf (c .before .args .segments .now) ≡ v
+  verdict-is = sym (c .verdict-of .ensures) ∙ e
+
+  told : (r : ℕ) → Told v r → Told (verdictOf (c .before .args .segments .now)) r
+  told r t = subst (λ (w : Verdict). Told w r) (sym verdict-is) t
+
+is-swept-requires : tie.Need-is-swept-requires
+unfolding clipRun
+is-swept-requires c κs = verdict-good _ (verdict-is (c .before .before) (c .enum-told .given .1))
+
+cast-result : tie.Need-cast-result
+cast-result c = search needs
+
+at-most-one : (b : Bool) → boolByte b ≤ 1
+at-most-one false = omega arith
+at-most-one true = omega arith
+
+returns : tie.Need-returns
+returns c = let k = c .before in told (k .before .before) (k .enum-told .given .1) _ (at-most-one (c .is-swept .result))
+
+returns-2 : tie.Need-returns-2
+returns-2 c = told (c .before .before) (c .enum-told2 .given .1) 2 refl
+
+pub measure-sweep-spec : {M : Type 1} → statement M
+measure-sweep-spec =
+    tie.close
+    (tie.spec
+    verdict-of-requires
+    enum-told
+    is-swept-requires
+    cast-result
+    enum-told-2
+    returns
+    returns-2)

@@ -1,0 +1,23 @@
+-- The verdict on a drawing as the numbers that C is handed: number and place of a refusal, or 0 and 0. Assumes nothing.
+use mathlib.Core.Path.{_≡_}
+use mathlib.Core.List.{List}
+use Prim.Native.Nat.{ℕ, _≤_}
+use lib.IntN.{ℤ, pos}
+use Rattle.checks.specs.declared.Verdict.{Verdict}
+use Rattle.checks.specs.declared.Verdict.the-variants.{Accepted, Refused}
+use Rattle.checks.specs.Verdict.{verdict}
+use Rattle.checks.specs.Runs.{clipRun}
+use Rattle.measure.specs.declared.Check.{Check}
+
+-- of a clip run with known choices: the lists are long enough for 1,024 segments, and more are refused before
+abbrev pub verdictOf : List ℤ → Verdict
+verdictOf numbers = verdict (clipRun numbers (pos 0) (pos 0) (pos 0) 8192 2048)
+
+abbrev pub checkNumbers : Verdict → Check
+checkNumbers Accepted = record { number = 0; place = 0 }
+checkNumbers (Refused number place) = record { number = number; place = place }
+
+-- what is told of the sweep: 2 of a refused drawing, 0 or 1 of an accepted one
+abbrev pub Told : Verdict → ℕ → Type 0
+Told Accepted r = r ≤ 1
+Told (Refused number place) r = r ≡ 2

@@ -1,0 +1,61 @@
+// What is measured of the checks, for the driver: the verdict by itself, and whether the sweep alone clears a drawing of wrong meetings. Every function here is
+// proved, and the crate assumes nothing of its own. No exported function has a `requires`.
+use checks::Verdict;
+ghost use mathlib.Core.Path.{_≡_};
+ghost use Rattle.segm.specs.Segments.{segments};
+ghost use Rattle.checks.specs.Accepted.{Good};
+ghost use Rattle.measure.specs.Numbers.{verdictOf, checkNumbers, Told};
+
+// A refusal's number and place, or 0 and 0.
+#[repr(C)]
+pub struct Check {
+    pub number: u64,
+    pub place: u64,
+}
+
+// The verdict on a drawing, of a clip run with known choices and lists that are long enough for any.
+fn verdict_of(segments: &[i32]) -> Verdict
+    ensures { λ r. ⌜ r ≡ verdictOf (now (segments .entry)) ⌝ }
+{
+    checks::check_clip(segments, 0, 0, 0, 8192, 2048)
+}
+
+// The check alone.
+#[no_mangle]
+pub extern "C" fn measure_check(segments: &[i32]) -> Check
+    ensures { λ r. ⌜ r ≡ checkNumbers (verdictOf (now (segments .entry))) ⌝ }
+{
+    match verdict_of(segments) {
+        Verdict::Accepted => Check {
+            number: 0,
+            place: 0,
+        },
+        Verdict::Refused(number, place) => Check {
+            number: number as u64,
+            place: place as u64,
+        },
+    }
+}
+
+// Whether the sweep alone clears an accepted drawing.
+fn is_swept(s: &[i32]) -> bool
+    requires { ⌜ Good (segments (now s)) ⌝ }
+{
+    let mut flat = [0u32; 2048];
+    let mut starts = [0u32; 2049];
+    let mut nodes = [0u32; 2048];
+    let e = 2 * segm::count(s);
+    graph::build_nodes(s, &mut flat[..e], &mut starts, &mut nodes[..e]);
+    meeting_sweep::is_clear(s, &flat[..e])
+}
+
+// 1 where the sweep alone clears an accepted drawing, 0 where the search over pairs has to; 2 of a refused one.
+#[no_mangle]
+pub extern "C" fn measure_sweep(segments: &[i32]) -> u64
+    ensures { λ r. ⌜ Told (verdictOf (now (segments .entry))) r ⌝ }
+{
+    match verdict_of(segments) {
+        Verdict::Accepted => is_swept(segments) as u64,
+        Verdict::Refused(_, _) => 2,
+    }
+}
