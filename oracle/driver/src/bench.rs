@@ -1,10 +1,12 @@
 //! How long the runs take, ours and the Rust's, on the same drawings. Not a test.
 
-use crate::drawing::{flat, numbers, pairs, read, Point, Segment, MOST_POINTS, MOST_SEGMENTS, WIDTH};
+use crate::drawing::{flat, pairs, Point, MOST_POINTS, MOST_SEGMENTS, WIDTH};
 use crate::generate::Make;
 use crate::lines::{self, Draw};
+use crate::measure;
 use crate::output::CLIP_EACH;
-use crate::prose::{Checked, Refusal};
+use crate::plane::Plane;
+use crate::prose::Checked;
 use crate::random::Random;
 use crate::shapes;
 use i_overlay::{Drawing, Scan};
@@ -16,8 +18,7 @@ const SIZES: [usize; 3] = [64, 256, MOST_SEGMENTS];
 const NON_ZERO: i32 = 1;
 
 /// Few segments open at once, half of all open at once, and half of all at one point.
-const KINDS: [(&str, Make); 3] =
-    [("wide", |_, n| shapes::squares(n / 4, 1)), ("tall", shapes::heaped), ("fan", shapes::wheel)];
+const KINDS: [(&str, Make); 3] = [("mesh", mesh), ("nested", shapes::heaped), ("fan", shapes::wheel)];
 
 /// What is timed, on drawings with these lines.
 struct Run {
@@ -75,9 +76,9 @@ struct Lists {
 }
 
 const NOTE: &str = "\
-Medians of one call in microseconds. Ours checks the drawing first, the Rust does not. The checks are timed by a call
-that they refuse at the last place of the last check; \"without\" is ours less that. The Rust's files are unchanged but
-its scans are stand-ins: the list looks at all that is open, the tree halves. No list is cleared between calls.";
+Medians of one call in microseconds. Ours checks the drawing first, the Rust does not; \"without\" is ours less the
+check, which is timed by itself. The Rust's files are unchanged but its scans are stand-ins: the list looks at all that
+is open, the tree halves. No list is cleared between calls.";
 
 const COLUMNS: [&str; 8] = [
     "ours, all checks",
@@ -93,19 +94,33 @@ const COLUMNS: [&str; 8] = [
 pub fn bench() -> bool {
     println!("{NOTE}");
     for run in RUNS {
-        println!("\n{:<6}{:>6}  {}", run.name, "n", COLUMNS.join("  "));
+        println!("\n{:<7}{:>6}  {}", run.name, "n", COLUMNS.join("  "));
         for (kind, make) in KINDS {
             for n in SIZES {
-                let [all, checks, list, tree] = times(&run, &drawing(make, run.draw, n));
-                let without = all - checks;
+                let [all, check, list, tree] = times(&run, &drawing(make, run.draw, n));
+                let without = all - check;
                 let cells = [all, without, list, tree, all / list, all / tree, without / list, without / tree];
                 let cells = COLUMNS.iter().zip(cells).map(|(name, cell)| format!("{cell:>0$.1}", name.len() + 2));
-                println!("{kind:<6}{n:>6}{}", cells.collect::<String>());
+                println!("{kind:<7}{n:>6}{}", cells.collect::<String>());
             }
         }
     }
+    bench_check();
     bench_split();
     true
+}
+
+/// The check alone, and how many times as long it takes as that of the size before.
+fn bench_check() {
+    println!("\n{:<7}{:>6}{:>10}{:>10}", "check", "n", "ours", "grown");
+    for (kind, make) in KINDS {
+        let drawings = SIZES.map(|n| drawing(make, lines::mixed, n));
+        let times: [f64; SIZES.len()] = medians(|size| _ = black_box(measure::check(black_box(&drawings[size]))));
+        for (size, n) in SIZES.into_iter().enumerate() {
+            let grown = size.checked_sub(1).map(|before| format!("{:.1}", times[size] / times[before]));
+            println!("{kind:<7}{n:>6}{:>10.1}{:>10}", times[size], grown.unwrap_or_default());
+        }
+    }
 }
 
 fn bench_split() {
@@ -121,6 +136,26 @@ fn bench_split() {
             println!("{kind:<14}{n:>6}{ours:>10.1}{theirs:>10.1}{:>12.1}", ours / theirs);
         }
     }
+}
+
+/// Unit squares with a diagonal each, about as wide as high, cut off after so many edges. Each edge joins a point to an
+/// earlier one, so that all that is left hangs together.
+fn mesh(_: &mut Random, size: usize) -> Plane {
+    let side = (1..).find(|side| side * (3 * side + 2) >= size as i32).expect("they grow");
+    let mut plane = Plane::default();
+    for (x, y) in (0..=side).flat_map(|x| (0..=side).map(move |y| (x, y))) {
+        if y > 0 {
+            plane.add((x, y - 1), (x, y));
+        }
+        if x > 0 {
+            plane.add((x - 1, y), (x, y));
+        }
+        if x > 0 && y > 0 {
+            plane.add((x - 1, y - 1), (x, y));
+        }
+    }
+    plane.edges.truncate(size);
+    plane
 }
 
 /// So many points out of a pool.
@@ -139,20 +174,7 @@ fn drawing(make: Make, draw: Draw, n: usize) -> Vec<i32> {
     numbers
 }
 
-/// The same drawing with no windings and its last segment moved to the right of all and wound: every check is made at
-/// every place, and the last place is refused by the last check.
-fn refused_last(drawing: &[i32]) -> Vec<i32> {
-    let mut segments = read(drawing);
-    let right = 1 + segments.iter().map(|segment| segment.b.0).max().expect("there are segments");
-    segments.iter_mut().for_each(|segment| segment.winding = 0);
-    *segments.last_mut().expect("there are segments") =
-        Segment { a: (right, 0), b: (right + 1, 0), winding: 1, bits: 0 };
-    let refused = numbers(&segments);
-    assert_eq!(Checked::new(&refused).refused, Some(Refusal { number: 9, place: segments.len() as u64 - 1 }));
-    refused
-}
-
-/// Ours, ours refused by the last check, and the Rust's with its list and with its tree.
+/// Ours, our check alone, and the Rust's with its list and with its tree.
 fn times(run: &Run, numbers: &[i32]) -> [f64; 4] {
     let mut lists = Lists {
         fills: vec![0; MOST_SEGMENTS],
@@ -160,11 +182,10 @@ fn times(run: &Run, numbers: &[i32]) -> [f64; 4] {
         points: vec![0; CLIP_EACH[0] * MOST_SEGMENTS],
         lengths: vec![0; CLIP_EACH[1] * MOST_SEGMENTS],
     };
-    let refused = refused_last(numbers);
     let [mut list, mut tree] = [Scan::List, Scan::Tree].map(|scan| Drawing::new(numbers, scan));
     medians(|call| match call {
         0 => (run.ours)(black_box(numbers), &mut lists),
-        1 => (run.ours)(black_box(&refused), &mut lists),
+        1 => _ = black_box(measure::check(black_box(numbers))),
         2 => (run.theirs)(&mut list),
         _ => (run.theirs)(&mut tree),
     })

@@ -28,6 +28,7 @@ mod lent;
 mod lines;
 mod loops;
 mod marks;
+mod measure;
 mod nodes;
 mod output;
 mod placement;
@@ -53,6 +54,7 @@ mod text;
 mod texts;
 mod theirs;
 mod trials;
+mod verdict;
 mod walk;
 mod windings;
 
@@ -97,11 +99,8 @@ fn run(words: &[&str]) -> Option<bool> {
         ["check", options @ ..] => {
             let Options { seed, drawings, lists, texts } = options_of(options)?;
             println!("{}, seed {seed}", theirs::NOTE);
-            let stored = [
-                stored::replay(&stored::folder()),
-                cases::check(&cases::folder()),
-                sweeps::check(&sweeps::folder()),
-            ];
+            let stored =
+                [stored::replay(&stored::folder()), cases::check(&cases::folder()), sweeps::check(&sweeps::folder())];
             let made = [check::check(seed, drawings), check_split::check(seed, lists), check_texts::check(seed, texts)];
             Some(stored == [true; 3] && made == [true; 3])
         }

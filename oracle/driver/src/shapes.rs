@@ -141,7 +141,7 @@ pub fn row(random: &mut Random, size: usize) -> Plane {
 }
 
 /// Squares so far apart; where there is no gap two share a side.
-pub fn squares(count: usize, gap: i32) -> Plane {
+fn squares(count: usize, gap: i32) -> Plane {
     let mut plane = Plane::default();
     for i in 0..count as i32 {
         let (left, right) = (i * (2 + gap), i * (2 + gap) + 2);

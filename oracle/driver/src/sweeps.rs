@@ -48,7 +48,10 @@ fn write(path: &Path, text: &str) -> io::Result<()> {
 pub fn check(folder: &Path) -> bool {
     let path = folder.join(FILE);
     let same = fs::read_to_string(&path).ok() == Some(text());
-    println!("{DRAWINGS} drawings for the sweep's definition compared, {}", if same { "as made" } else { "DIFFERENCE" });
+    println!(
+        "{DRAWINGS} drawings for the sweep's definition compared, {}",
+        if same { "as made" } else { "DIFFERENCE" }
+    );
     same
 }
 

@@ -21,6 +21,9 @@ pub struct Tally {
     sizes: Table<usize, 1>,
     /// By the refusal due, 0 for none.
     calls: Table<u64, 3>,
+    /// Accepted drawings asked what cleared them of wrong meetings, and those that only the search over pairs did.
+    asked: usize,
+    searched: usize,
     /// The clip and slice runs of accepted drawings.
     clips: Table<&'static str, 4>,
     slices: Table<&'static str, 4>,
@@ -53,6 +56,12 @@ impl Tally {
         self.calls.add(due, function as usize);
     }
 
+    /// An accepted drawing, and whether only the search over pairs cleared it of wrong meetings.
+    pub fn add_cleared(&mut self, by_search: bool) {
+        self.asked += 1;
+        self.searched += usize::from(by_search);
+    }
+
     /// A clip run of an accepted drawing and which marks it has.
     pub fn add_clip(&mut self, choices: Choices, marks: [bool; marks::CLIP.len()]) {
         let [rule, invert, boundary] = choices.list().map(|choice| choice as usize);
@@ -72,6 +81,8 @@ impl Tally {
         self.placements.merge(other.placements);
         self.sizes.merge(other.sizes);
         self.calls.merge(other.calls);
+        self.asked += other.asked;
+        self.searched += other.searched;
         self.clips.merge(other.clips);
         self.slices.merge(other.slices);
         self.clip_marks.merge(other.clip_marks);
@@ -96,7 +107,9 @@ impl Tally {
         self.placements.print("placement", ["drawings"]);
         self.sizes.print("segments", ["accepted"]);
         self.calls.print("calls by the refusal due", ["overlay_fills", "overlay_clip", "overlay_slice"]);
-        println!("{} slices find no move: refusal {NO_MOVE}\n", self.calls.sum_of(&NO_MOVE));
+        println!("{} slices find no move: refusal {NO_MOVE}", self.calls.sum_of(&NO_MOVE));
+        let (asked, searched) = (self.asked, self.searched);
+        println!("{asked} accepted drawings cleared of wrong meetings, {searched} of them by the search over pairs\n");
         self.clips.print("clip runs by rule", ["0", "1", "2", "3"]);
         self.clip_marks.print("clip runs with", ["runs"]);
         self.slices.print("slice runs by rule", ["0", "1", "2", "3"]);
