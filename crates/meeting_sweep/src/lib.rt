@@ -15,8 +15,16 @@ ghost use Rattle.meetings.specs.Meetings.{meetsWrongly};
 ghost use Rattle.neighbours.specs.Neighbours.{Ready, Known, Ordered, Distinct};
 ghost use Rattle.meeting_sweep.specs.Events.{Past, Happened};
 
-// All that is at one x: the ends there are passed, then the starts, with the tests of the vertical segments before and after.
-fn event(s: &[i32], ends: &[u32], from: usize, to: usize, list: &mut [u32], count: usize) -> Held
+// All that is at one x: the ends there are passed, then the starts, with the tests of the vertical segments before and after. Places are sought near a guess.
+fn event(
+    s: &[i32],
+    ends: &[u32],
+    from: usize,
+    to: usize,
+    list: &mut [u32],
+    count: usize,
+    guess: usize,
+) -> Held
     requires { ⌜ Ready (segments (now s))
         × ((e : ℕ) → e ∈ now ends → e < 2 * length (segments (now s)))
         × (from ≤ to)
@@ -29,18 +37,18 @@ fn event(s: &[i32], ends: &[u32], from: usize, to: usize, list: &mut [u32], coun
     ensures { λ r. ⌜ (r .clear ≡ true
         → ((r .count ≤ to) × Happened (segments (now (s .entry))) (now (ends .entry)) from to (take count (now (list .entry))) (take (r .count) (now (list .exit))))) ⌝ }
 {
-    if !uprights::are_cut(s, Edge::Ends, from, to, &list[..count]) {
+    if !uprights::are_cut(s, Edge::Ends, from, to, &list[..count], guess) {
         return open_list::unclear();
     }
-    let left = open_list::leave_all(s, ends, list, count);
+    let left = open_list::leave_all(s, ends, list, count, guess);
     if !left.clear {
         return open_list::unclear();
     }
-    let entered = open_list::enter_all(s, from, to, list, left.count);
+    let entered = open_list::enter_all(s, from, to, list, left.count, left.near);
     if !entered.clear {
         return open_list::unclear();
     }
-    if !uprights::are_cut(s, Edge::Starts, from, to, &list[..entered.count]) {
+    if !uprights::are_cut(s, Edge::Starts, from, to, &list[..entered.count], left.near) {
         return open_list::unclear();
     }
     if !uprights::are_stacked(s, from, to) {
@@ -100,16 +108,18 @@ fn sweep(s: &[i32], flat: &[u32], list: &mut [u32]) -> bool
     let mut passed: usize = 0;
     let mut started: usize = 0;
     let mut count: usize = 0;
+    let mut near: usize = 0;
     while passed < flat.len() {
         let ends = ends_past(s, flat, passed);
         let starts = starts_past(s, started, flat[passed] as usize);
-        let held = event(s, &flat[passed..ends], started, starts, list, count);
+        let held = event(s, &flat[passed..ends], started, starts, list, count, near);
         if !held.clear {
             return false;
         }
         passed = ends;
         started = starts;
         count = held.count;
+        near = held.near;
     }
     true
 }

@@ -13,8 +13,8 @@ ghost use Rattle.meetings.specs.Meetings.{Proper};
 ghost use Rattle.neighbours.specs.Neighbours.{Ready, Known, Ordered, Distinct};
 ghost use Rattle.open_list.specs.OpenList.{follows, StandsOver, StandsUnder, FitsAt, ClosesAt, Left, Entered};
 
-// How many segments are open, where in the list the last one left or entered, and whether all tests were passed so far. At one x ends and starts come
-// in order, so the next one's place is near.
+// How many segments are open, a place of the list, and whether all tests were passed so far. The place is where a segment left or entered: at one x ends and
+// starts come in order, so that of the next one is near; and what changes at the next x is often near the first that changed at this one.
 pub struct Held {
     pub count: usize,
     pub near: usize,
@@ -155,8 +155,13 @@ fn take_out(s: &[i32], t: Segment, i: usize, list: &mut [u32], count: usize, nea
     }
 }
 
-// All ends of a block are passed.
-pub fn leave_all(s: &[i32], ends: &[u32], list: &mut [u32], count: usize) -> Held
+// Where the first one left or entered: here, if none has before.
+fn first_place(none_before: bool, first: usize, here: usize) -> usize {
+    if none_before { here } else { first }
+}
+
+// All ends of a block are passed. The place told is where the first one left, or the guess.
+pub fn leave_all(s: &[i32], ends: &[u32], list: &mut [u32], count: usize, guess: usize) -> Held
     requires { ⌜ Ready (segments (now s))
         × ((e : ℕ) → e ∈ now ends → e < 2 * length (segments (now s)))
         × (count ≤ length (now list))
@@ -166,20 +171,22 @@ pub fn leave_all(s: &[i32], ends: &[u32], list: &mut [u32], count: usize) -> Hel
     ensures { λ r. ⌜ (r .clear ≡ true → ((r .count ≤ count) × Left (segments (now (s .entry))) (now (ends .entry)) (take count (now (list .entry))) (take (r .count) (now (list .exit))))) ⌝ }
 {
     let mut held = count;
-    let mut near: usize = 0;
+    let mut near = guess;
+    let mut first = guess;
     let mut k: usize = 0;
     while k < ends.len() {
         let left = leave_one(s, ends[k], list, held, near);
         if !left.clear {
             return unclear();
         }
-        held = left.count;
         near = left.near;
+        first = first_place(held == count, first, near);
+        held = left.count;
         k += 1;
     }
     Held {
         count: held,
-        near: near,
+        near: first,
         clear: true,
     }
 }
@@ -253,8 +260,15 @@ fn enter_one(s: &[i32], i: usize, list: &mut [u32], count: usize, near: usize) -
     }
 }
 
-// The segments from one place up to another are passed.
-pub fn enter_all(s: &[i32], from: usize, to: usize, list: &mut [u32], count: usize) -> Held
+// The segments from one place up to another are passed. The place told is that after the first one that entered, or the guess.
+pub fn enter_all(
+    s: &[i32],
+    from: usize,
+    to: usize,
+    list: &mut [u32],
+    count: usize,
+    guess: usize,
+) -> Held
     requires { ⌜ Ready (segments (now s))
         × (from ≤ to)
         × (to ≤ length (segments (now s)))
@@ -265,20 +279,22 @@ pub fn enter_all(s: &[i32], from: usize, to: usize, list: &mut [u32], count: usi
     ensures { λ r. ⌜ (r .clear ≡ true → ((r .count ≤ to) × Entered (segments (now (s .entry))) from to (take count (now (list .entry))) (take (r .count) (now (list .exit))))) ⌝ }
 {
     let mut held = count;
-    let mut near: usize = 0;
+    let mut near = guess;
+    let mut first = guess;
     let mut i = from;
     while i < to {
         let entered = enter_one(s, i, list, held, near);
         if !entered.clear {
             return unclear();
         }
-        held = entered.count;
         near = entered.near;
+        first = first_place(held == count, first, near);
+        held = entered.count;
         i += 1;
     }
     Held {
         count: held,
-        near: near,
+        near: first,
         clear: true,
     }
 }

@@ -146,16 +146,6 @@ pub fn place_of(s: &[i32], list: &[u32], sought: Sought) -> usize
     place_between(s, list, 0, list.len(), sought)
 }
 
-// Whether what is sought lies after the one before place k of the list, if there is one.
-fn is_after(s: &[i32], list: &[u32], k: usize, sought: Sought) -> bool
-    requires { ⌜ AllProper (segments (now s)) (now list) × Near sought × (k ≤ length (now list)) ⌝ }
-{
-    if k == 0 {
-        return true;
-    }
-    is_below(s, list[k - 1] as usize, sought)
-}
-
 // Places of the list, from one up to another.
 struct Stretch {
     from: usize,
@@ -185,6 +175,39 @@ fn stretch_from(s: &[i32], list: &[u32], from: usize, sought: Sought) -> Stretch
     }
 }
 
+// A stretch up to a place that holds the place of what is sought, if that is not after it: found by steps that double.
+fn stretch_before(s: &[i32], list: &[u32], to: usize, sought: Sought) -> Stretch
+    requires { ⌜ AllProper (segments (now s)) (now list) × Near sought × (to ≤ length (now list)) ⌝ }
+    ensures { λ r. ⌜ (r .from ≤ r .to) × (r .to ≤ length (now (list .entry))) ⌝ }
+{
+    let mut high = to;
+    let mut step: usize = 1;
+    while step <= high {
+        if is_below(s, list[high - step] as usize, sought) {
+            return Stretch {
+                from: high - (step - 1),
+                to: high,
+            };
+        }
+        high -= step;
+        step += step;
+    }
+    Stretch { from: 0, to: high }
+}
+
+// The stretch that holds the place of what is sought, from a guess on or up to it.
+fn stretch_near(s: &[i32], list: &[u32], guess: usize, sought: Sought) -> Stretch
+    requires { ⌜ AllProper (segments (now s)) (now list) × Near sought × (guess ≤ length (now list)) ⌝ }
+    ensures { λ r. ⌜ (r .from ≤ r .to) × (r .to ≤ length (now (list .entry))) ⌝ }
+{
+    if 0 < guess {
+        if !is_below(s, list[guess - 1] as usize, sought) {
+            return stretch_before(s, list, guess - 1, sought);
+        }
+    }
+    stretch_from(s, list, guess, sought)
+}
+
 // The place of what is sought, with a guess: the nearer the guess, the fewer are looked at. Nothing is promised but that it is in the list or at its end.
 pub fn place_near(s: &[i32], list: &[u32], guess: usize, sought: Sought) -> usize
     requires { ⌜ AllProper (segments (now s)) (now list) × Near sought ⌝ }
@@ -193,10 +216,7 @@ pub fn place_near(s: &[i32], list: &[u32], guess: usize, sought: Sought) -> usiz
     if list.len() < guess {
         return place_of(s, list, sought);
     }
-    if !is_after(s, list, guess, sought) {
-        return place_between(s, list, 0, guess, sought);
-    }
-    let at = stretch_from(s, list, guess, sought);
+    let at = stretch_near(s, list, guess, sought);
     place_between(s, list, at.from, at.to, sought)
 }
 

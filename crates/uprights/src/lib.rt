@@ -89,12 +89,12 @@ fn is_cut(s: &[i32], edge: Edge, v: Segment, list: &[u32], k: usize) -> bool
     true
 }
 
-// Whether every vertical segment from one place up to another stands in a gap of the list.
-pub fn are_cut(s: &[i32], edge: Edge, from: usize, to: usize, list: &[u32]) -> bool
+// Whether every vertical segment from one place up to another stands in a gap of the list, the first one's sought near a guess.
+pub fn are_cut(s: &[i32], edge: Edge, from: usize, to: usize, list: &[u32], guess: usize) -> bool
     requires { ⌜ Ready (segments (now s)) × (to ≤ length (segments (now s))) × Known (segments (now s)) (now list) ⌝ }
     ensures { λ r. ⌜ (r ≡ true → Cuts (segments (now (s .entry))) edge from to (now (list .entry))) ⌝ }
 {
-    let mut near: usize = 0;
+    let mut near = guess;
     let mut i = from;
     while i < to {
         let v = segm::segment_at(s, i);

@@ -22,10 +22,10 @@ record Sweeping (d : Drawing) (flat old list : List ℕ) (passed started count :
   along : Along d flat passed started (take count list)
 
 abbrev Inv-loop : tie.InvT-loop
-Inv-loop s flat list₀ passed₀ started₀ count₀ list passed started count = Sweeping (segments s) flat list₀ list passed started count
+Inv-loop s flat list₀ passed₀ started₀ count₀ near₀ list passed started count near = Sweeping (segments s) flat list₀ list passed started count
 
 abbrev μ-loop : tie.MeasureT-loop
-μ-loop s flat list₀ passed₀ started₀ count₀ list passed started count = length flat - passed
+μ-loop s flat list₀ passed₀ started₀ count₀ near₀ list passed started count near = length flat - passed
 
 -- the ordered ends
 ends : (s : tie.Start Inv-loop μ-loop) → Ordered (segments (s .args .s .now)) (s .args .flat .now)

@@ -21,10 +21,10 @@ record Passed (d : Drawing) (from to : ℕ) (old : List ℕ) (count : ℕ) (list
   entered : Entered d from i (take count old) (take held list)
 
 abbrev Inv-loop : tie.InvT-loop
-Inv-loop s from to list₀ count held₀ near₀ i₀ list held near i = Passed (segments s) from to list₀ count list held i
+Inv-loop s from to list₀ count guess held₀ near₀ first₀ i₀ list held near first i = Passed (segments s) from to list₀ count list held i
 
 abbrev μ-loop : tie.MeasureT-loop
-μ-loop s from to list₀ count held₀ near₀ i₀ list held near i = to - i
+μ-loop s from to list₀ count guess held₀ near₀ first₀ i₀ list held near first i = to - i
 
 loop-holds : tie.Need-loop-holds Inv-loop μ-loop
 loop-holds c =
@@ -46,6 +46,9 @@ same-length c = search needs
 returns : tie.Need-returns Inv-loop μ-loop
 returns c t = absurd (clash t (c .unclear .ensures))
 
+first-place-requires : tie.Need-first-place-requires Inv-loop μ-loop
+first-place-requires c κs = search needs
+
 add-i : tie.Need-add-i Inv-loop μ-loop
 add-i c = search needs
 
@@ -54,15 +57,15 @@ loop-less c = search needs
 
 loop-again : tie.Need-loop-again Inv-loop μ-loop
 loop-again c =
-    let l = c .before .before .before .before .before .before .before .loop in
-    let one = c .before .before .before .before .enter-one in
-    let r = one .ensures (not-false _ (c .if1 .left)) in
+    let l = c .before .before .before .before .before .before .before .before .loop in
+    let one = c .before .before .before .before .before .enter-one in
+    let r = one .ensures (not-false _ (c .before .if1 .left)) in
     record {
       since = omega (arith, l .inv .since);
       until = omega arith;
       fewer = omega (arith, r .0, l .inv .fewer);
       room = omega (arith, one .kept, l .inv .room);
-      entered = entered-more (c .before .before .before .before .before .before .before .before .before .args .from) (l .i) (l .inv .since) (l .inv .entered) (r .1);
+      entered = entered-more (c .before .before .before .before .before .before .before .before .before .before .args .from) (l .i) (l .inv .since) (l .inv .entered) (r .1);
     }
 
 same-length-2 : tie.Need-same-length-2 Inv-loop μ-loop
@@ -86,6 +89,7 @@ enter-all-spec =
     unclear-requires
     same-length
     returns
+    first-place-requires
     add-i
     loop-less
     loop-again

@@ -23,10 +23,10 @@ record Passed (d : Drawing) (ends old : List ℕ) (count : ℕ) (list : List ℕ
   left : Left d (take k ends) (take count old) (take held list)
 
 abbrev Inv-loop : tie.InvT-loop
-Inv-loop s ends list₀ count held₀ near₀ k₀ list held near k = Passed (segments s) ends list₀ count list held k
+Inv-loop s ends list₀ count guess held₀ near₀ first₀ k₀ list held near first k = Passed (segments s) ends list₀ count list held k
 
 abbrev μ-loop : tie.MeasureT-loop
-μ-loop s ends list₀ count held₀ near₀ k₀ list held near k = length ends - k
+μ-loop s ends list₀ count guess held₀ near₀ first₀ k₀ list held near first k = length ends - k
 
 loop-holds : tie.Need-loop-holds Inv-loop μ-loop
 loop-holds c =
@@ -54,6 +54,9 @@ same-length c = search needs
 returns : tie.Need-returns Inv-loop μ-loop
 returns c t = absurd (clash t (c .unclear .ensures))
 
+first-place-requires : tie.Need-first-place-requires Inv-loop μ-loop
+first-place-requires c κs = search needs
+
 add-k : tie.Need-add-k Inv-loop μ-loop
 add-k c = search needs
 
@@ -62,11 +65,11 @@ loop-less c = search needs
 
 loop-again : tie.Need-loop-again Inv-loop μ-loop
 loop-again c =
-    let l = c .before .before .before .before .before .before .before .before .loop in
-    let s = c .before .before .before .before .before .before .before .before .before .before .before in
-    let one = c .before .before .before .before .leave-one in
+    let l = c .before .before .before .before .before .before .before .before .before .loop in
+    let s = c .before .before .before .before .before .before .before .before .before .before .before .before in
+    let one = c .before .before .before .before .before .leave-one in
     let ends = s .args .ends .now in
-    let r = one .ensures (not-false _ (c .if1 .left)) in
+    let r = one .ensures (not-false _ (c .before .if1 .left)) in
     let h : l .k < length ends = omega arith in
     record {
       until = omega arith;
@@ -99,6 +102,7 @@ leave-all-spec =
     unclear-requires
     same-length
     returns
+    first-place-requires
     add-k
     loop-less
     loop-again

@@ -18,30 +18,18 @@ returns c =
     let a = c .before .before .before .args in
     subst (λ (k : ℕ). k ≤ length (a .list .now)) (sym (c .place-of .ensures)) (place-bound (isBelow (segments (a .s .now)) (a .sought)) (a .list .now))
 
-is-after-requires : tie.Need-is-after-requires
-is-after-requires c κs = search needs
+stretch-near-requires : tie.Need-stretch-near-requires
+stretch-near-requires c κs = search needs
 
 place-between-requires : tie.Need-place-between-requires
 place-between-requires c κs = search needs
 
 returns-2 : tie.Need-returns-2
 returns-2 c =
-    let a = c .before .before .before .before .before .args in
-    let r = bisect-changes (λ k. isBelow (segments (a .s .now)) (a .sought) (getD (a .list .now) k 0)) (a .guess - 0) 0 (a .guess) (omega arith) (omega arith) in
-    omega (arith, c .place-between .ensures, r .till)
-
-stretch-from-requires : tie.Need-stretch-from-requires
-stretch-from-requires c κs = search needs
-
-place-between-requires-2 : tie.Need-place-between-requires-2
-place-between-requires-2 c κs = search needs
-
-returns-3 : tie.Need-returns-3
-returns-3 c =
-    let a = c .before .before .before .before .before .before .args in
-    let at = c .before .stretch-from in
+    let a = c .before .before .before .before .args in
+    let at = c .before .stretch-near in
     let r = bisect-changes (λ k. isBelow (segments (a .s .now)) (a .sought) (getD (a .list .now) k 0)) (at .result .to - at .result .from) (at .result .from) (at .result .to) (at .ensures .0) (omega arith) in
-    omega (arith, c .place-between2 .ensures, r .till, at .ensures .1)
+    omega (arith, c .place-between .ensures, r .till, at .ensures .1)
 
 pub place-near-spec : {M : Type 1} → statement M
 place-near-spec =
@@ -49,9 +37,6 @@ place-near-spec =
     (tie.spec
     place-of-requires
     returns
-    is-after-requires
+    stretch-near-requires
     place-between-requires
-    returns-2
-    stretch-from-requires
-    place-between-requires-2
-    returns-3)
+    returns-2)

@@ -18,10 +18,10 @@ use Rattle.uprights.proofs.are_cut.Statement.{statement}
 use Rattle.uprights.proofs.are_cut.Tie as tie
 
 abbrev Inv-loop : tie.InvT-loop
-Inv-loop s edge from to list near₀ i₀ near i = Cuts (segments s) edge from i list
+Inv-loop s edge from to list guess near₀ i₀ near i = Cuts (segments s) edge from i list
 
 abbrev μ-loop : tie.MeasureT-loop
-μ-loop s edge from to list near₀ i₀ near i = to - i
+μ-loop s edge from to list guess near₀ i₀ near i = to - i
 
 loop-holds : tie.Need-loop-holds Inv-loop μ-loop
 loop-holds c = λ v l m. absurd (omega arith)
