@@ -66,7 +66,7 @@ fn visit(link: Link, forth: bool) -> Link
     l
 }
 
-// Clears one line bit of link k in place.
+// Clears one line bit of link k, in place.
 pub fn visit_at(links: &mut [Link], k: usize, forth: bool)
     requires { ⌜ (k < length (now links)) × (has forth (getD (now links) k noLink .bits) ≡ true) ⌝ }
     ensures { λ r. ⌜ now (links .exit) ≡ set (now (links .entry)) k (visited (getD (now (links .entry)) k noLink) forth) ⌝ }
@@ -74,7 +74,7 @@ pub fn visit_at(links: &mut [Link], k: usize, forth: bool)
     links[k] = visit(links[k], forth);
 }
 
-// The same for one link, lent as a slice of one.
+// The same for a link by value, lent as a slice of one.
 fn visit_lent(link: Link, forth: bool) -> Link
     requires { ⌜ has forth (link .bits) ≡ true ⌝ }
     ensures { λ r. ⌜ r ≡ visited link forth ⌝ }

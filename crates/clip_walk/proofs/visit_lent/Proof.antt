@@ -1,4 +1,6 @@
--- `clip_walk::visit_lent` meets its contract: a walk of its MIR, by hand. The link is stored in an array of one, which is lent as a slice to `visit_at` for a lifetime that is made for the call. It comes back at the list that `visit_at` left, whose one element is read and returned.
+-- `clip_walk::visit_lent` meets its contract: a walk of its MIR, by hand.
+-- The link is stored in an array of one, and the array's element is lent as a slice to `visit_at`, for a lifetime that is made for the call.
+-- It comes back as `visit_at` left it, is read, and is the result. The array is then one value again, to be freed.
 -- All that the proof knows of `visit_at` is that it meets its contract. Assumes nothing.
 use mathlib.Core.Path.{_≡_, refl}
 use mathlib.Core.Bool.{Bool, true}
@@ -41,7 +43,7 @@ use denote.Triple.Statement.{Contract, Triple}
 use denote.Triple.Call.{calls-at}
 use denote.Triple.Clauses.{ensured, lasts}
 use denote.Triple.Table.{entered, cited}
-use denote.Triple.Walked.{says, needs, Stays, stay-none, walkOf, goes-none, Walks, ends-at, walked, walk-meets}
+use denote.Triple.Walked.{says, needs, Stays, stay-none, walkOf, goes-none, ends-at, walked, walk-meets}
 use denote.Exit.{yes}
 use Rattle.clip_walk.specs.Walk.{has}
 use Rattle.clip_walk.specs.Flat.{visited}
@@ -105,8 +107,8 @@ module _ {M : Type 1} (𝓤 : URA M) (H : Heap 𝓤) (A : Atoms 𝓤) (W : Given
     walk =
         qed W (‵ ftrue ∷ ‵ (owns (T.the-row ∷ bool ∷ []) a vals) ∷ []) ∵ enter ! C Λ code.function (mach link ∷ vbool forth ∷ []) _ $
         alloc1 ! (λ l₀. alloc1 ! (λ l₁. alloc1 ! (λ l₂. alloc1 ! (λ l₃. alloc1 ! (λ l₄. alloc1 ! (λ l₅. alloc1 ! (λ l₆. alloc1 ! (λ l₇. alloc1 ! (λ l₈. alloc1 ! (λ l₉. alloc0 ! $ params1 ! $
-        pass1 ! (init ! 16 refl (typed 𝓤 H A W link (mach link) g)) $ pass1 ! (init ! 14 refl (tt, tt)) $ pass0 ! $
-        assigns ! (agg ! (and-then ! (load ! (from ! (stop !)) (look ! 16 refl)) (no-more !))) (from ! (stop !)) (init ! 12 refl (tt, (typed 𝓤 H A W link (mach link) g .1, tt))) $
+        pass1 ! (init ! 16 refl (typed W link (mach link) g)) $ pass1 ! (init ! 14 refl (tt, tt)) $ pass0 ! $
+        assigns ! (agg ! (and-then ! (load ! (from ! (stop !)) (look ! 16 refl)) (no-more !))) (from ! (stop !)) (init ! 12 refl (tt, (typed W link (mach link) g .1, tt))) $
         assigns ! (addr ! (from ! (stop !))) (from ! (stop !)) (init ! 8 refl (tt, tt)) $
         assigns ! (agg ! (and-then ! (load ! (from ! (stop !)) (look ! 8 refl)) (and-then ! (lit ! tt) (no-more !)))) (from ! (stop !)) (init ! 6 refl (tt, (tt, (record { fits = lit< tt }, tt)))) $
         -- the array's one element is lent for a lifetime ν of the call
@@ -129,8 +131,8 @@ module _ {M : Type 1} (𝓤 : URA M) (H : Heap 𝓤) (A : Atoms 𝓤) (W : Given
         -- [links[0]; what it owns; the others; true; `visit_at`'s (); …; forth's; _9; …; _8; …; _7; …; _6; …; _5; …; _4; …; (_3's right); _2; …; _1; …; room for _0; …]
         assigns ! (addr ! (from ! (stop !))) (from ! (stop !)) (init ! 11 refl (tt, tt)) $
         assigns ! (bin ! (load ! (from ! (stop !)) (look ! 11 refl)) (lit ! tt) tt) (from ! (stop !)) (init ! 9 refl (tt, tt)) $
-        assigns ! (of-opd ! (load ! (from ! (hop ! (look ! 9 refl) (stop !))) (look-raw ! 0 refl))) (from ! (stop !)) (init ! 7 refl (typed 𝓤 H A W r (mach r) h)) $
-        assigns ! (of-opd ! (load ! (from ! (stop !)) (look ! 7 refl))) (from ! (stop !)) (init ! 24 refl (typed 𝓤 H A W r (mach r) h)) $
+        assigns ! (of-opd ! (load ! (from ! (hop ! (look ! 9 refl) (stop !))) (look-raw ! 0 refl))) (from ! (stop !)) (init ! 7 refl (typed W r (mach r) h)) $
+        assigns ! (of-opd ! (load ! (from ! (stop !)) (look ! 7 refl))) (from ! (stop !)) (init ! 24 refl (typed W r (mach r) h)) $
         -- the array is whole again
         use1 W (‵ (fat fullShare T′.mir l₃ 0 (mach r))) (W .laws .raw-at fullShare T′.mir l₃ 0 (mach r)) $ move ! (0 ∷ 2 ∷ []) $
         use2 W (‵ (fat fullShare (tyArray T′.mir 1) l₃ 0 (arrayVal (mach r ∷ [])))) (W .laws .elems-at fullShare T′.mir l₃ 0 (mach r ∷ [])) $
@@ -138,17 +140,14 @@ module _ {M : Type 1} (𝓤 : URA M) (H : Heap 𝓤) (A : Atoms 𝓤) (W : Given
         move ! (23 ∷ 24 ∷ []) $ free1 ! $ move ! (21 ∷ 22 ∷ []) $ free1 ! $ move ! (19 ∷ 20 ∷ []) $ free1 ! $ move ! (0 ∷ 18 ∷ []) $ free1 ! $
         move ! (15 ∷ 16 ∷ []) $ free1 ! $ move ! (13 ∷ 14 ∷ []) $ free1 ! $ move ! (11 ∷ 12 ∷ []) $ free1 ! $ move ! (9 ∷ 10 ∷ []) $ free1 ! $ move ! (7 ∷ 8 ∷ []) $ free1 ! $ move ! (5 ∷ 6 ∷ []) $ free1 ! $ free0 ! $ keep ! (0 ∷ []) $ by ! exits)))))))))))))))))))
 
-module _ {M : Type 1} (𝓤 : URA M) (H : Heap 𝓤) (A : Atoms 𝓤) (W : Given 𝓤 H A) (mem : Memory → SProp 𝓤) (run : Routine → Fun 𝓤) where
-  visit-lent-walks : (C : Calls 𝓤 H) (Λ : Loops 𝓤 H) → FmC 𝓤 H (W .laws) C → Triple 𝓤 (C #clip-walk·visit-at) (VisitAt 𝓤 H A mem run) → Walks 𝓤 H A visit-lent.ended stayed (WpFn 𝓤 H C Λ code.function) (visit-lent.clauses 𝓤 H A mem run)
-  visit-lent-walks C Λ fm known = walked 𝓤 H A visit-lent.ended stayed (visit-lent.clauses 𝓤 H A mem run) (WpFn 𝓤 H C Λ code.function)
-      (λ κs. (LL.vals T.the-type T′.the-laws, (bool-vals, tt))) (λ κs. (LL.tells T.the-type T′.the-laws, (bool-tells, tt)))
-      (λ κs qs bounds a g are. needs 𝓤 (has (a .1 .0) (a .0 .bits) ≡ true) _ (λ pre. walk 𝓤 H A W mem run (a .0) (a .1 .0) (are .0) pre C Λ fm known))
-
 visit-lent-meets : {M : Type 1} (𝓤 : URA M) (H : Heap 𝓤) (A : Atoms 𝓤) → Given 𝓤 H A → (mem : Memory → SProp 𝓤) (run : Routine → Fun 𝓤) (𝓣 : Tables 𝓤 H) → Triple 𝓤 (𝓣 .C #clip-walk·visit-at) (VisitAt 𝓤 H A mem run)
     → Meets 𝓤 H A visit-lent.signature (WpFn 𝓤 H (𝓣 .C) (𝓣 .Λ) code.function) (visit-lent.spec 𝓤 H A mem run)
 visit-lent-meets 𝓤 H A W mem run 𝓣 known =
     walk-meets 𝓤 H A visit-lent.ended stayed W (goes-none 𝓤 H A W 0 (λ _. T.the-row) yes (λ κs x f. refl), (goes-none 𝓤 H A W 0 (λ _. bool) yes (λ κs x f. refl), tt)) (visit-lent.clauses 𝓤 H A mem run)
-    (WpFn 𝓤 H (𝓣 .C) (𝓣 .Λ) code.function) (WpFn-mono 𝓤 H (W .laws) 𝓣 code.function) (visit-lent-walks 𝓤 H A W mem run (𝓣 .C) (𝓣 .Λ) (fmOf 𝓤 H (W .laws) 𝓣) known)
+    (WpFn 𝓤 H (𝓣 .C) (𝓣 .Λ) code.function) (WpFn-mono 𝓤 H (W .laws) 𝓣 code.function)
+    (walked 𝓤 H A visit-lent.ended stayed (visit-lent.clauses 𝓤 H A mem run) (WpFn 𝓤 H (𝓣 .C) (𝓣 .Λ) code.function)
+    (λ κs. (LL.vals T.the-type T′.the-laws, (bool-vals, tt))) (λ κs. (LL.tells T.the-type T′.the-laws, (bool-tells, tt)))
+    (λ κs qs bounds a g are. needs 𝓤 (has (a .1 .0) (a .0 .bits) ≡ true) _ (λ pre. walk 𝓤 H A W mem run (a .0) (a .1 .0) (are .0) pre (𝓣 .C) (𝓣 .Λ) (fmOf 𝓤 H (W .laws) 𝓣) known)))
 
 pub visit-lent-spec : {M : Type 1} → stated.statement M
 unfolding code.routine tablesOf
