@@ -2,9 +2,8 @@
 use mathlib.Core.Path.{_≡_, refl, sym, _∙_, ap, subst}
 use mathlib.Core.List.{[], _∷_, map}
 use mathlib.Core.Bool.{Bool, true, false, not, _&&_, cond}
-use Prim.Native.Nat.{ℕ}
 use lib.Dec.{eqb}
-use lib.IntN.{pos, natAbs}
+use lib.IntN.{natAbs}
 use Rattle.integers.proofs.Booleans.{clash}
 use Rattle.segm.specs.declared.Segment.{Segment}
 use Rattle.segm.specs.Lists.{_∈_, keep}
@@ -20,16 +19,20 @@ use Rattle.string_clip.specs.Writing.{linksPaths}
 use Rattle.string_clip.proofs.NoLines.{no-lines}
 
 module _ (rule : Rule) (filter : Filter) (d : Drawing) where
+  -- the run keeps s
   abbrev kept : Segment → Bool
   kept s = keeps filter (fill rule d s)
 
+  -- s, without its line bits if it is not kept
   abbrev mask : Segment → Segment
   mask s = cond (kept s) s (plain s)
 
+  -- a segment without line bits is not kept
   plain-not-kept : (s : Segment) → kept (plain s) ≡ false
   unfolding keeps
   plain-not-kept s = ap (λ n. not (eqb n 0) && keepsSides filter (sidesSet (fill rule d (plain s)))) (fill-lines rule d (plain s))
 
+  -- so what is not kept has none
   mask-none : (s : Segment) → s ∈ map mask d → kept s ≡ false → natAbs (s .bits) ≡ 0
   mask-none s m = let r = in-map mask s d m in subst (λ (t : Segment). kept t ≡ false → natAbs (t .bits) ≡ 0) (sym (r .2)) (go (r .0) (kept (r .0)) refl)
     where
@@ -37,6 +40,7 @@ module _ (rule : Rule) (filter : Filter) (d : Drawing) where
       go t true e h = absurd (clash e h)
       go t false e h = refl
 
+  -- and what is kept is as it was
   keep-mask : (l : Drawing) → keep kept (map mask l) ≡ keep kept l
   unfolding keep
   keep-mask [] = refl
@@ -46,6 +50,7 @@ module _ (rule : Rule) (filter : Filter) (d : Drawing) where
       go true e ih = rw e (ap (s ∷_) ih)
       go false e ih = rw (plain-not-kept s) ih
 
+  -- the walk over all segments finds the paths of the kept links
   pub masked-paths : linksPaths (masked rule filter d) ≡ clipPaths rule filter d
   unfolding masked clipPaths keptLinks
   masked-paths = no-lines kept (map mask d) mask-none ∙ ap linksPaths (keep-mask d)

@@ -4,7 +4,7 @@ use mathlib.Core.List.{List, [], _∷_, _++_, map, map-map, map-append}
 use mathlib.Core.Logic.{inl, inr}
 use mathlib.Core.Option.{Option, none, some, Option·map}
 use mathlib.Core.Bool.{Bool, true, false, _&&_, cond}
-use Prim.Native.Nat.{ℕ, zero, suc, _+_, _%_}
+use Prim.Native.Nat.{ℕ, zero, suc, _%_}
 use native.Mathlib.Omega.{arith}
 use lib.ListN.{length, getD, set}
 use lib.Seq.{append-snoc}
@@ -38,6 +38,7 @@ module _ {A : Type 0} where
   putIn (suc n) x (y ∷ l) = y ∷ putIn n x l
 
   module _ (x : A) where
+    -- an entry that was there is read where it moved to
     get-moved : (n : ℕ) (l : List A) (k : ℕ) (z : A) → getD (putIn n x l) (moved n k) z ≡ getD l k z
     get-moved zero l k z = refl
     get-moved (suc n) [] k z = refl
@@ -50,22 +51,26 @@ module _ {A : Type 0} where
     get-in (suc n) [] = refl
     get-in (suc n) (y ∷ l) = get-in n l
 
+    -- and written there
     set-moved : (n : ℕ) (l : List A) (k : ℕ) (v : A) → set (putIn n x l) (moved n k) v ≡ putIn n x (set l k v)
     set-moved zero l k v = refl
     set-moved (suc n) [] k v = refl
     set-moved (suc n) (y ∷ l) zero v = refl
     set-moved (suc n) (y ∷ l) (suc k) v = ap (y ∷_) (set-moved n l k v)
 
+    -- put in after the first entries
     putIn-after : (front l : List A) → putIn (length front) x (front ++ l) ≡ front ++ (x ∷ l)
     putIn-after [] l = refl
     putIn-after (y ∷ front) l = ap (y ∷_) (putIn-after front l)
 
+-- through a function
 map-putIn : {A B : Type 0} (f : A → B) (x : A) (n : ℕ) (l : List A) → map f (putIn n x l) ≡ putIn n (f x) (map f l)
 map-putIn f x zero l = refl
 map-putIn f x (suc n) [] = refl
 map-putIn f x (suc n) (y ∷ l) = ap (f y ∷_) (map-putIn f x n l)
 
 -- ---- the places
+-- one number on, each number is one more
 from-next : (k n : ℕ) → upFrom (suc k) n ≡ map suc (upFrom k n)
 unfolding upFrom
 from-next k zero = refl
@@ -88,6 +93,7 @@ abbrev orElse : Option Move → Option Move → Option Move
 orElse none o = o
 orElse (some m) o = some m
 
+-- the first that is left of two lists
 first-++ : (bits : List ℕ) (k l : List Move) → firstLeft bits (k ++ l) ≡ orElse (firstLeft bits k) (firstLeft bits l)
 unfolding firstLeft
 first-++ bits [] l = refl
@@ -98,6 +104,7 @@ first-++ bits (m ∷ k) l = go (isLeft bits m) (first-++ bits k l)
     go true e = refl
     go false e = e
 
+-- a link without line bits adds none to those left
 bits-more : (n : ℕ) (bits : List ℕ) → bitsLeft (putIn n 0 bits) ≡ bitsLeft bits
 unfolding bitsLeft tally
 bits-more zero bits = rw (none-set 0 true refl, none-set 0 false refl) (omega arith)
@@ -114,18 +121,22 @@ module _ (n : ℕ) where
     abbrev more : List ℕ
     more = putIn n 0 bits
 
+    -- no move over the new link is left
     new-not-left : (forth : Bool) → isLeft more (move n forth) ≡ false
     unfolding isLeft
     new-not-left forth = none-set (getD more n 0) forth (ap (_% 4) (get-in 0 n bits))
 
+    -- a move over another link is left as before
     left-renamed : (m : Move) → isLeft more (renamed m) ≡ isLeft bits m
     unfolding isLeft
     left-renamed m = ap (has (m .forth)) (get-moved 0 n bits (m .place) 0)
 
+    -- and takes the same bit
     taken-renamed : (m : Move) → taken more (renamed m) ≡ putIn n 0 (taken bits m)
     unfolding taken
     taken-renamed m = ap (λ b. set more (moved n (m .place)) (clear (m .forth) b)) (get-moved 0 n bits (m .place) 0) ∙ set-moved 0 n bits (m .place) (clear (m .forth) (getD bits (m .place) 0))
 
+    -- so the same move is the first that is left
     first-renamed : (l : List Move) → firstLeft more (map renamed l) ≡ Option·map renamed (firstLeft bits l)
     unfolding firstLeft
     first-renamed [] = refl
@@ -144,12 +155,14 @@ module _ (n : ℕ) where
         ap (λ (l : List ℕ). firstLeft more (G l)) (places s n d) ∙ passed n (map (moved n) all) ∙ ap (firstLeft more) (same all) ∙ first-renamed (H all)
 
     -- ---- where a path begins
+    -- the two moves over the new link are passed over
     passed-both : (i : ℕ) (l : List ℕ) → firstLeft more (bothMoves (putIn i n l)) ≡ firstLeft more (bothMoves l)
     unfolding firstLeft bothMoves
     passed-both zero l = rw (new-not-left true, new-not-left false)
     passed-both (suc i) [] = refl
     passed-both (suc i) (k ∷ l) = ap (λ (o : Option Move). cond (isLeft more (move k true)) (some (move k true)) (cond (isLeft more (move k false)) (some (move k false)) o)) (passed-both i l)
 
+  -- the others are those there were
   both-renamed : (l : List ℕ) → bothMoves (map (moved n) l) ≡ map renamed (bothMoves l)
   unfolding bothMoves
   both-renamed [] = refl
@@ -161,6 +174,7 @@ module _ (n : ℕ) where
     abbrev fitted : (ℕ → Segment) → ℕ → Move
     fitted at k = move k (fitting out p (at k))
 
+    -- it starts at p, or ends there
     abbrev starts : (ℕ → Segment) → ℕ → Bool
     starts at k = eqP (at k .a) p
 
@@ -171,6 +185,7 @@ module _ (n : ℕ) where
     abbrev fits : (ℕ → Segment) → List ℕ → List Move
     fits at l = map (fitted at) (keep (starts at) l ++ keep (stops at) l)
 
+    -- the moves of moved places are those of the segments that stand there
     fits-renamed : (at : ℕ → Segment) (l : List ℕ) → fits at (map (moved n) l) ≡ map renamed (fits (λ k. at (moved n k)) l)
     fits-renamed at l =
         let at′ : ℕ → Segment = λ k. at (moved n k) in
@@ -184,6 +199,7 @@ module _ (n : ℕ) where
       abbrev chosen : (ℕ → Bool) → List ℕ → Option Move
       chosen q l = firstLeft (more bits) (map (fitted at) (keep q l))
 
+      -- one place more
       chosen-cons : (q : ℕ → Bool) (k : ℕ) (l : List ℕ) → chosen q (k ∷ l) ≡ cond (q k && isLeft (more bits) (fitted at k)) (some (fitted at k)) (chosen q l)
       unfolding firstLeft keep
       chosen-cons q k l = go (q k)
@@ -192,6 +208,7 @@ module _ (n : ℕ) where
           go true = refl
           go false = refl
 
+      -- the new place is passed over
       passed-kept : (q : ℕ → Bool) (i : ℕ) (l : List ℕ) → chosen q (putIn i n l) ≡ chosen q l
       unfolding firstLeft keep
       passed-kept q zero l = chosen-cons q n l ∙ ap (λ (b : Bool). cond b (some (fitted at n)) (chosen q l)) (not-r (q n) (new-not-left bits (fitting out p (at n))))
@@ -199,14 +216,17 @@ module _ (n : ℕ) where
       passed-kept q (suc i) (k ∷ l) =
           chosen-cons q k (putIn i n l) ∙ ap (λ (o : Option Move). cond (q k && isLeft (more bits) (fitted at k)) (some (fitted at k)) o) (passed-kept q i l) ∙ sym (chosen-cons q k l)
 
+      -- the first that is left starts at p, or else ends there
       chosen-fits : (l : List ℕ) → firstLeft (more bits) (fits at l) ≡ orElse (chosen (starts at) l) (chosen (stops at) l)
       chosen-fits l = ap (firstLeft (more bits)) (map-append (fitted at) (keep (starts at) l) (keep (stops at) l)) ∙ first-++ (more bits) (map (fitted at) (keep (starts at) l)) (map (fitted at) (keep (stops at) l))
 
+      -- so the new place is passed over
       passed-fits : (i : ℕ) (l : List ℕ) → firstLeft (more bits) (fits at (putIn i n l)) ≡ firstLeft (more bits) (fits at l)
       passed-fits i l = chosen-fits (putIn i n l) ∙ ap₂ orElse (passed-kept (starts at) i l) (passed-kept (stops at) i l) ∙ sym (chosen-fits l)
 
-  -- what is done with the move chosen, if there is one
+  -- ---- what is done with the move chosen, if there is one
   module _ {A B : Type 0} (f : A → B) (g : Move → List B) (h : Move → List A) (same : (m : Move) → g (renamed m) ≡ map f (h m)) where
+    -- the same, if the same is done with each move
     then-same : (o : Option Move) {o′ : Option Move} → o′ ≡ Option·map renamed o → andThen o′ g ≡ map f (andThen o h)
     then-same o e = ap (λ (x : Option Move). andThen x g) e ∙ go o
       where
@@ -216,13 +236,16 @@ module _ (n : ℕ) where
 
 -- ---- the walk, with s put in at place n
 module _ (n : ℕ) (s : Segment) (d : Drawing) where
+  -- the links, one more
   abbrev longer : Drawing
   longer = putIn n s d
 
+  -- a moved place has the segment that it had
   same-segment : (k : ℕ) → segmentAt longer (moved n k) ≡ segmentAt d k
   unfolding segmentAt
   same-segment k = get-moved s n d k nowhere
 
+  -- so a renamed move is the same step
   same-step : (out : Bool) (m : Move) → over longer out (renamed n m) ≡ over d out m
   unfolding over
   same-step out m = ap (λ (t : Segment). way out (asDrawn (m .forth) t)) (same-segment (m .place))
@@ -230,10 +253,12 @@ module _ (n : ℕ) (s : Segment) (d : Drawing) where
   same-end : (out : Bool) (m : Move) → over longer out (renamed n m) .end ≡ over d out m .end
   same-end out m = ap (λ (σ : Step). σ .end) (same-step out m)
 
+  -- a path begins with the same move
   begins-same : (bits : List ℕ) → begins longer (more n bits) ≡ Option·map (renamed n) (begins d bits)
   unfolding begins
   begins-same bits = choice n bits bothMoves bothMoves (both-renamed n) (passed-both n bits) s d
 
+  -- and goes on with the same
   goesOn-same : (out : Bool) (p : Point) (bits : List ℕ) → goesOn longer out p (more n bits) ≡ Option·map (renamed n) (goesOn d out p bits)
   unfolding goesOn node
   goesOn-same out p bits =
@@ -241,6 +266,7 @@ module _ (n : ℕ) (s : Segment) (d : Drawing) where
       (λ l. fits-renamed n out p (segmentAt longer) l ∙ ap (λ (at : ℕ → Segment). map (renamed n) (fits n out p at l)) (fun-ext same-segment))
       (passed-fits n out p bits (segmentAt longer)) s d
 
+  -- till none fits
   follow-same : (fuel : ℕ) (out : Bool) (p : Point) (bits : List ℕ) → follow fuel longer out p (more n bits) ≡ map (renamed n) (follow fuel d out p bits)
   unfolding follow
   follow-same zero out p bits = refl
@@ -249,6 +275,7 @@ module _ (n : ℕ) (s : Segment) (d : Drawing) where
       (λ m. ap (renamed n m ∷_) (ap₂ (follow fuel longer out) (same-end out m) (taken-renamed n bits m) ∙ follow-same fuel out (over d out m .end) (taken bits m)))
       (goesOn d out p bits) (goesOn-same out p bits)
 
+  -- the same path
   path-same : (bits : List ℕ) (m : Move) → pathFrom longer (more n bits) (renamed n m) ≡ map (renamed n) (pathFrom d bits m)
   unfolding pathFrom
   path-same bits m =
@@ -260,11 +287,13 @@ module _ (n : ℕ) (s : Segment) (d : Drawing) where
       ∙ follow-same (bitsLeft rest) out (over d out m .end) rest
       )
 
+  -- which leaves the same bits
   takenAll-same : (bits : List ℕ) (l : List Move) → takenAll (more n bits) (map (renamed n) l) ≡ more n (takenAll bits l)
   unfolding takenAll
   takenAll-same bits [] = refl
   takenAll-same bits (m ∷ l) = ap (λ (b : List ℕ). takenAll b (map (renamed n) l)) (taken-renamed n bits m) ∙ takenAll-same (taken bits m) l
 
+  -- so the paths after it are the same
   walkFrom-same : (fuel : ℕ) (bits : List ℕ) → walkFrom fuel longer (more n bits) ≡ map (map (renamed n)) (walkFrom fuel d bits)
   unfolding walkFrom
   walkFrom-same zero bits = refl
@@ -278,6 +307,7 @@ module _ (n : ℕ) (s : Segment) (d : Drawing) where
 
   -- s has no line bits
   module _ (none-on : natAbs (s .bits) ≡ 0) where
+    -- the whole walk
     walk-same : walk longer ≡ map (map (renamed n)) (walk d)
     unfolding walk
     walk-same =
@@ -285,6 +315,7 @@ module _ (n : ℕ) (s : Segment) (d : Drawing) where
         let as-many : lineBits longer ≡ more n bits = map-putIn (λ (t : Segment). natAbs (t .bits)) s n d ∙ ap (λ b. putIn n b bits) none-on in
         ap (λ (b : List ℕ). walkFrom (bitsLeft b) longer b) as-many ∙ ap (λ fuel. walkFrom fuel longer (more n bits)) (bits-more n bits) ∙ walkFrom-same (bitsLeft bits) bits
 
+    -- its paths come through the same points
     points-same : (l : List Move) → pathPoints longer (map (renamed n) l) ≡ pathPoints d l
     unfolding pathPoints through
     points-same [] = refl
@@ -293,6 +324,7 @@ module _ (n : ℕ) (s : Segment) (d : Drawing) where
         ap (λ (ends : List Point). finished out (over longer out (renamed n m) .start ∷ ends)) (map-map (λ k. over longer out k .end) (renamed n) (m ∷ l))
         ∙ ap (λ (f : Move → Step). finished out (f m .start ∷ map (λ k. f k .end) (m ∷ l))) (fun-ext (same-step out))
 
+    -- a link without line bits, put in anywhere, changes no path
     one-more : linksPaths longer ≡ linksPaths d
     one-more = ap (map (pathPoints longer)) walk-same ∙ map-map (pathPoints longer) (map (renamed n)) (walk d) ∙ ap (λ (f : List Move → List Point). map f (walk d)) (fun-ext points-same)
 
