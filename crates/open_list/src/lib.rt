@@ -155,7 +155,7 @@ fn take_out(s: &[i32], t: Segment, i: usize, list: &mut [u32], count: usize, nea
     }
 }
 
-// All ends of a block are passed.
+// All these ends are passed, one after the other.
 pub fn leave_all(s: &[i32], ends: &[u32], list: &mut [u32], count: usize) -> Held
     requires { ⌜ Ready (segments (now s))
         × ((e : ℕ) → e ∈ now ends → e < 2 * length (segments (now s)))
