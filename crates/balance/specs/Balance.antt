@@ -16,6 +16,7 @@ use Rattle.ends.specs.Ends.{endPoint}
 unfoldable pub balance : Drawing → Point → ℤ
 balance d p = total (λ s. eqP (s .a) p) d -ℤ total (λ s. eqP (s .b) p) d
 
+-- the two sums at p are equal
 unfoldable pub balances : Drawing → Point → Bool
 balances d p = eqZ (balance d p) (pos 0)
 
@@ -28,6 +29,7 @@ unfoldable pub firstPlace : (ℕ → Bool) → ℕ → ℕ → ℕ
 firstPlace test zero i = i
 firstPlace test (suc left) i = cond (test i) i (firstPlace test left (suc i))
 
+-- the lowest segment touching an unbalanced point; the number of segments if there is none
 unfoldable pub firstUnbalanced : Drawing → ℕ
 firstUnbalanced d = firstPlace (unbalanced d) (length d) 0
 

@@ -27,5 +27,6 @@ abbrev pub answered : Verdict → List ℕ → List ℕ → Outcome
 answered verdict-is.Accepted fills lent = outcome (Done (length fills)) (written fills lent)
 answered (verdict-is.Refused number place) fills lent = outcome (Refused number place) lent
 
+-- the outcome of a fills run, for any numbers, rule and lent list
 unfoldable pub fillsOutcome : List ℤ → ℤ → List ℕ → Outcome
 fillsOutcome numbers rule lent = answered (verdict (fillsRun numbers rule (length lent))) (fills (ruleOf rule) (segments numbers)) lent

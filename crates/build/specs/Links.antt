@@ -32,7 +32,7 @@ unfoldable pub filterOf : (invert boundary : ℤ) → Filter
 filterOf invert boundary =
     cond (eqZ invert (pos 0)) (cond (eqZ boundary (pos 0)) InsideExcluded InsideIncluded) (cond (eqZ boundary (pos 0)) OutsideExcluded OutsideIncluded)
 
--- order stays
+-- the links that a clip run keeps; order stays
 unfoldable pub keptLinks : Rule → Filter → Drawing → Drawing
 keptLinks rule filter d = keep (λ s. keeps filter (fill rule d s)) d
 

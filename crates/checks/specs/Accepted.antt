@@ -19,9 +19,11 @@ use Rattle.checks.specs.Runs.{clipRun}
 
 -- ---- the list of refusals: `Fits r number place`, each with nothing said of the others
 module _ (r : Run) where
+  -- the run's drawing
   abbrev d : Drawing
   d = segments (r .numbers)
 
+  -- a refusal fits: its number and its place
   pub data Fits : ℕ → ℕ → Type 0 where
     wrong-length : wrongLength (r .numbers) ≡ true → Fits 2 0
     coordinate-out : (i : ℕ) → i < length d → endsInRange (segmentAt d i) ≡ false → Fits 3 i

@@ -4,6 +4,7 @@ use Prim.Native.Nat.{ℕ}
 use lib.IntN.{ℤ, pos}
 use Rattle.checks.specs.Verdict.{Choice, Lent, Run}
 
+-- a choice from 0 to the greatest
 abbrev pub upTo : ℤ → ℤ → Choice
 upTo greatest z = record { value = z; greatest = greatest }
 
@@ -15,6 +16,7 @@ ruleChoice = upTo (pos 3)
 abbrev pub flagChoice : ℤ → Choice
 flagChoice = upTo (pos 1)
 
+-- a lent list of so many entries, of which each segment needs so many
 abbrev pub lent : ℕ → ℕ → Lent
 lent entries each = record { entries = entries; each = each }
 

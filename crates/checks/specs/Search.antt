@@ -12,6 +12,7 @@ pub record Sound (d : Drawing) : Type 0 where
   pub few : length d ≤ 1024
   pub faultless : (i : ℕ) → i < length d → faultAt d i ≡ 0
 
+-- what each search looks for at a place
 abbrev pub numberAt : Search → Drawing → ℕ → ℕ
 numberAt Faults d = faultAt d
 numberAt Meetings d = meetingAt d

@@ -23,6 +23,7 @@ pub record Lent : Type 0 where
   pub entries : ℕ
   pub each : ℕ
 
+-- a run: its numbers, its choices and its lent lists
 pub record Run : Type 0 where
   pub numbers : List ℤ
   pub choices : List Choice
@@ -41,6 +42,7 @@ unknownChoice c = not (within (pos 0) (c .greatest) (c .value))
 unfoldable pub tooShort : ℕ → Lent → Bool
 tooShort n l = ltb (l .entries) (l .each * n)
 
+-- refused with this number if b
 abbrev pub refuseIf : ℕ → Bool → Verdict
 refuseIf number b = cond b (Refused number 0) Accepted
 
@@ -50,10 +52,12 @@ unfoldable pub firstFrom : (ℕ → ℕ) → ℕ → ℕ → Verdict
 firstFrom f zero i = Accepted
 firstFrom f (suc left) i = cond (eqb (f i) 0) (firstFrom f left (suc i)) (Refused (f i) i)
 
+-- the first such place of a drawing
 unfoldable pub first : (ℕ → ℕ) → Drawing → Verdict
 first f d = firstFrom f (length d) 0
 
 -- ---- the order
+-- v, unless something is refused before it
 infixr 4 _then_
 abbrev pub _then_ : Verdict → Verdict → Verdict
 Accepted then v = v
@@ -69,10 +73,12 @@ inOrder isWrongLength isUnknown isTooShort d =
     then first (meetingAt d) d
     then first (unbalancedAt d) d
 
+-- the verdict on a run
 unfoldable pub verdict : Run → Verdict
 verdict r =
     inOrder (wrongLength (r .numbers)) (any unknownChoice (r .choices)) (any (tooShort (count (r .numbers))) (r .lists)) (segments (r .numbers))
 
+-- nothing is refused
 abbrev pub isAccepted : Verdict → Bool
 isAccepted Accepted = true
 isAccepted (Refused number place) = false

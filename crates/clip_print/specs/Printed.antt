@@ -3,9 +3,9 @@ use mathlib.Core.Path.{_≡_}
 use mathlib.Core.List.{List, [], _∷_, _++_}
 use Prim.Native.Nat.{ℕ, suc, _+_, _*_, _≤_}
 use lib.ListN.{length, take}
+use lib.Seq.{sets}
 use lib.IntN.{ℤ}
 use Rattle.segm.specs.Lists.{tally}
-use lib.Seq.{sets}
 use Rattle.geom.specs.declared.Point.{Point}
 use Rattle.string_clip.specs.declared.Totals.{Totals}
 use Rattle.string_clip.specs.declared.Clipped.{Clipped}

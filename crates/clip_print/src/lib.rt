@@ -1,5 +1,5 @@
 // The printed lines of a clip run, put into a lent list of bytes. Every function here is proved, and the crate assumes nothing of its own.
-// They ask for room: 86 bytes a point, 90 for the total, 50 for a refusal.
+// Every function asks for room: 86 bytes a point, 90 for the total, 50 for a refusal.
 use string_clip::Totals;
 ghost use Prim.Native.Nat.{_+_, _*_, _≤_};
 ghost use mathlib.Core.List.{[], _∷_};

@@ -5,6 +5,7 @@ use Prim.Native.Nat.{ℕ}
 use Rattle.geom.specs.declared.Point.{Point}
 use Rattle.contour.specs.Area.{isClockwise}
 
+-- a contour: its points, and its role, 1 for a hole
 pub record Contour : Type 0 where
   pub points : List Point
   pub role : ℕ

@@ -14,6 +14,7 @@ unfoldable pub coordinates : List Point → List ℤ
 coordinates [] = []
 coordinates (p ∷ l) = p .x ∷ p .y ∷ coordinates l
 
+-- the points of such a list; a last x without its y is left out
 unfoldable pub pairUp : List ℤ → List Point
 pairUp [] = []
 pairUp (u ∷ []) = []
@@ -23,7 +24,7 @@ pairUp (u ∷ v ∷ l) = record { x = u; y = v } ∷ pairUp l
 unfoldable pub turnedRound : List ℤ → List ℤ
 turnedRound l = coordinates (reverse (pairUp l))
 
--- at no place of a list of points
+-- what stands at no place of a list of points
 abbrev pub origin : Point
 origin = record { x = pos 0; y = pos 0 }
 

@@ -66,6 +66,7 @@ pub fn reverse(points: &mut [i32])
     }
 }
 
+// x1·y2 - x2·y1.
 fn cross_product(p: Point, q: Point) -> i64
     requires { ⌜ (inRange p ≡ true) × (inRange q ≡ true) ⌝ }
     ensures { λ r. ⌜ r ≡ crossProduct p q ⌝ }

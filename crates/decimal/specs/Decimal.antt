@@ -9,6 +9,7 @@ use Rattle.decimal.specs.declared.Field.{Field}
 use Rattle.decimal.specs.declared.Field.the-variants.{Number, Malformed}
 
 -- ---- reading
+-- 48 to 57
 unfoldable pub isDigit : ℕ → Bool
 isDigit b = leb 48 b && leb b 57
 

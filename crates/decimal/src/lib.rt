@@ -9,6 +9,7 @@ pub enum Field {
     Malformed,
 }
 
+// Whether b is 0 to 9.
 fn is_digit(b: u8) -> bool
     ensures { λ r. ⌜ r ≡ isDigit b ⌝ }
 {

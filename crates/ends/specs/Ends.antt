@@ -18,6 +18,7 @@ use Rattle.ends.specs.declared.By.the-variants.{Position, Turn}
 unfoldable pub endPoint : Drawing → ℕ → Point
 endPoint links e = cond (ltb e (length links)) (segmentAt links e .a) (segmentAt links (e - length links) .b)
 
+-- end e lies at a lesser point than end f
 unfoldable pub endBefore : Drawing → ℕ → ℕ → Bool
 endBefore links e f = ltP (endPoint links e) (endPoint links f)
 
@@ -33,11 +34,12 @@ pub record Fan (links : Drawing) (l : List ℕ) : Type 0 where
   pub proper : (e : ℕ) → e ∈ l → ltP point (segmentAt links e .b) ≡ true
   pub end-near : (e : ℕ) → e ∈ l → inRange (segmentAt links e .b) ≡ true
 
--- the two orders, and what each asks of the ends it puts in order
+-- the two orders
 abbrev pub before : By → Drawing → ℕ → ℕ → Bool
 before Position links = endBefore links
 before Turn links = turnBefore links
 
+-- what each order asks of the ends that it puts in order
 abbrev pub Fits : By → Drawing → List ℕ → Type 0
 Fits Position links l = Unit {0}
 Fits Turn links l = Fan links l

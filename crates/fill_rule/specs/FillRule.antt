@@ -16,7 +16,7 @@ filled NonZero n = not (eqZ n (pos 0))
 filled Positive n = ltZ (pos 0) n
 filled Negative n = ltZ n (pos 0)
 
--- rules: 0 even-odd, 1 nonzero, 2 positive, 3 negative
+-- rules: 0 even-odd, 1 nonzero, 2 positive, 3 negative. (No other number passes refusal 10)
 unfoldable pub ruleOf : ℤ → Rule
 ruleOf z = cond (eqZ z (pos 0)) EvenOdd (cond (eqZ z (pos 1)) NonZero (cond (eqZ z (pos 2)) Positive Negative))
 

@@ -5,6 +5,7 @@ use lib.IntN.{ℤ, pos, negℤ, _-ℤ_, _*ℤ_}
 use lib.Signed.{ltZ, leZ}
 use Rattle.geom.specs.declared.Point.{Point}
 
+-- m and n are equal
 unfoldable pub eqZ : ℤ → ℤ → Bool
 eqZ m n = leZ m n && leZ n m
 
@@ -16,6 +17,7 @@ within low high z = leZ low z && leZ z high
 unfoldable pub ltP : Point → Point → Bool
 ltP p q = ltZ (p .x) (q .x) || (eqZ (p .x) (q .x) && ltZ (p .y) (q .y))
 
+-- p and q are one point
 unfoldable pub eqP : Point → Point → Bool
 eqP p q = eqZ (p .x) (q .x) && eqZ (p .y) (q .y)
 
@@ -23,6 +25,7 @@ eqP p q = eqZ (p .x) (q .x) && eqZ (p .y) (q .y)
 unfoldable pub coordinate : ℤ → Bool
 coordinate = within (negℤ (pos 16777216)) (pos 16777216)
 
+-- both coordinates of p are in range
 unfoldable pub inRange : Point → Bool
 inRange p = coordinate (p .x) && coordinate (p .y)
 

@@ -1,10 +1,11 @@
-// Points and their distances, over i32 coordinates. Every function here is proved, and the crate assumes nothing of its own.
+// Points: their order, their range, cross products and distances, over i32 coordinates. Every function here is proved, and the crate assumes nothing of its own.
 ghost use mathlib.Core.Path.{_≡_};
 ghost use mathlib.Core.Bool.{true};
 ghost use Prim.Native.Nat.{_≤_};
 ghost use lib.IntN.{natAbs, _-ℤ_};
 ghost use Rattle.geom.specs.Points.{within, ltP, eqP, inRange, cross, between};
 
+// A point, in hundredths of a millimetre, y up.
 pub struct Point {
     pub x: i32,
     pub y: i32,
@@ -80,7 +81,7 @@ pub fn strictly_between(p: Point, q: Point, r: Point) -> bool
     cross(p, q, r) == 0
 }
 
-// |z|, of any but the largest numbers.
+// |z|, up to 2^60: no distance and no shoelace sum is larger.
 pub fn absolute(z: i64) -> u64
     requires { ⌜ natAbs z ≤ 1152921504606846976 ⌝ }
     ensures { λ r. ⌜ r ≡ natAbs z ⌝ }

@@ -16,10 +16,11 @@ use Rattle.ends.specs.Ordering.{ordering}
 unfoldable pub node : Drawing → Point → List ℕ
 node links p = let all = upFrom 0 (length links) in keep (λ k. eqP (segmentAt links k .a) p) all ++ keep (λ k. eqP (segmentAt links k .b) p) all
 
--- of m links: the link of end e, and the link's other end
+-- of m links: the link of end e
 unfoldable pub linkOf : ℕ → ℕ → ℕ
 linkOf m e = cond (ltb e m) e (e - m)
 
+-- of m links: the other end of that link
 unfoldable pub otherEnd : ℕ → ℕ → ℕ
 otherEnd m e = cond (ltb e m) (m + e) (e - m)
 

@@ -13,6 +13,7 @@ use Rattle.measure.specs.declared.Check.{Check}
 abbrev pub verdictOf : List ℤ → Verdict
 verdictOf numbers = verdict (clipRun numbers (pos 0) (pos 0) (pos 0) 8192 2048)
 
+-- number and place of a refusal, 0 and 0 of none
 abbrev pub checkNumbers : Verdict → Check
 checkNumbers Accepted = record { number = 0; place = 0 }
 checkNumbers (Refused number place) = record { number = number; place = place }

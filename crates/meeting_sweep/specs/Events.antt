@@ -8,7 +8,7 @@ use Rattle.open_list.specs.OpenList.{Left, Entered}
 use Rattle.uprights.specs.declared.Edge.the-variants.{Ends, Starts}
 use Rattle.uprights.specs.Uprights.{Cuts, Stacked}
 
--- of many numbers, r is the first from k on that is not x
+-- of the numbers f 0, f 1, .., `many` of them, r is the place of the first from k on that is not x, or `many` if there is none
 pub record Past (f : ℕ → ℤ) (k many : ℕ) (x : ℤ) (r : ℕ) : Type 0 where
   pub from : k ≤ r
   pub till : r ≤ many

@@ -21,6 +21,7 @@ parts s t =
 unfoldable pub inside : Segment → Point → Bool
 inside s p = between (s .a) (s .b) p
 
+-- both ends are equal
 unfoldable pub sameEnds : Segment → Segment → Bool
 sameEnds s t = eqP (s .a) (t .a) && eqP (s .b) (t .b)
 

@@ -16,11 +16,12 @@ use Rattle.meetings.specs.Meetings.{Proper, side}
 use Rattle.strip.specs.Strip.{Next}
 
 module _ {A : Type 0} where
-  -- P holds of the first, and of the last, where there is one
+  -- P holds of the first, where there is one
   abbrev pub First : (A → Type 0) → List A → Type 0
   First P [] = Unit {0}
   First P (x ∷ l) = P x
 
+  -- P holds of the last, where there is one
   abbrev pub Last : (A → Type 0) → List A → Type 0
   Last P [] = Unit {0}
   Last P (x ∷ []) = P x
@@ -32,10 +33,11 @@ module _ {A : Type 0} where
   Chain R (x ∷ l) = First (R x) l × Chain R l
 
 -- ---- a vertical segment and the list, e being one of the two ends
--- s lies under p: strictly, or with its end at p. And above
+-- s lies under p: strictly, or with its end at p
 abbrev pub Under : (Segment → Point) → Point → Segment → Type 0
 Under e p s = (pos 0 <ℤ side s p) ⊎ (e s ≡ p)
 
+-- s lies above p: strictly, or with its end at p
 abbrev pub Above : (Segment → Point) → Point → Segment → Type 0
 Above e p s = (side s p <ℤ pos 0) ⊎ (e s ≡ p)
 
@@ -57,6 +59,7 @@ pub record Ready (d : Drawing) : Type 0 where
   pub proper : (i : ℕ) → i < length d → Proper (segmentAt d i)
   pub rising : Pairs (λ s t. ltP (t .a) (s .a) ≡ false) d
 
+-- all are places of the drawing
 abbrev pub Known : Drawing → List ℕ → Type 0
 Known d l = (i : ℕ) → i ∈ l → i < length d
 
@@ -64,5 +67,6 @@ Known d l = (i : ℕ) → i ∈ l → i < length d
 abbrev pub Ordered : Drawing → List ℕ → Type 0
 Ordered d l = Chain (λ i j. Next (segmentAt d i) (segmentAt d j)) l
 
+-- no place stands there twice
 abbrev pub Distinct : List ℕ → Type 0
 Distinct l = Pairs (λ i j. i ≡ j → ⊥) l

@@ -1,1 +1,1 @@
-// No two segments meet wrongly, by neighbours in ordered lists only. Laws only: no code.
+// When no two segments meet wrongly, by neighbours in ordered lists only, with its laws, and no code: specs/ and proofs/ have them.

@@ -16,10 +16,11 @@ use Rattle.neighbours.specs.Neighbours.{Ordered, Distinct}
 unfoldable pub follows : Segment → Segment → Bool
 follows s t = underBySide s t && not (meetsWrongly s t)
 
--- i may stand right over the one before place k, and right under the one at place k
+-- i may stand right over the one before place k, if there is one
 abbrev pub StandsOver : Drawing → ℕ → ℕ → List ℕ → Type 0
 StandsOver d k i l = (j : ℕ) → suc j ≡ k → Next (segmentAt d (getD l j 0)) (segmentAt d i)
 
+-- i may stand right under the one at place k, if there is one
 abbrev pub StandsUnder : Drawing → ℕ → ℕ → List ℕ → Type 0
 StandsUnder d k i l = k < length l → Next (segmentAt d i) (segmentAt d (getD l k 0))
 

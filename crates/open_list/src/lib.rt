@@ -160,7 +160,7 @@ fn first_place(none_before: bool, first: usize, here: usize) -> usize {
     if none_before { here } else { first }
 }
 
-// All ends of a block are passed. The place told is where the first one left, or the guess.
+// All these ends are passed, one after the other. The place told is where the first one left, or the guess.
 pub fn leave_all(s: &[i32], ends: &[u32], list: &mut [u32], count: usize, guess: usize) -> Held
     requires { ⌜ Ready (segments (now s))
         × ((e : ℕ) → e ∈ now ends → e < 2 * length (segments (now s)))

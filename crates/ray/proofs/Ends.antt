@@ -23,10 +23,10 @@ use Rattle.strip.proofs.Signs.{Sign, minus, nil, plus, sign, up-pos, up-neg, do
 use Rattle.strip.proofs.Gap.{gap-at-b, gap-turn, side-at-a, side-at-b, side-vertical}
 use Rattle.strip.proofs.Apart.{Apart, apart, Wide, wide, Over, over-wide, under-right, under-total, under-irrefl, under-asym, under-trans, side-less}
 use Rattle.strip.proofs.Above.{spans-on, spans-over, spans-late, spans-past, above-on, above-off, above-yes, above-own-b, start-on}
-use Rattle.ray.specs.Ray.{met, bottom, beneathPoint}
+use Rattle.ray.specs.Ray.{met, bottom}
 use Rattle.ray.proofs.Ray.{met-self, met-off, bottom-strip}
 use Rattle.ray.proofs.Flow.{flow}
-use Rattle.ray.proofs.Invariance.{one-or-apart, proper, beneath, invariance}
+use Rattle.ray.proofs.Invariance.{one-or-apart, proper, beneath, beneathPoint, invariance}
 use Rattle.ray.proofs.Telescope.{change, telescope}
 
 -- ---- not vertical, or vertical

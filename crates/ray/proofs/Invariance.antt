@@ -18,7 +18,7 @@ use Rattle.segm.proofs.Lists.{pairs-at}
 use Rattle.segm.proofs.Segments.{straight, crossed, total-trade}
 use Rattle.meetings.specs.Meetings.{side, meetsWrongly}
 use Rattle.checks.specs.Accepted.{Good}
-use Rattle.strip.specs.Strip.{spans, gap, under}
+use Rattle.strip.specs.Strip.{spans, above, gap, under}
 use Rattle.strip.proofs.Signs.{same-sign}
 use Rattle.strip.proofs.Gap.{gap-at-a, gap-at-b}
 use Rattle.strip.proofs.Apart.{Apart, turned, apart, Wide, wide, not-met, Over, over-wide, under-right, under-left, under-irrefl, vertical-one-side}
@@ -40,6 +40,10 @@ proper g s m = ltP-true (g .proper s m)
 -- ---- what is under h right of x
 unfoldable pub beneath : Drawing → Segment → ℤ → ℤ
 beneath d h x = total (λ j. spans j x && under x j h) d
+
+-- the count straight under p, in the strip right of it
+unfoldable pub beneathPoint : Drawing → Point → ℤ
+beneathPoint d p = total (λ j. spans j (p .x) && above j p) d
 
 -- the points straight under h at y
 unfoldable pub foot : Segment → ℤ → Point → Bool

@@ -15,14 +15,13 @@ use Rattle.segm.proofs.Tallies.{keep-in, pairs-keep}
 use Rattle.segm.proofs.Segments.{first-only, second-only, total-split}
 use Rattle.checks.specs.Accepted.{Good}
 use Rattle.strip.specs.Strip.{spans, above, clockwise}
-use Rattle.strip.specs.Visits.{first, lowerStart}
-use Rattle.strip.proofs.Visits.{turn-wide, first-asym}
+use Rattle.strip.proofs.Visits.{lowerStart, first, turn-wide, first-asym}
 use Rattle.strip.proofs.Apart.{Wide, Over}
 use Rattle.strip.proofs.Above.{spans-on, above-yes, above-own-a}
-use Rattle.ray.specs.Ray.{met, bottom, beneathPoint}
+use Rattle.ray.specs.Ray.{met, bottom}
 use Rattle.ray.proofs.Visits.{visits-either, visits-chain}
 use Rattle.ray.proofs.Sorting.{Either}
-use Rattle.ray.proofs.Invariance.{proper}
+use Rattle.ray.proofs.Invariance.{proper, beneathPoint}
 use Rattle.ray.proofs.Telescope.{change, telescope}
 
 -- at one start, to be visited first is to be clockwise

@@ -12,8 +12,7 @@ use Rattle.segm.specs.Segments.{Drawing, total}
 use Rattle.segm.proofs.Lists.{sum-cong, sum-zero}
 use Rattle.segm.proofs.Tallies.{keep-in, keep-sum}
 use Rattle.segm.proofs.Segments.{only-cong, only-both}
-use Rattle.ray.specs.Sorting.{sort}
-use Rattle.ray.proofs.Sorting.{Ordered, Either, Chains, sorted, sort-sum, sort-in}
+use Rattle.ray.proofs.Sorting.{sort, Ordered, Either, Chains, sorted, sort-sum, sort-in}
 
 chain : (a b c : ℤ) → (b -ℤ a) +ℤ (c -ℤ b) ≡ c -ℤ a
 chain = ring3 (λ a b c. (b ⊟ a) ⊞ (c ⊟ b) ≐ c ⊟ a) tt

@@ -12,7 +12,8 @@ use Rattle.segm.specs.Segments.{Drawing}
 use Rattle.segm.proofs.Lists.{sum-cong, sum--}
 use Rattle.segm.proofs.Tallies.{sum-tally}
 use Rattle.checks.specs.Accepted.{Good}
-use Rattle.ray.specs.Ray.{bottom, top, beneathPoint}
+use Rattle.ray.specs.Ray.{bottom, top}
+use Rattle.ray.proofs.Invariance.{beneathPoint}
 use Rattle.ray.proofs.Ends.{ends}
 use Rattle.ray.proofs.Starts.{starts}
 use Rattle.ray.proofs.Flow.{as-many}

@@ -1,3 +1,2 @@
 pub mod Ray
-pub mod Sorting
 pub mod Trail

@@ -3,7 +3,6 @@ use mathlib.Core.List.{List, map}
 use mathlib.Core.Bool.{Bool, _&&_, _||_}
 use Prim.Native.Nat.{ℕ}
 use lib.IntN.{ℤ, _+ℤ_}
-use Rattle.geom.specs.declared.Point.{Point}
 use Rattle.geom.specs.Points.{eqP}
 use Rattle.segm.specs.declared.Segment.{Segment}
 use Rattle.segm.specs.Segments.{Drawing, total}
@@ -16,21 +15,19 @@ use Rattle.strip.specs.Strip.{spans, above, clockwise}
 unfoldable pub met : Segment → Segment → Bool
 met i j = spans j (i .a .x) && (above j (i .a) || (eqP (j .a) (i .a) && clockwise j i))
 
--- the bottom count: of the side right of a to b
+-- the bottom count, of the side right of a to b: the sum of the windings counted
 unfoldable pub bottom : Drawing → Segment → ℤ
 bottom d i = total (met i) d
 
--- the top count: of the side left of a to b
+-- the top count, of the side left of a to b: bottom plus i's winding
 unfoldable pub top : Drawing → Segment → ℤ
 top d i = bottom d i +ℤ i .winding
 
--- the count straight under p, in the strip right of it
-unfoldable pub beneathPoint : Drawing → Point → ℤ
-beneathPoint d p = total (λ j. spans j (p .x) && above j p) d
-
 -- ---- the fills
+-- the fill of a segment, by its two counts and its line bits
 unfoldable pub fill : Rule → Drawing → Segment → ℕ
 fill rule d i = fillOf rule (top d i) (bottom d i) (i .bits)
 
+-- the fills of a drawing, one entry a segment
 unfoldable pub fills : Rule → Drawing → List ℕ
 fills rule d = map (fill rule d) d

@@ -1,4 +1,4 @@
--- Ways from point to point, and walks over them. Assumes nothing.
+-- Ways from point to point, and walks over them. Laws cite these, no contract does. Assumes nothing.
 use mathlib.Core.Path.{_≡_}
 use mathlib.Core.List.{List, [], _∷_}
 use mathlib.Core.Bool.{Bool, cond}
@@ -8,16 +8,20 @@ use Rattle.geom.specs.Points.{eqP}
 use Rattle.segm.specs.declared.Segment.{Segment}
 use Rattle.segm.specs.Lists.{tally}
 
+-- a way from a point to a point
 pub record Way : Type 0 where
   pub start : Point
   pub stop : Point
 
+-- 1 if b, else 0
 abbrev pub one : Bool → ℕ
 one b = cond b 1 0
 
+-- how many ways lead out of p
 unfoldable pub leaving : List Way → Point → ℕ
 leaving l p = tally (λ w. one (eqP (w .start) p)) l
 
+-- how many ways lead into p
 unfoldable pub arriving : List Way → Point → ℕ
 arriving l p = tally (λ w. one (eqP (w .stop) p)) l
 
@@ -35,6 +39,7 @@ pub data Take (w : Way) : List Way → List Way → Type 0 where
   there : {v : Way} {l r : List Way} → Take w l r → Take w (v ∷ l) (v ∷ r)
 
 -- ---- the ways of segments: a filled top leads from a to b, a filled bottom from b to a
+-- a way from p to q before l, if f
 unfoldable pub lead : Bool → Point → Point → List Way → List Way
 lead f p q l = cond f (record { start = p; stop = q } ∷ l) l
 

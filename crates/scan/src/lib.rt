@@ -29,6 +29,7 @@ pub fn nothing() -> Open
     }
 }
 
+// The lesser of two.
 fn lesser(x: i32, y: i32) -> i32
     ensures { λ r. ⌜ (r ≤ℤ x) × (r ≤ℤ y) ⌝ }
 {

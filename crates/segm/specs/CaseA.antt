@@ -6,6 +6,7 @@ use lib.IntN.{ℤ, pos, negsuc}
 abbrev pub segment : ℤ → ℤ → ℤ → ℤ → ℤ → ℤ → List ℤ
 segment ax ay bx by winding bits = ax ∷ ay ∷ bx ∷ by ∷ winding ∷ bits ∷ []
 
+-- case A
 abbrev pub A : List ℤ
 A = segment (negsuc 4) (pos 5) (pos 0) (pos 5) (pos 0) (pos 1)
     ++ segment (pos 0) (pos 0) (pos 0) (pos 5) (negsuc 0) (pos 0)

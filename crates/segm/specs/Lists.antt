@@ -9,6 +9,7 @@ use lib.IntN.{ℤ, pos, _+ℤ_}
 
 module _ {A : Type 0} where
   infix 50 _∈_
+  -- x is a member
   abbrev pub _∈_ : A → List A → Type 0
   x ∈ [] = ⊥
   x ∈ (y ∷ l) = (x ≡ y) ⊎ (x ∈ l)
@@ -23,10 +24,12 @@ module _ {A : Type 0} where
   any P [] = false
   any P (x ∷ l) = P x || any P l
 
+  -- the sum of f over the members
   unfoldable pub sum : (A → ℤ) → List A → ℤ
   sum f [] = pos 0
   sum f (x ∷ l) = f x +ℤ sum f l
 
+  -- the same of natural numbers
   unfoldable pub tally : (A → ℕ) → List A → ℕ
   tally f [] = 0
   tally f (x ∷ l) = f x + tally f l

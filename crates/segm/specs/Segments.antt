@@ -9,6 +9,7 @@ use lib.IntN.{ℤ, pos}
 use Rattle.segm.specs.declared.Segment.{Segment}
 use Rattle.segm.specs.Lists.{sum, only}
 
+-- a drawing is n segments, named by place from 0
 abbrev pub Drawing : Type 0
 Drawing = List Segment
 
@@ -30,7 +31,7 @@ unfoldable pub segmentsOf : ℕ → List ℤ → Drawing
 segmentsOf zero l = []
 segmentsOf (suc n) l = front l ∷ segmentsOf n (drop width l)
 
--- n, the number of segments
+-- n, the number of whole segments
 unfoldable pub count : List ℤ → ℕ
 count l = length l / width
 
@@ -38,6 +39,7 @@ count l = length l / width
 unfoldable pub whole : List ℤ → Bool
 whole l = eqb (length l % width) 0
 
+-- the drawing that a list of numbers holds
 unfoldable pub segments : List ℤ → Drawing
 segments l = segmentsOf (count l) l
 
@@ -50,7 +52,7 @@ unfoldable pub laid : Drawing → List ℤ
 laid [] = []
 laid (s ∷ d) = numbersOf s ++ laid d
 
--- at no place
+-- what stands at no place: all numbers 0
 abbrev pub nowhere : Segment
 nowhere = record { a = record { x = pos 0; y = pos 0 }; b = record { x = pos 0; y = pos 0 }; winding = pos 0; bits = pos 0 }
 
@@ -58,6 +60,6 @@ nowhere = record { a = record { x = pos 0; y = pos 0 }; b = record { x = pos 0; 
 unfoldable pub segmentAt : Drawing → ℕ → Segment
 segmentAt d i = getD d i nowhere
 
--- the windings of the segments that pass a test
+-- the sum of the windings of the segments that pass a test
 unfoldable pub total : (Segment → Bool) → Drawing → ℤ
 total P d = sum (λ s. only (P s) (s .winding)) d

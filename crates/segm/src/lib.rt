@@ -5,7 +5,6 @@ ghost use mathlib.Core.Path.{_≡_};
 ghost use mathlib.Core.List.{_++_};
 ghost use Prim.Native.Nat.{_+_, _*_, _≤_};
 ghost use lib.ListN.{length, take, drop};
-ghost use Rattle.segm.specs.Lists.{only};
 ghost use Rattle.segm.specs.Segments.{width, count, whole, segments, segmentAt, numbersOf};
 
 // A segment from a to b, a being the lesser. The winding is positive when the outline runs from a to b. Of the line bits, 1 is a line drawn from a to b and 2 one from b to a.
@@ -94,11 +93,4 @@ pub fn put(s: &mut [i32], i: usize, t: Segment)
     s[k + 3] = by;
     s[k + 4] = winding;
     s[k + 5] = bits;
-}
-
-// w if b, else 0.
-pub fn only(b: bool, w: i32) -> i32
-    ensures { λ r. ⌜ r ≡ only b w ⌝ }
-{
-    if b { w } else { 0 }
 }

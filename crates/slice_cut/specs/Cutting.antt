@@ -14,21 +14,24 @@ use Rattle.string_split.specs.Loops.{splitLoops}
 use Rattle.slice_cut.specs.declared.Contours.{Contours}
 
 -- ---- contours
--- a walk goes through the loops
+-- the contours of a walk: its loops that reach the minimum area, each made a contour
 unfoldable pub walkContours : (clockwise : Bool) → ℕ → (direction : Bool) → List Point → List Contour
 walkContours clockwise least direction points = map (contourOf clockwise direction) (splitLoops least points)
 
+-- the points of each contour
 abbrev pub pointsOf : List Contour → List (List Point)
 pointsOf contours = map (λ (c : Contour). c .points) contours
 
+-- the role of each contour
 abbrev pub rolesOf : List Contour → List ℕ
 rolesOf contours = map (λ (c : Contour). c .role) contours
 
+-- how many contours and points these are
 abbrev pub counts : List Contour → Contours
 counts contours = record { contours = length contours; points = length (flatten (pointsOf contours)) }
 
 -- ---- in lists
--- contours at the fronts of lists
+-- these contours stand at the fronts of the lists; past them the lists are as they were
 pub record Holds (contours : List Contour) (points₀ : List ℤ) (lengths₀ roles₀ : List ℕ) (points : List ℤ) (lengths roles : List ℕ) : Type 0 where
   pub points-are : points ≡ written (coordinates (flatten (pointsOf contours))) points₀
   pub lengths-are : lengths ≡ written (map length (pointsOf contours)) lengths₀

@@ -30,8 +30,8 @@ isNearer clockwise c a b p =
     cond (Bool·beq (isWide clockwise c a b) (isWide clockwise c a p)) (ltZ (rotated clockwise (cross c p b)) (pos 0)) (isWide clockwise c a b)
 
 -- ---- the next move
--- `is_move_possible`: the side bit is left that a move from p over link k takes (`visit_fill`). With direction true this is the top to a greater point and the
--- bottom to a lesser, with false the other
+-- the move from p over link k, by the side bit that it takes (`visit_fill`): with direction true the top to a greater point and the bottom to a lesser, with
+-- false the other. It can be made while that bit is left (`is_move_possible`)
 unfoldable pub moveFrom : Drawing → Bool → Point → ℕ → Move
 moveFrom links direction p k = move k (fitting direction p (segmentAt links k))
 
@@ -42,7 +42,7 @@ nearest links direction p back none (k ∷ l) = nearest links direction p back (
 nearest links direction p back (some b) (k ∷ l) =
     nearest links direction p back (some (cond (isNearer direction p back (other (segmentAt links b) p) (other (segmentAt links k) p)) k b)) l
 
--- a link, if it can be taken
+-- a move, if its side bit is left
 abbrev pub ifLeft : List ℕ → Move → Option Move
 ifLeft bits m = cond (isLeft bits m) (some m) none
 
@@ -59,10 +59,12 @@ findNearest links direction k p bits =
     orElse from (nearest links direction p (other (segmentAt links k) p) none others) (ifLeft bits (from k))
 
 -- ---- walks; none where one finds no move
+-- x before the list, where there is one
 abbrev pub onto : {A : Type 0} → A → Option (List A) → Option (List A)
 onto x none = none
 onto x (some l) = some (x ∷ l)
 
+-- f of what there is
 abbrev pub bind : {A B : Type 0} → Option A → (A → Option B) → Option B
 bind none f = none
 bind (some x) f = f x
@@ -92,6 +94,7 @@ walksFrom zero links bits = some []
 walksFrom (suc fuel) links bits =
     begun (begins links bits) (λ m. bind (walkFrom links bits m) (λ walk. onto walk (walksFrom fuel links (takenAll bits walk))))
 
+-- all walks over links with these side bits
 unfoldable pub walks : Drawing → List ℕ → Option (List (List Move))
 walks links bits = walksFrom (bitsLeft bits) links bits
 

@@ -54,14 +54,15 @@ WalkIs links none bits₀ points₀ r bits points = r ≡ Stuck
 WalkIs links (some walk) bits₀ points₀ r bits points =
     (r ≡ Closed (length walk)) × (points ≡ written (coordinates (walkPoints links walk)) points₀) × (bits ≡ takenAll bits₀ walk)
 
--- the same for all walks
+-- the points of each walk
 abbrev pub allPoints : Drawing → List (List Move) → List (List Point)
 allPoints links walks = map (walkPoints links) walks
 
--- directions as bytes: 1 for true
+-- the direction of each walk, 1 for true
 abbrev pub directions : List (List Move) → List ℕ
 directions walks = map (λ walk. one (directionOf walk)) walks
 
+-- the same for all walks: their points and lengths, and their directions
 abbrev pub WalksAre : Drawing → Option (List (List Move)) → (points₀ : List ℤ) → (lengths₀ directions₀ : List ℕ) → Walks → (points : List ℤ) → (lengths directions : List ℕ) → Type 0
 WalksAre links none points₀ lengths₀ directions₀ r points lengths dirs = r ≡ walks-are.Stuck
 WalksAre links (some walks) points₀ lengths₀ directions₀ r points lengths dirs =

@@ -31,6 +31,7 @@ along s forth = record { segment = s; forth = forth }
 abbrev pub putIf : {A : Type 0} → Bool → A → List A → List A
 putIf b x l = cond b (x ∷ l) l
 
+-- the drawn line directions of a drawing, segment by segment, bit 1 before bit 2
 unfoldable pub drawn : Drawing → List Direction
 drawn [] = []
 drawn (s ∷ d) = putIf (has true (natAbs (s .bits))) (along s true) (putIf (has false (natAbs (s .bits))) (along s false) (drawn d))
@@ -48,10 +49,11 @@ unfoldable pub ownTravel : Drawing → ℕ
 ownTravel d = tally (λ (δ : Direction). travelOf (asDrawn true (δ .segment))) (drawn d)
 
 -- ---- counting
--- how often a step stands in a list
+-- the two are one step
 unfoldable pub same : Step → Step → Bool
 same σ τ = eqP (σ .start) (τ .start) && eqP (σ .end) (τ .end)
 
+-- how often a step stands in a list
 unfoldable pub count : Step → List Step → ℕ
 count σ l = tally (λ τ. one (same σ τ)) l
 
@@ -64,10 +66,12 @@ OneOf m n = ((m ≡ 1) × (n ≡ 0)) ⊎ ((m ≡ 0) × (n ≡ 1))
 unfoldable pub enough : ℤ → Bool → Bool → Bool
 enough boundary t b = cond (eqZ boundary (pos 0)) (t && b) (t || b)
 
+-- the ray fills as many sides of s as the boundary asks for
 unfoldable pub rayKeeps : Rule → ℤ → Drawing → Segment → Bool
 rayKeeps rule boundary d s = enough boundary (filled rule (top d s)) (filled rule (bottom d s))
 
 -- ---- the claim
+-- what holds of the outcomes of an inside and an outside run
 pub record InsideAndOutside (d : Drawing) (rule : Rule) (boundary : ℤ) (inside outside : Outcome) : Type 0 where
   -- every drawn line direction is a step of exactly one of the two outputs, once in it, travelled as drawn
   pub once : (δ : Direction) → δ ∈ drawn d → OneOf (count (travelled δ) (stepsOf (output inside))) (count (travelled δ) (stepsOf (output outside)))

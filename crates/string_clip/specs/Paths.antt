@@ -30,15 +30,18 @@ pathPoints links (m ∷ l) = finished (m .forth) (through links (m .forth) (m �
 unfoldable pub clipPaths : Rule → Filter → Drawing → List (List Point)
 clipPaths rule filter d = let links = keptLinks rule filter d in map (pathPoints links) (walk links)
 
--- ---- steps: two neighbouring points of one path, from the earlier to the later
+-- ---- steps
+-- the steps on from p: two neighbouring points of one path, from the earlier to the later
 unfoldable pub stepsFrom : Point → List Point → List Step
 stepsFrom p [] = []
 stepsFrom p (q ∷ l) = step p q ∷ stepsFrom q l
 
+-- the steps of a path
 unfoldable pub stepsOfPath : List Point → List Step
 stepsOfPath [] = []
 stepsOfPath (p ∷ l) = stepsFrom p l
 
+-- the steps of all paths
 unfoldable pub stepsOf : List (List Point) → List Step
 stepsOf [] = []
 stepsOf (path ∷ paths) = stepsOfPath path ++ stepsOf paths

@@ -19,6 +19,7 @@ use Rattle.string_clip.specs.declared.Clipped.the-variants.{Done, Refuse
 use Rattle.string_clip.specs.Paths.{clipPaths, stepsOf, travelOf}
 
 -- ---- the answer
+-- four numbers: paths, points, steps and travel
 unfoldable pub totals : List (List Point) → Totals
 totals paths = record {
   paths = length paths;
@@ -41,6 +42,7 @@ abbrev pub answered : Verdict → List (List Point) → List ℤ → List ℕ �
 answered verdict-is.Accepted paths points lengths = outcome (Done (totals paths)) (written (coordinates (flatten paths)) points) (written (map length paths) lengths)
 answered (verdict-is.Refused number place) paths points lengths = outcome (Refused number place) points lengths
 
+-- the outcome of a clip run, for any numbers, choices and lent lists
 unfoldable pub clipOutcome : List ℤ → (rule invert boundary : ℤ) → List ℤ → List ℕ → Outcome
 clipOutcome numbers rule invert boundary points lengths =
     answered (verdict (clipRun numbers rule invert boundary (length points) (length lengths))) (clipPaths (ruleOf rule) (filterOf invert boundary) (segments numbers)) points lengths

@@ -33,6 +33,7 @@ unfoldable pub throughEnds : Drawing → List ℕ → List Point
 throughEnds links [] = []
 throughEnds links (e ∷ es) = endPoint links e ∷ map (λ f. endPoint links (otherEnd (length links) f)) (e ∷ es)
 
+-- the points of the path: a backward path is reversed
 unfoldable pub endsPoints : Drawing → Bool → List ℕ → List Point
 endsPoints links out es = finished out (throughEnds links es)
 
@@ -52,5 +53,6 @@ pub record Walking (links : Drawing) (flat starts nodes bits : List ℕ) : Type 
 abbrev pub linksPaths : Drawing → List (List Point)
 linksPaths links = map (pathPoints links) (walk links)
 
+-- how many paths and points these are
 abbrev pub writtenOf : List (List Point) → Written
 writtenOf paths = record { paths = length paths; points = length (flatten paths) }

@@ -15,15 +15,16 @@ use Rattle.slice_cut.specs.Cutting.{walkContours}
 unfoldable pub sideBits : Rule → Drawing → List ℕ
 sideBits rule d = map (λ f. f % 4) (fills rule d)
 
--- one list in order of making
+-- the contours of all walks: one list in order of making
 unfoldable pub allContours : (clockwise : Bool) → ℕ → Drawing → List (List Move) → List Contour
 allContours clockwise least links [] = []
 allContours clockwise least links (walk ∷ walks) = walkContours clockwise least (directionOf walk) (walkPoints links walk) ++ allContours clockwise least links walks
 
+-- f of the walks, where none is stuck
 abbrev pub ofWalks : {A B : Type 0} → (A → B) → Option A → Option B
 ofWalks f none = none
 ofWalks f (some w) = some (f w)
 
--- none where a walk finds no move
+-- the contours of a slice; none where a walk finds no move
 unfoldable pub sliceContours : Rule → (clockwise : Bool) → ℕ → Drawing → Option (List Contour)
 sliceContours rule clockwise least d = ofWalks (allContours clockwise least d) (walks d (sideBits rule d))

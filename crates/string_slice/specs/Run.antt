@@ -41,7 +41,7 @@ abbrev pub answered : Verdict → Option (List Contour) → List ℤ → List �
 answered verdict-is.Accepted contours points lengths roles = handedOver contours points lengths roles
 answered (verdict-is.Refused number place) contours points lengths roles = outcome (Refused number place) points lengths roles
 
--- output direction: 1 clockwise
+-- the outcome of a slice run, for any numbers, choices, minimum area and lent lists. Output direction: 1 clockwise
 unfoldable pub sliceOutcome : List ℤ → (rule direction : ℤ) → ℕ → List ℤ → List ℕ → List ℕ → Outcome
 sliceOutcome numbers rule direction least points lengths roles =
     answered (verdict (sliceRun numbers rule direction (length points) (length lengths) (length roles)))

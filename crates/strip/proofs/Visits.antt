@@ -1,7 +1,7 @@
--- The order of visiting is strict, and total among segments that do not meet wrongly.
+-- The order of visiting of the sweep, by start, and at one start counter-clockwise from the lowest: it is strict, and total among segments that do not meet wrongly.
 use mathlib.Core.Path.{_≡_, sym, _∙_, subst}
 use mathlib.Core.Logic.{_⊎_, inl, inr}
-use mathlib.Core.Bool.{true, false, _&&_}
+use mathlib.Core.Bool.{Bool, true, false, _&&_, _||_}
 use lib.IntN.{pos}
 use lib.Signed.{_≤ℤ_, _<ℤ_, ≤ℤ-refl}
 use Rattle.integers.proofs.Booleans.{both, both-l, both-r, or-l, or-r, one-of, clash, is-false}
@@ -13,11 +13,18 @@ use Rattle.geom.proofs.CrossProduct.{not-left, turn}
 use Rattle.segm.specs.declared.Segment.{Segment}
 use Rattle.meetings.specs.Meetings.{side}
 use Rattle.strip.specs.Strip.{above, clockwise}
-use Rattle.strip.specs.Visits.{lowerStart, first}
 use Rattle.strip.proofs.Signs.{Sign, minus, nil, plus, sign, neg-pos, neg-neg, neg-nil}
 use Rattle.strip.proofs.Gap.{side-start}
 use Rattle.strip.proofs.Apart.{Apart, Wide}
 use Rattle.strip.proofs.Above.{above-on, above-off, above-yes}
+
+-- s and t have one start, and s is the lower just right of it
+unfoldable pub lowerStart : Segment → Segment → Bool
+lowerStart s t = eqP (s .a) (t .a) && clockwise s t
+
+-- s is visited before t
+unfoldable pub first : Segment → Segment → Bool
+first s t = ltP (s .a) (t .a) || lowerStart s t
 
 pub data First (s t : Segment) : Type 0 where
   earlier : Before (s .a) (t .a) → First s t

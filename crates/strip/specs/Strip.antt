@@ -8,6 +8,7 @@ use Rattle.geom.specs.Points.{eqZ, ltP}
 use Rattle.segm.specs.declared.Segment.{Segment}
 use Rattle.meetings.specs.Meetings.{side, meetsWrongly}
 
+-- both ends have one x
 unfoldable pub isVertical : Segment → Bool
 isVertical s = eqZ (s .a .x) (s .b .x)
 

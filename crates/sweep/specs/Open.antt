@@ -12,6 +12,7 @@ use Rattle.scan.specs.Scan.{stillOpen, placeOf, putAt}
 use Rattle.fill_rule.specs.declared.Rule.{Rule}
 use Rattle.sweep.specs.Sweep.{sweepWith}
 
+-- the scan: the ordered list of the open segments
 pub record Opened : Type 0 where
   -- the places of the open segments, the lowest first
   pub list : List ℕ
@@ -20,6 +21,7 @@ pub record Opened : Type 0 where
   -- the place in the list where the next segment of the node goes: so many are under its point
   pub next : ℕ
 
+-- those that end at or before p's x leave, and the place of p is found
 unfoldable pub seekOpen : Drawing → Point → Opened → Opened
 seekOpen d p o = let list = stillOpen d (p .x) (o .list) in record { list = list; tops = o .tops; next = placeOf d p list }
 
@@ -27,6 +29,7 @@ seekOpen d p o = let list = stillOpen d (p .x) (o .list) in record { list = list
 unfoldable pub countOpen : Point → Opened → ℤ
 countOpen p o = cond (eqb (o .next) 0) (pos 0) (getD (o .tops) (getD (o .list) (o .next - 1) 0) (pos 0))
 
+-- the segment at place i enters there with its top count, and the next one goes after it
 unfoldable pub storeOpen : ℕ → ℤ → Opened → Opened
 storeOpen i top o = record { list = putAt (o .next) i (o .list); tops = set (o .tops) i top; next = suc (o .next) }
 

@@ -27,21 +27,25 @@ unfoldable pub higher : ℤ → Stored → Option Stored → Stored
 higher x c none = c
 higher x c (some h) = cond (under x (h .segment) (c .segment)) c h
 
+-- of those under p, the one highest just right of p's x
 unfoldable pub highest : Point → List Stored → Option Stored
 highest p [] = none
 highest p (c ∷ stored) = cond (isUnder p c) (some (higher (p .x) c (highest p stored))) (highest p stored)
 
+-- its count, 0 if there is none
 unfoldable pub countOf : Option Stored → ℤ
 countOf none = pos 0
 countOf (some h) = h .count
 
--- the scan stores at the front, forgets nothing, and needs no seeking
+-- the count that the scan finds under p
 unfoldable pub storedCount : Point → List Stored → ℤ
 storedCount p stored = countOf (highest p stored)
 
+-- the segment at place i is stored with its top count, and none is forgotten
 unfoldable pub storeTop : Drawing → ℕ → ℤ → List Stored → List Stored
 storeTop d i top stored = record { segment = segmentAt d i; count = top } ∷ stored
 
+-- the sweep with this scan, which needs no seeking, into a list of fills
 unfoldable pub sweepInto : Rule → Drawing → List ℕ → List ℕ
 sweepInto rule d = sweepWith (λ p stored. stored) storedCount (storeTop d) rule d []
 

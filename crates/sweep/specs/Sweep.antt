@@ -16,15 +16,16 @@ use Rattle.strip.specs.Strip.{isVertical}
 use Rattle.fill_rule.specs.declared.Rule.{Rule}
 use Rattle.fill_rule.specs.FillRule.{fillOf}
 
--- how many segments of the front start at p
+-- how many segments at the front of a drawing start at p
 unfoldable pub startingAt : Point → Drawing → ℕ
 startingAt p [] = 0
 startingAt p (s ∷ d) = cond (eqP (s .a) p) (suc (startingAt p d)) 0
 
--- the node of place i: the places from i on whose segments have the start of i's
+-- how many segments the node of place i has: i's, and those after it with the same start
 unfoldable pub nodeSize : Drawing → ℕ → ℕ
 nodeSize d i = suc (startingAt (segmentAt d i .a) (drop (suc i) d))
 
+-- the places of that node
 unfoldable pub nodeFrom : Drawing → ℕ → List ℕ
 nodeFrom d i = upFrom i (nodeSize d i)
 

@@ -15,6 +15,7 @@ use Rattle.text.specs.declared.lines.Scanned.the-variants as scanned-is
 use Rattle.text.specs.Grammar.{Found, Bad, Rows, Parsed, BadLine, Drawn, parsed}
 
 -- ---- the answer
+-- what `read` answers, and the lent list when it returns
 pub record Outcome : Type 0 where
   pub answer : Reading
   pub numbers : List ℤ
@@ -27,7 +28,7 @@ abbrev pub answered : Parsed → List ℤ → Outcome
 answered (BadLine line) old = outcome (Malformed line) old
 answered (Drawn c numbers) old = outcome (Read c (length numbers)) (written (take (length old) numbers) old)
 
--- what `read` answers for a text, and the list when it returns
+-- the outcome of `read`, for any text and lent list
 unfoldable pub readOutcome : List ℕ → List ℤ → Outcome
 readOutcome text old = answered (parsed width text) old
 
@@ -47,10 +48,12 @@ pub data Stored : Type 0 where
   Nothing : ℕ → Stored
   Numbers : ℕ → List ℤ → Stored
 
+-- the same once the numbers of all rows were stored from place `at` on
 abbrev pub rowsStored : ℕ → List ℤ → Found → Stored
 rowsStored at l (Bad line) = Nothing line
 rowsStored at l (Rows rows) = Numbers (at + length (flatten rows)) (sets l at (flatten rows))
 
+-- what the code says of the lines, and its list
 abbrev pub linesStored : Scanned → List ℤ → Stored
 linesStored (scanned-is.Bad line) l = Nothing line
 linesStored (scanned-is.Good count) l = Numbers count l

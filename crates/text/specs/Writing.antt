@@ -21,6 +21,7 @@ lineOf fields = joined 44 fields ++ (10 ∷ [])
 unfoldable pub textOf : List (List ℤ) → List ℕ
 textOf rows = flatten (map (λ row. lineOf (map signed row)) rows)
 
+-- rule, invert, boundary
 unfoldable pub choiceNumbers : Choices → List ℤ
 choiceNumbers c = c .rule ∷ c .invert ∷ c .boundary ∷ []
 

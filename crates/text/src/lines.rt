@@ -44,7 +44,7 @@ pub fn read_line(s: &[u8], k: usize, numbers: &mut [i32], at: usize) -> bool
     false
 }
 
-// The lines of a text that stand from a place on, the second line first: their numbers are stored.
+// The lines of a text from a place on, where its second line starts: their numbers are stored.
 pub fn read_lines(text: &[u8], from: usize, numbers: &mut [i32]) -> Scanned
     requires { ⌜ (from ≤ length (now text)) × (length (now text) ≤ most) ⌝ }
     ensures { λ r. ⌜ linesStored r (now (numbers .exit)) ≡ rowsStored 0 (now (numbers .entry)) (rowsFrom width 2 (pieces 10 (drop from (now (text .entry))))) ⌝ }

@@ -28,6 +28,7 @@ line ax ay bx by bits = segment ax ay bx by (pos 0) bits
 abbrev pub held : ℕ → List ℕ
 held n = upFrom 101 n
 
+-- the same as integers
 abbrev pub heldNumbers : ℕ → List ℤ
 heldNumbers n = map pos (held n)
 

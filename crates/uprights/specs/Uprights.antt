@@ -20,10 +20,11 @@ abbrev pub endOf : Edge → Segment → Point
 endOf Ends t = t .b
 endOf Starts t = t .a
 
--- t lies under p: strictly, or with its end there. And above
+-- t lies under p: strictly, or with its end there
 unfoldable pub liesUnder : Edge → Point → Segment → Bool
 liesUnder edge p t = above t p || eqP (endOf edge t) p
 
+-- t lies above p: strictly, or with its end there
 unfoldable pub liesAbove : Edge → Point → Segment → Bool
 liesAbove edge p t = ltZ (side t p) (pos 0) || eqP (endOf edge t) p
 

@@ -19,6 +19,7 @@ pub enum Edge {
     Starts,
 }
 
+// The end of t that may touch a vertical segment.
 fn end_of(edge: Edge, t: Segment) -> Point
     ensures { λ r. ⌜ r ≡ endOf edge t ⌝ }
 {
