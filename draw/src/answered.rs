@@ -1,0 +1,120 @@
+//! The picture of a drawing that is accepted.
+
+use crate::dough::borders;
+use crate::labels::Labels;
+use crate::layers::{path_layers, segment_lines, spots, Layer};
+use crate::layers::{DOUGH, INSIDE, OUTLINE, OUTLINE_WIDTH, OUTSIDE, SMALL_PRINT};
+use crate::legend::{choices, counted, totals, Entry};
+use crate::page::{Page, Panel};
+use crate::pieces;
+use crate::segment::{seen_ends, segments, Segment};
+use crate::svg;
+use crate::view::{place, Bounds, View};
+use jumperclay::{clip, fills, slice, Clip, ClipRule, Contour, Direction, Refusal, Rule, Text};
+
+/// Drawings of up to so many segments have the place of each beside it.
+pub const MOST_LABELLED: usize = 60;
+pub const LABEL: f64 = 11.0;
+
+/// What the library found.
+struct Found {
+    segments: Vec<Segment>,
+    fills: Vec<u8>,
+    inside: Clip,
+    outside: Clip,
+    /// Where asked for.
+    pieces: Option<Result<Vec<Contour>, Refusal>>,
+}
+
+pub fn page(text: &Text, with_slice: bool) -> Result<Page, Refusal> {
+    // Refused as by the program `clip`, before the choices are looked at by themselves.
+    text.clip()?;
+    let (rule, asked) = text.choices.named()?;
+    let found = find(&text.segments, rule, asked, with_slice)?;
+    let title = format!("A drawing of {}", counted(found.segments.len(), "segment"));
+    let legend = legend(text, &found, asked);
+    Ok(Page { title, legend, panels: vec![panel(&found)] })
+}
+
+fn find(numbers: &[i32], rule: Rule, asked: ClipRule, with_slice: bool) -> Result<Found, Refusal> {
+    Ok(Found {
+        segments: segments(numbers),
+        fills: fills(numbers, rule)?,
+        inside: clip(numbers, rule, ClipRule { invert: false, ..asked })?,
+        outside: clip(numbers, rule, ClipRule { invert: true, ..asked })?,
+        pieces: with_slice.then(|| slice(numbers, rule, Direction::CounterClockwise, 0)),
+    })
+}
+
+fn legend(text: &Text, found: &Found, asked: ClipRule) -> Vec<Entry> {
+    let outlines = found.segments.iter().filter(|segment| segment.is_outline()).count();
+    let heading = match found.segments.len() {
+        0 => "The drawing has no segments".to_string(),
+        count => counted(count, "segment"),
+    };
+    let [inside, outside] =
+        if asked.invert { ["inside", "outside, as asked"] } else { ["inside, as asked", "outside"] };
+    let mut legend = vec![
+        Entry::Heading("#222222", heading),
+        Entry::Words(choices(text.choices)),
+        Entry::Area(DOUGH, "dough".to_string()),
+        Entry::Outline(OUTLINE, format!("outline: {}", counted(outlines, "segment"))),
+        Entry::Path(INSIDE, totals(inside, &found.inside)),
+        Entry::Path(OUTSIDE, totals(outside, &found.outside)),
+    ];
+    match &found.pieces {
+        None => {}
+        Some(Ok(contours)) => legend.push(Entry::Words(slice_totals(contours))),
+        Some(Err(refusal)) => {
+            legend.push(Entry::Words(format!("slice: refused,{},{}: {refusal}", refusal.number(), refusal.place)))
+        }
+    }
+    legend
+}
+
+fn slice_totals(contours: &[Contour]) -> String {
+    let holes = contours.iter().filter(|contour| contour.is_hole).count();
+    let pieces = contours.len() - holes;
+    format!(
+        "slice: {}, {} around pieces and {} around holes (dashed)",
+        counted(contours.len(), "contour"),
+        pieces,
+        holes
+    )
+}
+
+fn panel(found: &Found) -> Panel {
+    let ends = seen_ends(&found.segments).into_iter().map(place);
+    let view = View::new(Bounds::around(ends).unwrap_or(Bounds { low: (0.0, 0.0), high: (0.0, 0.0) }));
+    let mut labels = Labels::new(&view);
+    let mut layers = filled(&view, found, &mut labels);
+    let outline = found.segments.iter().filter(|segment| segment.is_outline());
+    layers.push(Layer::of_lines(OUTLINE, OUTLINE_WIDTH, segment_lines(&view, outline)));
+    layers.extend(path_layers(&view, [(&found.outside.paths, OUTSIDE), (&found.inside.paths, INSIDE)]));
+    if found.segments.len() <= MOST_LABELLED {
+        let all: Vec<(usize, Segment)> = found.segments.iter().copied().enumerate().collect();
+        layers.push(Layer::of_words(SMALL_PRINT, LABEL, place_labels(&view, &all, LABEL, &mut labels)));
+    }
+    Panel { view, layers, about: String::new() }
+}
+
+/// The dough, or the pieces that it is cut into.
+fn filled(view: &View, found: &Found, labels: &mut Labels) -> Vec<Layer> {
+    if let Some(Ok(contours)) = &found.pieces {
+        return pieces::layers(view, contours, labels);
+    }
+    let borders = borders(&found.segments, &found.fills);
+    let data: Vec<String> = borders.iter().map(|border| svg::through(&spots(view, border)) + "Z").collect();
+    let area = if data.is_empty() { Vec::new() } else { vec![svg::path(&data.concat())] };
+    let mut dough = Layer::filled(DOUGH, area);
+    dough.attributes += r#" fill-rule="evenodd""#;
+    vec![dough]
+}
+
+/// The places of segments, beside what is seen of them.
+pub fn place_labels(view: &View, of: &[(usize, Segment)], size: f64, labels: &mut Labels) -> Vec<String> {
+    let seen = of.iter().filter_map(|&(at, segment)| Some((at, view.seen(place(segment.a), place(segment.b))?)));
+    let seen: Vec<_> = seen.collect();
+    seen.iter().for_each(|&(_, line)| labels.keep_line_free(line));
+    seen.iter().map(|&(at, line)| labels.beside(line, &at.to_string(), size)).collect()
+}

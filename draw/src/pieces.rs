@@ -1,0 +1,60 @@
+//! The contours of a slice. They are not bound to shapes, so the greater ones are painted first, holes in white.
+
+use crate::labels::Labels;
+use crate::layers::{distance, spots, Layer, SMALL_PRINT};
+use crate::svg;
+use crate::view::{Spot, View};
+use jumperclay::{Contour, Point};
+use std::cmp::Reverse;
+
+/// Pale ones that differ in lightness too.
+const TINTS: [&str; 6] = ["#f7e9c8", "#cfe3f5", "#e3d3ea", "#f9d2ae", "#d6ecd2", "#e4e4e4"];
+const HOLE: &str = "#ffffff";
+
+const BORDER: &str = "#333333";
+const SIZE: f64 = 14.0;
+
+/// A label is for contours with an edge this long at least.
+const LONG_ENOUGH: f64 = 40.0;
+const EDGES_TRIED: usize = 4;
+
+pub fn layers(view: &View, contours: &[Contour], labels: &mut Labels) -> Vec<Layer> {
+    let mut numbered: Vec<(usize, &Contour)> = contours.iter().enumerate().collect();
+    numbered.sort_by_key(|(_, contour)| (Reverse(area(&contour.points)), !contour.is_hole));
+    let painted = numbered.iter().map(|&(place, contour)| painted(view, place, contour)).collect();
+    let dashed = contours.iter().filter(|contour| contour.is_hole).map(|contour| svg::path(&data(view, contour)));
+    let mut around_holes = Layer::of_lines(BORDER, 1.5, dashed.collect());
+    around_holes.attributes += r#" stroke-dasharray="6 5""#;
+    let names = contours.iter().enumerate().filter_map(|(place, contour)| name(view, place, contour, labels));
+    let names = Layer::of_words(SMALL_PRINT, SIZE, names.collect());
+    vec![Layer { attributes: r#"fill-rule="evenodd""#.to_string(), elements: painted }, around_holes, names]
+}
+
+fn data(view: &View, contour: &Contour) -> String {
+    svg::through(&spots(view, &contour.points)) + "Z"
+}
+
+fn painted(view: &View, place: usize, contour: &Contour) -> String {
+    let tint = if contour.is_hole { HOLE } else { TINTS[place % TINTS.len()] };
+    format!(r#"<path fill="{tint}" d="{}"/>"#, data(view, contour))
+}
+
+/// The contour's place, within it: left of one of its longest edges, as contours run with dough on their left.
+fn name(view: &View, place: usize, contour: &Contour, labels: &mut Labels) -> Option<String> {
+    let around = spots(view, &contour.points);
+    let next = around.iter().cycle().skip(1);
+    let mut edges: Vec<[Spot; 2]> = around.iter().zip(next).map(|(&a, &b)| [a, b]).collect();
+    edges.sort_by(|one, other| distance(other[0], other[1]).total_cmp(&distance(one[0], one[1])));
+    edges.truncate(EDGES_TRIED);
+    let [a, b] = *edges.first()?;
+    let words = if contour.is_hole { format!("hole {place}") } else { format!("piece {place}") };
+    (distance(a, b) >= LONG_ENOUGH).then(|| labels.left_of(&edges, &words, SIZE))
+}
+
+/// Twice the area, of which the sign tells the direction, taken off.
+fn area(points: &[Point]) -> u64 {
+    let next = points.iter().cycle().skip(1);
+    let wide = |&(x, y): &Point| (i64::from(x), i64::from(y));
+    let edges = points.iter().map(wide).zip(next.map(wide));
+    edges.map(|(a, b)| a.0 * b.1 - a.1 * b.0).sum::<i64>().unsigned_abs()
+}
