@@ -2,14 +2,14 @@
 
 use crate::dough::borders;
 use crate::labels::Labels;
-use crate::layers::{path_layers, segment_lines, spots, Layer};
-use crate::layers::{DOUGH, INSIDE, OUTLINE, OUTLINE_WIDTH, OUTSIDE, SMALL_PRINT};
+use crate::layers::{path_layers, seen, segment_lines, spots, Layer};
+use crate::layers::{DOUGH, INK, INSIDE, OUTLINE, OUTLINE_WIDTH, OUTSIDE, SMALL_PRINT};
 use crate::legend::{choices, counted, totals, Entry};
 use crate::page::{Page, Panel};
 use crate::pieces;
 use crate::segment::{seen_ends, segments, Segment};
 use crate::svg;
-use crate::view::{place, Bounds, View};
+use crate::view::{place, Bounds, View, HIGHEST};
 use jumperclay::{clip, fills, slice, Clip, ClipRule, Contour, Direction, Refusal, Rule, Text};
 
 /// Drawings of up to so many segments have the place of each beside it.
@@ -48,14 +48,10 @@ fn find(numbers: &[i32], rule: Rule, asked: ClipRule, with_slice: bool) -> Resul
 
 fn legend(text: &Text, found: &Found, asked: ClipRule) -> Vec<Entry> {
     let outlines = found.segments.iter().filter(|segment| segment.is_outline()).count();
-    let heading = match found.segments.len() {
-        0 => "The drawing has no segments".to_string(),
-        count => counted(count, "segment"),
-    };
     let [inside, outside] =
         if asked.invert { ["inside", "outside, as asked"] } else { ["inside, as asked", "outside"] };
     let mut legend = vec![
-        Entry::Heading("#222222", heading),
+        Entry::Heading(INK, counted(found.segments.len(), "segment")),
         Entry::Words(choices(text.choices)),
         Entry::Area(DOUGH, "dough".to_string()),
         Entry::Outline(OUTLINE, format!("outline: {}", counted(outlines, "segment"))),
@@ -75,18 +71,14 @@ fn legend(text: &Text, found: &Found, asked: ClipRule) -> Vec<Entry> {
 fn slice_totals(contours: &[Contour]) -> String {
     let holes = contours.iter().filter(|contour| contour.is_hole).count();
     let pieces = contours.len() - holes;
-    format!(
-        "slice: {}, {} around pieces and {} around holes (dashed)",
-        counted(contours.len(), "contour"),
-        pieces,
-        holes
-    )
+    format!("slice: {}, {} around pieces and {} around holes", counted(contours.len(), "contour"), pieces, holes)
 }
 
 fn panel(found: &Found) -> Panel {
-    let ends = seen_ends(&found.segments).into_iter().map(place);
-    let view = View::new(Bounds::around(ends).unwrap_or(Bounds { low: (0.0, 0.0), high: (0.0, 0.0) }));
+    let Some(bounds) = Bounds::around(seen_ends(&found.segments).into_iter().map(place)) else { return empty_sheet() };
+    let view = View::new(bounds, HIGHEST);
     let mut labels = Labels::new(&view);
+    keep_free(&view, &found.segments, &mut labels);
     let mut layers = filled(&view, found, &mut labels);
     let outline = found.segments.iter().filter(|segment| segment.is_outline());
     layers.push(Layer::of_lines(OUTLINE, OUTLINE_WIDTH, segment_lines(&view, outline)));
@@ -95,7 +87,13 @@ fn panel(found: &Found) -> Panel {
         let all: Vec<(usize, Segment)> = found.segments.iter().copied().enumerate().collect();
         layers.push(Layer::of_words(SMALL_PRINT, LABEL, place_labels(&view, &all, LABEL, &mut labels)));
     }
-    Panel { view, layers, about: String::new() }
+    Panel::new(view, layers, "")
+}
+
+fn empty_sheet() -> Panel {
+    let view = View::new(Bounds { low: (0.0, 0.0), high: (0.0, 0.0) }, HIGHEST);
+    let words = svg::text(view.spot((0.0, 0.0)), "The drawing has no segments: the sheet is empty.");
+    Panel { view, layers: vec![Layer::of_words(SMALL_PRINT, 18.0, vec![words])], caption: String::new() }
 }
 
 /// The dough, or the pieces that it is cut into.
@@ -111,10 +109,13 @@ fn filled(view: &View, found: &Found, labels: &mut Labels) -> Vec<Layer> {
     vec![dough]
 }
 
+/// Keeps labels off the segments.
+pub fn keep_free(view: &View, segments: &[Segment], labels: &mut Labels) {
+    segments.iter().filter_map(|&segment| seen(view, segment)).for_each(|line| labels.keep_line_free(line));
+}
+
 /// The places of segments, beside what is seen of them.
 pub fn place_labels(view: &View, of: &[(usize, Segment)], size: f64, labels: &mut Labels) -> Vec<String> {
-    let seen = of.iter().filter_map(|&(at, segment)| Some((at, view.seen(place(segment.a), place(segment.b))?)));
-    let seen: Vec<_> = seen.collect();
-    seen.iter().for_each(|&(_, line)| labels.keep_line_free(line));
-    seen.iter().map(|&(at, line)| labels.beside(line, &at.to_string(), size)).collect()
+    let lines = of.iter().filter_map(|&(at, segment)| Some((at, seen(view, segment)?)));
+    lines.map(|(at, line)| labels.beside(line, &at.to_string(), size)).collect()
 }

@@ -129,7 +129,7 @@ fn of_balance(segment: Segment, segments: &[Segment]) -> Complaint {
     for end in segment.ends() {
         let [starting, ending] = [sum(segments, |one| one.a == end), sum(segments, |one| one.b == end)];
         if starting.total != ending.total {
-            let label = format!("start {}, end {}", starting.total, ending.total);
+            let label = format!("starts {}, ends {}", starting.total, ending.total);
             complaint.marks.push(Mark { at: place(end), sign: Sign::Ring, label });
             let words = format!(
                 "At {} the windings that start there make {starting}, those that end there {ending}.",

@@ -5,25 +5,28 @@ use crate::svg;
 use crate::view::{place, Place, Spot, View};
 use jumperclay::Point;
 
+pub const INK: &str = "#222222";
+
 /// Told apart also by those who see few colours; red is kept for refusals.
 pub const DOUGH: &str = "#f7e9c8";
-pub const OUTLINE: &str = "#5c5c5c";
+pub const OUTLINE: &str = "#8f8a80";
 pub const INSIDE: &str = "#0067b8";
 pub const OUTSIDE: &str = "#e08a00";
 pub const GREY: &str = "#a8a8a8";
 pub const SMALL_PRINT: &str = "#707070";
 pub const RED: &str = "#d00000";
+pub const PALE_RED: &str = "#f5b5b5";
 
 pub const OUTLINE_WIDTH: f64 = 5.0;
 pub const LINE_WIDTH: f64 = 2.0;
 
 /// How long an arrowhead is, at most this part of its step, and not drawn where it would be shorter than a dot.
-const ARROW: f64 = 11.0;
-const ARROW_PART: f64 = 0.5;
+const ARROW: f64 = 13.0;
+const ARROW_PART: f64 = 0.25;
 const SHORTEST_ARROW: f64 = 2.5;
 
 /// Beyond the middle, so that the arrows of a line drawn both ways stand apart.
-const ARROW_AT: f64 = 0.62;
+const ARROW_AT: f64 = 0.66;
 
 /// Elements with the same attributes.
 pub struct Layer {
@@ -53,10 +56,13 @@ impl Layer {
     }
 }
 
-/// What is in the frame of these segments.
+/// What is in the frame of a segment.
+pub fn seen(view: &View, segment: Segment) -> Option<[Spot; 2]> {
+    view.seen(place(segment.a), place(segment.b))
+}
+
 pub fn segment_lines<'a>(view: &View, segments: impl IntoIterator<Item = &'a Segment>) -> Vec<String> {
-    let seen = segments.into_iter().filter_map(|segment| view.seen(place(segment.a), place(segment.b)));
-    seen.map(|[a, b]| svg::line(a, b)).collect()
+    segments.into_iter().filter_map(|&segment| seen(view, segment)).map(|[a, b]| svg::line(a, b)).collect()
 }
 
 /// Paths in a colour, all lines under all arrows and the dots where paths start.
@@ -91,7 +97,7 @@ pub fn arrow(from: Spot, to: Spot) -> Option<String> {
     }
     let (x, y) = ((to.0 - from.0) / way, (to.1 - from.1) / way);
     let at = |along: f64, aside: f64| (from.0 + x * along - y * aside, from.1 + y * along + x * aside);
-    let (back, half) = (way * ARROW_AT - long / 2.0, long * 0.4);
+    let (back, half) = (way * ARROW_AT - long / 2.0, long * 0.42);
     let corners = [at(back + long, 0.0), at(back, half), at(back, -half)];
     Some(svg::path(&(svg::through(&corners) + "Z")))
 }

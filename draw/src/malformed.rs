@@ -7,6 +7,9 @@ use crate::refused::{panels, title, told};
 use crate::segment::segments;
 use jumperclay::{read, Reason, Refusal};
 
+/// Where lines are left out, places mean nothing.
+const NOT_LABELLED: usize = 0;
+
 /// Of a longer line the beginning is shown.
 const MOST_SHOWN: usize = 90;
 
@@ -24,7 +27,7 @@ pub fn page(text: &[u8], refusal: Refusal) -> Page {
             counted(segments.len(), "segment")
         )));
     }
-    Page { title: title(refusal), legend, panels: panels(&segments, &Complaint::default()) }
+    Page { title: title(refusal), legend, panels: panels(&segments, &Complaint::default(), NOT_LABELLED) }
 }
 
 /// The six numbers of a line, if the library reads them.
@@ -35,14 +38,14 @@ fn numbers(line: &[u8]) -> Vec<i32> {
 /// The line, and what is wrong with it.
 fn about_line(lines: &[&[u8]], place: usize) -> Vec<Entry> {
     match place.checked_sub(1).and_then(|before| lines.get(before)) {
-        None => vec![Entry::Words("There is no such line: the text ends before it.".to_string())],
+        None => vec![Entry::Words("The text is empty.".to_string())],
         Some(line) => vec![Entry::Quoted(shown(line)), Entry::Words(fault(line, if place == 1 { 3 } else { 6 }))],
     }
 }
 
-/// Bytes that do not print are escaped.
+/// Bytes that do not print are escaped, and blanks made seen.
 fn shown(line: &[u8]) -> String {
-    let all = line.strip_suffix(b"\n").unwrap_or(line).escape_ascii().to_string();
+    let all = line.strip_suffix(b"\n").unwrap_or(line).escape_ascii().to_string().replace(' ', "␣");
     match all.char_indices().nth(MOST_SHOWN) {
         None => all,
         Some((end, _)) => format!("{} ... ({})", &all[..end], counted(line.len(), "byte")),
@@ -81,7 +84,7 @@ mod tests {
 
     #[test]
     fn a_line_is_shown_escaped_and_cut() {
-        assert_eq!(shown(b"a\x00\xff<\n"), r"a\x00\xff<");
+        assert_eq!(shown(b"a \x00\xff<\n"), r"a␣\x00\xff<");
         assert_eq!(shown(&[b'7'; 100]), "7".repeat(90) + " ... (100 bytes)");
     }
 

@@ -1,33 +1,33 @@
 //! A whole picture: words, and below them frames.
 
-use crate::layers::{Layer, SMALL_PRINT};
+use crate::layers::{Layer, INK, SMALL_PRINT};
 use crate::legend::{Entry, LEFT};
 use crate::svg;
 use crate::view::{Bounds, View, WIDTH};
 
 const PAGE_WIDTH: f64 = WIDTH + 2.0 * LEFT;
-const CAPTION: f64 = 24.0;
+const CAPTION: f64 = 20.0;
+const BELOW: f64 = 8.0;
 const SMALL: f64 = 12.0;
 
 pub struct Panel {
     pub view: View,
     pub layers: Vec<Layer>,
-    pub about: String,
+    pub caption: String,
 }
 
 impl Panel {
-    /// What part of the plane is seen, and how.
-    fn caption(&self) -> String {
-        let Bounds { low, high } = self.view.bounds;
-        let about = &self.about;
+    /// With a caption that tells what part of the plane is seen, and how.
+    pub fn new(view: View, layers: Vec<Layer>, about: &str) -> Self {
+        let Bounds { low, high } = view.bounds;
         let mut caption = format!("{about}x from {:.0} to {:.0}, y from {:.0} to {:.0}", low.0, high.0, low.1, high.1);
-        let stretch = self.view.stretch();
+        let stretch = view.stretch();
         if stretch > 1.0 {
             caption += &format!("; not to scale: y is drawn {stretch:.0} times as large as x");
         } else if stretch < 1.0 {
             caption += &format!("; not to scale: x is drawn {:.0} times as large as y", 1.0 / stretch);
         }
-        caption
+        Self { view, layers, caption }
     }
 
     fn put(&self, top: f64, lines: &mut Vec<String>) {
@@ -40,7 +40,7 @@ impl Panel {
             lines.extend_from_slice(elements);
             lines.push("</g>".to_string());
         }
-        let caption = svg::text((0.0, height + SMALL + 5.0), &self.caption());
+        let caption = svg::text((0.0, height + SMALL + 5.0), &self.caption);
         lines.push(format!(r#"<g fill="{SMALL_PRINT}" font-size="{SMALL}">{caption}</g>"#));
         lines.push("</g>".to_string());
     }
@@ -64,14 +64,14 @@ impl Page {
             panel.put(top, &mut lines);
             top += panel.view.height + CAPTION;
         }
-        let (width, height) = (svg::number(PAGE_WIDTH), svg::number(top.ceil()));
+        let (width, height) = (svg::number(PAGE_WIDTH), svg::number(top.ceil() + BELOW));
         let opening = [
             format!(
                 r#"<svg xmlns="http://www.w3.org/2000/svg" viewBox="0 0 {width} {height}" font-family="sans-serif" font-size="15" fill="none">"#
             ),
             format!("<title>{}</title>", svg::escaped(&self.title)),
             format!(r##"<rect width="{width}" height="{height}" fill="#ffffff"/>"##),
-            r##"<g fill="#222222">"##.to_string(),
+            format!(r#"<g fill="{INK}">"#),
         ];
         let closing = ["</g>".to_string(), "</svg>".to_string(), String::new()];
         opening.into_iter().chain(lines).chain(closing).collect::<Vec<_>>().join("\n")

@@ -11,7 +11,6 @@ use std::cmp::Reverse;
 const TINTS: [&str; 6] = ["#f7e9c8", "#cfe3f5", "#e3d3ea", "#f9d2ae", "#d6ecd2", "#e4e4e4"];
 const HOLE: &str = "#ffffff";
 
-const BORDER: &str = "#333333";
 const SIZE: f64 = 14.0;
 
 /// A label is for contours with an edge this long at least.
@@ -22,12 +21,9 @@ pub fn layers(view: &View, contours: &[Contour], labels: &mut Labels) -> Vec<Lay
     let mut numbered: Vec<(usize, &Contour)> = contours.iter().enumerate().collect();
     numbered.sort_by_key(|(_, contour)| (Reverse(area(&contour.points)), !contour.is_hole));
     let painted = numbered.iter().map(|&(place, contour)| painted(view, place, contour)).collect();
-    let dashed = contours.iter().filter(|contour| contour.is_hole).map(|contour| svg::path(&data(view, contour)));
-    let mut around_holes = Layer::of_lines(BORDER, 1.5, dashed.collect());
-    around_holes.attributes += r#" stroke-dasharray="6 5""#;
     let names = contours.iter().enumerate().filter_map(|(place, contour)| name(view, place, contour, labels));
     let names = Layer::of_words(SMALL_PRINT, SIZE, names.collect());
-    vec![Layer { attributes: r#"fill-rule="evenodd""#.to_string(), elements: painted }, around_holes, names]
+    vec![Layer { attributes: r#"fill-rule="evenodd""#.to_string(), elements: painted }, names]
 }
 
 fn data(view: &View, contour: &Contour) -> String {
@@ -39,11 +35,12 @@ fn painted(view: &View, place: usize, contour: &Contour) -> String {
     format!(r#"<path fill="{tint}" d="{}"/>"#, data(view, contour))
 }
 
-/// The contour's place, within it: left of one of its longest edges, as contours run with dough on their left.
+/// The contour's place, in what it runs around. Contours have dough on their left; a hole is on the right of its own.
 fn name(view: &View, place: usize, contour: &Contour, labels: &mut Labels) -> Option<String> {
     let around = spots(view, &contour.points);
     let next = around.iter().cycle().skip(1);
-    let mut edges: Vec<[Spot; 2]> = around.iter().zip(next).map(|(&a, &b)| [a, b]).collect();
+    let mut edges: Vec<[Spot; 2]> =
+        around.iter().zip(next).map(|(&a, &b)| if contour.is_hole { [b, a] } else { [a, b] }).collect();
     edges.sort_by(|one, other| distance(other[0], other[1]).total_cmp(&distance(one[0], one[1])));
     edges.truncate(EDGES_TRIED);
     let [a, b] = *edges.first()?;
