@@ -50,28 +50,26 @@ fn legend(text: &Text, found: &Found, asked: ClipRule) -> Vec<Entry> {
     let outlines = found.segments.iter().filter(|segment| segment.is_outline()).count();
     let [inside, outside] =
         if asked.invert { ["inside", "outside, as asked"] } else { ["inside, as asked", "outside"] };
-    let mut legend = vec![
+    vec![
         Entry::Heading(INK, counted(found.segments.len(), "segment")),
         Entry::Words(choices(text.choices)),
-        Entry::Area(DOUGH, "dough".to_string()),
+        Entry::Area(DOUGH, about_dough(found)),
         Entry::Outline(OUTLINE, format!("outline: {}", counted(outlines, "segment"))),
         Entry::Path(INSIDE, totals(inside, &found.inside)),
         Entry::Path(OUTSIDE, totals(outside, &found.outside)),
-    ];
-    match &found.pieces {
-        None => {}
-        Some(Ok(contours)) => legend.push(Entry::Words(slice_totals(contours))),
-        Some(Err(refusal)) => {
-            legend.push(Entry::Words(format!("slice: refused,{},{}: {refusal}", refusal.number(), refusal.place)))
-        }
-    }
-    legend
+    ]
 }
 
-fn slice_totals(contours: &[Contour]) -> String {
-    let holes = contours.iter().filter(|contour| contour.is_hole).count();
-    let pieces = contours.len() - holes;
-    format!("slice: {}, {} around pieces and {} around holes", counted(contours.len(), "contour"), pieces, holes)
+fn about_dough(found: &Found) -> String {
+    match &found.pieces {
+        None => "dough".to_string(),
+        Some(Err(refusal)) => format!("dough; its slice is refused,{},{}: {refusal}", refusal.number(), refusal.place),
+        Some(Ok(contours)) => {
+            let holes = contours.iter().filter(|contour| contour.is_hole).count();
+            let (pieces, holes) = (counted(contours.len() - holes, "piece"), counted(holes, "hole"));
+            format!("dough, sliced and tinted: {}, of {pieces} and {holes}", counted(contours.len(), "contour"))
+        }
+    }
 }
 
 fn panel(found: &Found) -> Panel {

@@ -1,38 +1,42 @@
 //! The contours of a slice. They are not bound to shapes, so the greater ones are painted first, holes in white.
 
 use crate::labels::Labels;
-use crate::layers::{distance, spots, Layer, SMALL_PRINT};
+use crate::layers::{distance, spots, Layer, DOUGH, SMALL_PRINT};
 use crate::svg;
 use crate::view::{Spot, View};
 use jumperclay::{Contour, Point};
 use std::cmp::Reverse;
 
 /// Pale ones that differ in lightness too.
-const TINTS: [&str; 6] = ["#f7e9c8", "#cfe3f5", "#e3d3ea", "#f9d2ae", "#d6ecd2", "#e4e4e4"];
+const TINTS: [&str; 6] = [DOUGH, "#cfe3f5", "#e3d3ea", "#f9d2ae", "#d6ecd2", "#e4e4e4"];
 const HOLE: &str = "#ffffff";
 
 const SIZE: f64 = 14.0;
 
-/// A label is for contours with an edge this long at least.
-const LONG_ENOUGH: f64 = 40.0;
+/// A label is for contours with an edge this long at least, where there are not too many.
+const LONG_ENOUGH: f64 = 60.0;
+const MOST_LABELLED: usize = 60;
 const EDGES_TRIED: usize = 4;
 
 pub fn layers(view: &View, contours: &[Contour], labels: &mut Labels) -> Vec<Layer> {
-    let mut numbered: Vec<(usize, &Contour)> = contours.iter().enumerate().collect();
-    numbered.sort_by_key(|(_, contour)| (Reverse(area(&contour.points)), !contour.is_hole));
-    let painted = numbered.iter().map(|&(place, contour)| painted(view, place, contour)).collect();
-    let names = contours.iter().enumerate().filter_map(|(place, contour)| name(view, place, contour, labels));
+    let mut tinted = tints(contours);
+    tinted.sort_by_key(|(contour, _)| (Reverse(area(&contour.points)), !contour.is_hole));
+    let painted = tinted.iter().map(|(contour, tint)| painted(view, contour, tint)).collect();
+    let labelled = contours.iter().enumerate().filter(|_| contours.len() <= MOST_LABELLED);
+    let names = labelled.filter_map(|(place, contour)| name(view, place, contour, labels));
     let names = Layer::of_words(SMALL_PRINT, SIZE, names.collect());
     vec![Layer { attributes: r#"fill-rule="evenodd""#.to_string(), elements: painted }, names]
 }
 
-fn data(view: &View, contour: &Contour) -> String {
-    svg::through(&spots(view, &contour.points)) + "Z"
+/// Pieces take turns.
+fn tints(contours: &[Contour]) -> Vec<(&Contour, &'static str)> {
+    let mut next = TINTS.into_iter().cycle();
+    let tint = |contour: &Contour| if contour.is_hole { Some(HOLE) } else { next.next() };
+    contours.iter().zip(contours.iter().map_while(tint)).collect()
 }
 
-fn painted(view: &View, place: usize, contour: &Contour) -> String {
-    let tint = if contour.is_hole { HOLE } else { TINTS[place % TINTS.len()] };
-    format!(r#"<path fill="{tint}" d="{}"/>"#, data(view, contour))
+fn painted(view: &View, contour: &Contour, tint: &str) -> String {
+    format!(r#"<path fill="{tint}" d="{}Z"/>"#, svg::through(&spots(view, &contour.points)))
 }
 
 /// The contour's place, in what it runs around. Contours have dough on their left; a hole is on the right of its own.
