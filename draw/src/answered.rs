@@ -2,19 +2,16 @@
 
 use crate::dough::borders;
 use crate::labels::Labels;
-use crate::layers::{path_layers, seen, segment_lines, spots, Layer};
+use crate::layers::{path_layers, segment_lines, spots, Layer};
 use crate::layers::{DOUGH, INK, INSIDE, OUTLINE, OUTLINE_WIDTH, OUTSIDE, SMALL_PRINT};
 use crate::legend::{choices, counted, totals, Entry};
 use crate::page::{Page, Panel};
 use crate::pieces;
+use crate::places::{keep_free, small_print, MOST_LABELLED};
 use crate::segment::{seen_ends, segments, Segment};
 use crate::svg;
 use crate::view::{place, Bounds, View, HIGHEST};
 use jumperclay::{clip, fills, slice, Clip, ClipRule, Contour, Direction, Refusal, Rule, Text};
-
-/// Drawings of up to so many segments have the place of each beside it.
-pub const MOST_LABELLED: usize = 60;
-pub const LABEL: f64 = 11.0;
 
 /// What the library found.
 struct Found {
@@ -83,7 +80,7 @@ fn panel(found: &Found) -> Panel {
     layers.extend(path_layers(&view, [(&found.outside.paths, OUTSIDE), (&found.inside.paths, INSIDE)]));
     if found.segments.len() <= MOST_LABELLED {
         let all: Vec<(usize, Segment)> = found.segments.iter().copied().enumerate().collect();
-        layers.push(Layer::of_words(SMALL_PRINT, LABEL, place_labels(&view, &all, LABEL, &mut labels)));
+        layers.push(small_print(&view, &all, &mut labels));
     }
     Panel::new(view, layers, "")
 }
@@ -105,15 +102,4 @@ fn filled(view: &View, found: &Found, labels: &mut Labels) -> Vec<Layer> {
     let mut dough = Layer::filled(DOUGH, area);
     dough.attributes += r#" fill-rule="evenodd""#;
     vec![dough]
-}
-
-/// Keeps labels off the segments.
-pub fn keep_free(view: &View, segments: &[Segment], labels: &mut Labels) {
-    segments.iter().filter_map(|&segment| seen(view, segment)).for_each(|line| labels.keep_line_free(line));
-}
-
-/// The places of segments, beside what is seen of them.
-pub fn place_labels(view: &View, of: &[(usize, Segment)], size: f64, labels: &mut Labels) -> Vec<String> {
-    let lines = of.iter().filter_map(|&(at, segment)| Some((at, seen(view, segment)?)));
-    lines.map(|(at, line)| labels.beside(line, &at.to_string(), size)).collect()
 }

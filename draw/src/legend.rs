@@ -14,11 +14,13 @@ const HEADING_SIZE: f64 = 20.0;
 const LETTERS: usize = 116;
 const HEADING_LETTERS: usize = 78;
 
+const QUOTED: &str = r#"font-family="monospace""#;
+
 pub enum Entry {
     /// In a colour.
     Heading(&'static str, String),
     Words(String),
-    /// What stands in the drawing, letter by letter.
+    /// What stands in the text, letter by letter.
     Quoted(String),
     Area(&'static str, String),
     Outline(&'static str, String),
@@ -55,8 +57,6 @@ impl Entry {
     }
 }
 
-const QUOTED: &str = r#"font-family="monospace""#;
-
 fn sample_ends((x, y): Spot) -> (Spot, Spot) {
     ((x + 4.0, y + 5.0), (x + 40.0, y + 5.0))
 }
@@ -88,16 +88,14 @@ fn lines(left: f64, top: f64, size: f64, style: &str, lines: &[String], elements
 
 /// Broken between words.
 fn wrapped(words: &str, letters: usize) -> Vec<String> {
-    let mut lines = vec![String::new()];
+    let mut lines: Vec<String> = Vec::new();
     for word in words.split(' ') {
-        let line = lines.last_mut().expect("there is always one");
-        if line.is_empty() {
-            line.push_str(word);
-        } else if line.chars().count() + 1 + word.chars().count() <= letters {
-            line.push(' ');
-            line.push_str(word);
-        } else {
-            lines.push(word.to_string());
+        match lines.last_mut() {
+            Some(line) if line.chars().count() + 1 + word.chars().count() <= letters => {
+                line.push(' ');
+                line.push_str(word);
+            }
+            _ => lines.push(word.to_string()),
         }
     }
     lines

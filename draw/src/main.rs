@@ -11,6 +11,7 @@ mod malformed;
 mod meeting;
 mod page;
 mod pieces;
+mod places;
 mod refused;
 mod segment;
 mod svg;

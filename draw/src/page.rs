@@ -1,14 +1,17 @@
 //! A whole picture: words, and below them frames.
 
-use crate::layers::{Layer, INK, SMALL_PRINT};
+use crate::layers::{Layer, SMALL_PRINT};
 use crate::legend::{Entry, LEFT};
 use crate::svg;
 use crate::view::{Bounds, View, WIDTH};
 
 const PAGE_WIDTH: f64 = WIDTH + 2.0 * LEFT;
-const CAPTION: f64 = 20.0;
+const ABOVE: f64 = 12.0;
+const BETWEEN: f64 = 8.0;
 const BELOW: f64 = 8.0;
+const CAPTION: f64 = 20.0;
 const SMALL: f64 = 12.0;
+const LETTERS: &str = r##"font-family="sans-serif" font-size="15" fill="#222222""##;
 
 pub struct Panel {
     pub view: View,
@@ -40,8 +43,10 @@ impl Panel {
             lines.extend_from_slice(elements);
             lines.push("</g>".to_string());
         }
-        let caption = svg::text((0.0, height + SMALL + 5.0), &self.caption);
-        lines.push(format!(r#"<g fill="{SMALL_PRINT}" font-size="{SMALL}">{caption}</g>"#));
+        if !self.caption.is_empty() {
+            let caption = svg::text((0.0, height + SMALL + 5.0), &self.caption);
+            lines.push(format!(r#"<g fill="{SMALL_PRINT}" font-size="{SMALL}">{caption}</g>"#));
+        }
         lines.push("</g>".to_string());
     }
 }
@@ -55,25 +60,33 @@ pub struct Page {
 impl Page {
     pub fn svg(&self) -> String {
         let mut lines = Vec::new();
-        let mut top = 12.0;
-        for entry in &self.legend {
-            top += entry.put(top, &mut lines);
-        }
-        for panel in &self.panels {
-            top += 8.0;
-            panel.put(top, &mut lines);
-            top += panel.view.height + CAPTION;
-        }
-        let (width, height) = (svg::number(PAGE_WIDTH), svg::number(top.ceil() + BELOW));
+        let top = self.put_legend(&mut lines);
+        let bottom = self.put_panels(top, &mut lines);
+        let (width, height) = (svg::number(PAGE_WIDTH), svg::number(bottom.ceil() + BELOW));
         let opening = [
-            format!(
-                r#"<svg xmlns="http://www.w3.org/2000/svg" viewBox="0 0 {width} {height}" font-family="sans-serif" font-size="15" fill="none">"#
-            ),
+            format!(r#"<svg xmlns="http://www.w3.org/2000/svg" viewBox="0 0 {width} {height}" {LETTERS}>"#),
             format!("<title>{}</title>", svg::escaped(&self.title)),
             format!(r##"<rect width="{width}" height="{height}" fill="#ffffff"/>"##),
-            format!(r#"<g fill="{INK}">"#),
         ];
-        let closing = ["</g>".to_string(), "</svg>".to_string(), String::new()];
+        let closing = ["</svg>".to_string(), String::new()];
         opening.into_iter().chain(lines).chain(closing).collect::<Vec<_>>().join("\n")
+    }
+
+    /// Returns where it ends.
+    fn put_legend(&self, lines: &mut Vec<String>) -> f64 {
+        let mut top = ABOVE;
+        for entry in &self.legend {
+            top += entry.put(top, lines);
+        }
+        top
+    }
+
+    /// Returns where the last one ends.
+    fn put_panels(&self, mut top: f64, lines: &mut Vec<String>) -> f64 {
+        for panel in &self.panels {
+            panel.put(top + BETWEEN, lines);
+            top += BETWEEN + panel.view.height + CAPTION;
+        }
+        top
     }
 }

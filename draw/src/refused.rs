@@ -1,11 +1,11 @@
 //! The picture of a drawing that is turned down: all of it in grey, and in red what the refusal names.
 
-use crate::answered::{keep_free, place_labels, LABEL, MOST_LABELLED};
 use crate::complaint::{Complaint, Mark, Sign};
 use crate::labels::Labels;
-use crate::layers::{seen, segment_lines, Layer, GREY, PALE_RED, RED, SMALL_PRINT};
+use crate::layers::{seen, segment_lines, Layer, GREY, PALE_RED, RED};
 use crate::legend::{choices, counted, Entry};
 use crate::page::{Page, Panel};
+use crate::places::{keep_free, place_labels, small_print, MOST_LABELLED};
 use crate::segment::{seen_ends, segments, Segment};
 use crate::svg;
 use crate::view::{place, Bounds, View, HIGHEST};
@@ -17,6 +17,7 @@ const RED_WIDTH: f64 = 3.0;
 /// Behind a named segment that is not the refusal's own: it is seen also where one lies on the other.
 const BAND_WIDTH: f64 = 11.0;
 const RING: f64 = 13.0;
+const RING_WIDTH: f64 = 2.0;
 const DOT: f64 = 5.0;
 const RED_LABEL: f64 = 16.0;
 
@@ -91,31 +92,27 @@ fn panel(view: View, about: &str, segments: &[Segment], complaint: &Complaint, m
     keep_free(&view, segments, &mut labels);
     layers.extend(mark_layers(&view, &complaint.marks, &red, &mut labels));
     if is_labelled {
-        layers.push(Layer::of_words(SMALL_PRINT, LABEL, place_labels(&view, &grey, LABEL, &mut labels)));
+        layers.push(small_print(&view, &grey, &mut labels));
     }
     Panel::new(view, layers, about)
 }
 
 /// Rings and dots, what is written at them, and the places of the red segments.
 fn mark_layers(view: &View, marks: &[Mark], red: &[(usize, Segment)], labels: &mut Labels) -> [Layer; 3] {
-    let (mut rings, mut dots, mut words) = (Vec::new(), Vec::new(), Vec::new());
-    let sized = |mark: &Mark| match mark.sign {
-        Sign::Ring => RING,
-        Sign::Dot => DOT,
-    };
-    for mark in marks {
-        let spot = view.spot(mark.at);
-        labels.keep_spot_free(spot, sized(mark));
-        match mark.sign {
-            Sign::Ring => rings.push(svg::circle(spot, RING)),
-            Sign::Dot => dots.push(svg::circle(spot, DOT)),
-        }
-    }
-    words.extend(place_labels(view, red, RED_LABEL, labels));
-    for mark in marks.iter().filter(|mark| !mark.label.is_empty()) {
-        words.push(labels.about(view.spot(mark.at), sized(mark), &mark.label, RED_LABEL));
-    }
+    marks.iter().for_each(|mark| labels.keep_spot_free(view.spot(mark.at), radius(mark)));
+    let mut words = place_labels(view, red, RED_LABEL, labels);
+    let labelled = marks.iter().filter(|mark| !mark.label.is_empty());
+    words.extend(labelled.map(|mark| labels.about(view.spot(mark.at), radius(mark), &mark.label, RED_LABEL)));
     let mut words = Layer::of_words(RED, RED_LABEL, words);
     words.attributes += r#" font-weight="bold""#;
-    [Layer::of_lines(RED, 2.0, rings), Layer::filled(RED, dots), words]
+    let (rings, dots): (Vec<_>, Vec<_>) = marks.iter().partition(|mark| matches!(mark.sign, Sign::Ring));
+    let circles = |of: Vec<&Mark>| of.iter().map(|mark| svg::circle(view.spot(mark.at), radius(mark))).collect();
+    [Layer::of_lines(RED, RING_WIDTH, circles(rings)), Layer::filled(RED, circles(dots)), words]
+}
+
+fn radius(mark: &Mark) -> f64 {
+    match mark.sign {
+        Sign::Ring => RING,
+        Sign::Dot => DOT,
+    }
 }
