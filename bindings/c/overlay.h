@@ -55,7 +55,7 @@ struct overlay_filled overlay_fills(const int32_t *segments, size_t segments_len
 struct overlay_clipped {
     uint64_t number; /* the refusal's, 0 on success */
     uint64_t place;  /* the refusal's, 0 on success */
-    uint64_t paths;
+    uint64_t paths;  /* how many */
     uint64_t points; /* of all paths together */
     uint64_t steps;  /* of all paths together */
     uint64_t travel; /* of all paths together */
@@ -70,10 +70,10 @@ struct overlay_clipped overlay_clip(const int32_t *segments, size_t segments_len
                                     size_t points_len, uint32_t *lengths, size_t lengths_len);
 
 struct overlay_sliced {
-    uint64_t number; /* the refusal's, 0 on success */
-    uint64_t place;  /* the refusal's, 0 on success */
-    uint64_t contours;
-    uint64_t points; /* of all contours together */
+    uint64_t number;   /* the refusal's, 0 on success */
+    uint64_t place;    /* the refusal's, 0 on success */
+    uint64_t contours; /* how many */
+    uint64_t points;   /* of all contours together */
 };
 
 /* The pieces that all segments, lines too, cut the dough into, as contours in order of making. Outer
@@ -89,7 +89,7 @@ struct overlay_sliced overlay_slice(const int32_t *segments, size_t segments_len
 struct overlay_looped {
     uint64_t number; /* the refusal's, 0 on success */
     uint64_t place;  /* of the point, 0 on success */
-    uint64_t loops;
+    uint64_t loops;  /* how many */
     uint64_t points; /* of all loops together */
 };
 

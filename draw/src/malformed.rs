@@ -11,7 +11,7 @@ use jumperclay::{read, Reason, Refusal};
 const NOT_LABELLED: usize = 0;
 
 /// Of a longer line the beginning is shown.
-const MOST_SHOWN: usize = 90;
+const MOST_SHOWN: usize = 80;
 
 pub fn page(text: &[u8], refusal: Refusal) -> Page {
     let lines: Vec<&[u8]> = text.split_inclusive(|&byte| byte == b'\n').collect();
@@ -85,7 +85,7 @@ mod tests {
     #[test]
     fn a_line_is_shown_escaped_and_cut() {
         assert_eq!(shown(b"a \x00\xff<\n"), r"a␣\x00\xff<");
-        assert_eq!(shown(&[b'7'; 100]), "7".repeat(90) + " ... (100 bytes)");
+        assert_eq!(shown(&[b'7'; 100]), "7".repeat(80) + " ... (100 bytes)");
     }
 
     #[test]
