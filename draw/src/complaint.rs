@@ -1,6 +1,6 @@
 //! What a refusal names: segments, marks in the plane, and words beside the library's own.
 
-use crate::meeting::{first_met, Meeting};
+use crate::meeting::{first_met, look_like_one, Meeting};
 use crate::segment::Segment;
 use crate::view::{place, Place};
 use jumperclay::{Choices, Point, Reason, Refusal};
@@ -117,8 +117,8 @@ fn of_meeting(segments: &[Segment], lower: usize) -> Complaint {
             (ends.iter().map(|&end| ring(place(end))).collect(), words)
         }
         Meeting::Cross(at) => {
-            let words = format!("It crosses segment {upper} at about ({:.2},{:.2}).", at.0, at.1);
-            (vec![ring(at)], words)
+            let angle = if look_like_one(segments[lower], segments[upper]) { ", at a very small angle" } else { "" };
+            (vec![ring(at)], format!("It crosses segment {upper} at about ({:.2},{:.2}){angle}.", at.0, at.1))
         }
     };
     Complaint { places: vec![upper], marks, words: vec![words] }

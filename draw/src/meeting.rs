@@ -15,6 +15,9 @@ fn meet_wrongly(one: Segment, other: Segment) -> bool {
     fills(&both, Rule::EvenOdd).is_err_and(|refusal| refusal.reason == Reason::Meeting)
 }
 
+/// Two whose angle has a lesser sine look like one line.
+const FLAT: f64 = 0.003;
+
 /// How two segments meet, and where.
 pub enum Meeting {
     /// Both ends are equal.
@@ -47,6 +50,17 @@ fn cross(Segment { a, b, .. }: Segment, point: Point) -> i128 {
     let way = |from: Point, to: Point| (i128::from(to.0) - i128::from(from.0), i128::from(to.1) - i128::from(from.1));
     let (along, aside) = (way(a, b), way(a, point));
     along.0 * aside.1 - along.1 * aside.0
+}
+
+/// Whether two segments look like one line.
+pub fn look_like_one(one: Segment, other: Segment) -> bool {
+    let way = |segment: Segment| {
+        let (a, b) = (place(segment.a), place(segment.b));
+        (b.0 - a.0, b.1 - a.1)
+    };
+    let (one, other) = (way(one), way(other));
+    let area = one.0 * other.1 - one.1 * other.0;
+    area.abs() < FLAT * one.0.hypot(one.1) * other.0.hypot(other.1)
 }
 
 fn crossing(one: Segment, other: Segment) -> Place {
@@ -85,6 +99,16 @@ mod tests {
     #[test]
     fn the_same_twice() {
         assert!(matches!(meeting([0, 0, 2, 0, 0, 0, 2, 0]), Meeting::Same));
+    }
+
+    #[test]
+    fn a_small_angle() {
+        let looks = |numbers: [i32; 12]| {
+            let both = segments(&numbers);
+            look_like_one(both[0], both[1])
+        };
+        assert!(looks([0, 0, 1000, 0, 0, 0, 0, -1, 1000, 1, 0, 0]));
+        assert!(!looks([0, 0, 1000, 0, 0, 0, 0, -2, 1000, 2, 0, 0]));
     }
 
     #[test]
