@@ -23,7 +23,8 @@ impl Panel {
     /// With a caption that tells what part of the plane is seen, and how.
     pub fn new(view: View, layers: Vec<Layer>, about: &str) -> Self {
         let Bounds { low, high } = view.bounds;
-        let mut caption = format!("{about}x from {:.0} to {:.0}, y from {:.0} to {:.0}", low.0, high.0, low.1, high.1);
+        let [left, right, bottom, top] = [low.0, high.0, low.1, high.1].map(svg::number);
+        let mut caption = format!("{about}x from {left} to {right}, y from {bottom} to {top}");
         let stretch = view.stretch();
         if stretch > 1.0 {
             caption += &format!("; not to scale: y is drawn {stretch:.0} times as large as x");
