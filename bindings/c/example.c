@@ -1,10 +1,11 @@
 /* The fills of a square that a line cuts, the line inside and outside of it, the two halves, the loops of a
-   line that touches itself, and refusals:
+   line that touches itself, texts that are read and run, and refusals:
    cc -Ibindings/c bindings/c/example.c -Ltarget/staticlib -loverlay -o example */
 
 #include "overlay.h"
 #include <inttypes.h>
 #include <stdio.h>
+#include <string.h>
 
 enum { SEGMENTS = 9, NUMBERS = 6 * SEGMENTS, NON_ZERO = 1 };
 
@@ -48,11 +49,12 @@ static const int32_t *print_path(const int32_t *point, uint32_t length) {
     return point;
 }
 
-/* Each path on a line of its own, then the totals. */
-static void print_clip(int32_t invert) {
+/* Each path on a line of its own, then the totals. For up to SEGMENTS segments. */
+static void print_clip_of(const int32_t *segments, size_t numbers, int32_t rule, int32_t invert,
+                          int32_t boundary) {
     int32_t points[8 * SEGMENTS];
     uint32_t lengths[2 * SEGMENTS];
-    struct overlay_clipped clipped = overlay_clip(drawing, NUMBERS, NON_ZERO, invert, 1, points,
+    struct overlay_clipped clipped = overlay_clip(segments, numbers, rule, invert, boundary, points,
                                                   8 * SEGMENTS, lengths, 2 * SEGMENTS);
     if (refused(clipped.number, clipped.place)) {
         return;
@@ -63,6 +65,10 @@ static void print_clip(int32_t invert) {
     }
     printf("%" PRIu64 " paths, %" PRIu64 " points, %" PRIu64 " steps, travel %" PRIu64 "\n", clipped.paths,
            clipped.points, clipped.steps, clipped.travel);
+}
+
+static void print_clip(int32_t invert) {
+    print_clip_of(drawing, NUMBERS, NON_ZERO, invert, 1);
 }
 
 /* The pieces of at least this area, each with its role. */
@@ -101,6 +107,24 @@ static void print_split(int32_t x) {
     printf("%" PRIu64 " loops, %" PRIu64 " points\n", looped.loops, looped.points);
 }
 
+/* What a text is refused with, in words. */
+static const char *told(struct overlay_text read) {
+    return read.place == 0 ? "the text has over 65,536 bytes" : "this line is malformed";
+}
+
+/* A text of up to SEGMENTS segments read, and the run that it asks for. */
+static void print_text(const char *text) {
+    int32_t numbers[NUMBERS];
+    struct overlay_text read = overlay_read((const uint8_t *)text, strlen(text), numbers, NUMBERS);
+    if (refused(read.number, read.place)) {
+        printf("%s\n", told(read));
+    } else if (read.count > NUMBERS) {
+        printf("%" PRIu64 " numbers: too many for this program\n", read.count);
+    } else {
+        print_clip_of(numbers, read.count, read.rule, read.invert, read.boundary);
+    }
+}
+
 int main(void) {
     print_fills(NUMBERS);
     print_fills(NUMBERS - 1);
@@ -112,5 +136,9 @@ int main(void) {
     print_slice(0, 51);
     print_split(4);
     print_split(16777217);
+    print_text("1,0,1\n0,0,4,0,1,1\n0,0,4,4,-1,2\n4,0,4,4,1,0\n");
+    print_text("1,0,1\n0,0,4,0,1,1\n0,0,4,4,-1;2\n");
+    print_text("1,0,1\n0,0,2,0,0,1\n1,0,1,1,0,1\n");
+    print_text("7,0,1\n");
     return 0;
 }

@@ -19,7 +19,8 @@
       9  the drawing does not balance (place: the lowest segment touching an unbalanced point)
      12  a slice walk finds no move
    3 to 7 are tried segment by segment, the lowest number first within one. overlay_split takes points
-   instead of a drawing, and refuses by 2, 11 and 3 only, as said there.
+   instead of a drawing, and refuses by 2, 11 and 3 only; overlay_read takes a text, and refuses by 1
+   only: as said there.
 
    A list is passed as a pointer and its number of entries. No pointer may be NULL, not even for a list
    of no entries: pass the address of anything. Lists of one call must not overlap. Entries past the
@@ -39,9 +40,9 @@ extern "C" {
 #endif
 
 struct overlay_filled {
-    uint64_t number;
-    uint64_t place;
-    uint64_t count;
+    uint64_t number; /* the refusal's, 0 on success */
+    uint64_t place;  /* the refusal's, 0 on success */
+    uint64_t count;  /* of fills written */
 };
 
 /* The fill of each of the n segments: 1 if its top is filled, plus 2 if its bottom is, plus 4 times its
@@ -52,12 +53,12 @@ struct overlay_filled overlay_fills(const int32_t *segments, size_t segments_len
 
 /* A step is two neighbouring points of one path; travel is the sum of |dx| + |dy| over the steps. */
 struct overlay_clipped {
-    uint64_t number;
-    uint64_t place;
-    uint64_t paths;
-    uint64_t points;
-    uint64_t steps;
-    uint64_t travel;
+    uint64_t number; /* the refusal's, 0 on success */
+    uint64_t place;  /* the refusal's, 0 on success */
+    uint64_t paths;  /* how many */
+    uint64_t points; /* of all paths together */
+    uint64_t steps;  /* of all paths together */
+    uint64_t travel; /* of all paths together */
 };
 
 /* The lines inside (invert 0) or outside (invert 1), joined into paths that run as the lines were drawn.
@@ -69,10 +70,10 @@ struct overlay_clipped overlay_clip(const int32_t *segments, size_t segments_len
                                     size_t points_len, uint32_t *lengths, size_t lengths_len);
 
 struct overlay_sliced {
-    uint64_t number;
-    uint64_t place;
-    uint64_t contours;
-    uint64_t points;
+    uint64_t number;   /* the refusal's, 0 on success */
+    uint64_t place;    /* the refusal's, 0 on success */
+    uint64_t contours; /* how many */
+    uint64_t points;   /* of all contours together */
 };
 
 /* The pieces that all segments, lines too, cut the dough into, as contours in order of making. Outer
@@ -86,10 +87,10 @@ struct overlay_sliced overlay_slice(const int32_t *segments, size_t segments_len
                                     uint8_t *roles, size_t roles_len);
 
 struct overlay_looped {
-    uint64_t number;
-    uint64_t place;
-    uint64_t loops;
-    uint64_t points;
+    uint64_t number; /* the refusal's, 0 on success */
+    uint64_t place;  /* of the point, 0 on success */
+    uint64_t loops;  /* how many */
+    uint64_t points; /* of all loops together */
 };
 
 /* The loops of a closed line of up to 2,048 points, x and y of each: where it comes back to a point, what
@@ -102,6 +103,23 @@ struct overlay_looped {
 struct overlay_looped overlay_split(const int32_t *points, size_t points_len, uint64_t min_area,
                                     int32_t *out, size_t out_len, uint32_t *lengths,
                                     size_t lengths_len);
+
+struct overlay_text {
+    uint64_t number;  /* 1 for a text that is refused, 0 on success */
+    uint64_t place;   /* the first bad line, from 1; 0 if the text is too long, and on success */
+    uint64_t count;   /* how many numbers the text has after its first line: six for each segment */
+    int32_t rule;     /* the first line's numbers, as they stand there: */
+    int32_t invert;   /* overlay_clip refuses */
+    int32_t boundary; /* an unknown one */
+};
+
+/* A comma text read: lines that end in LF, the first with the choices rule, invert and boundary, every
+   other one with the six numbers of a segment, commas between. `numbers` gets the segments' numbers, as many
+   as it holds: the call went well and the list was too short if count is over numbers_len. Half as many
+   entries as the text has bytes are always enough. Refused is
+      1  a text with a malformed line (place), or one of over 65,536 bytes (place 0) */
+struct overlay_text overlay_read(const uint8_t *text, size_t text_len, int32_t *numbers,
+                                 size_t numbers_len);
 
 #ifdef __cplusplus
 }

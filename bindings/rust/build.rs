@@ -2,6 +2,7 @@
 
 use std::env;
 use std::path::PathBuf;
+use std::process::exit;
 
 fn main() {
     println!("cargo:rerun-if-env-changed=JUMPERCLAY_LIB_DIR");
@@ -10,7 +11,14 @@ fn main() {
         Some(dir) => PathBuf::from(dir),
         None => here.join("../../target/staticlib"),
     };
+    let archive = dir.join("liboverlay.a");
+    println!("cargo:rerun-if-changed={}", archive.display());
+    if !archive.exists() {
+        eprintln!("There is no {}.", archive.display());
+        eprintln!("Run `rt staticlib overlay` in the root of the Jumperclay repository, which makes it,");
+        eprintln!("or set JUMPERCLAY_LIB_DIR to the directory that has it.");
+        exit(1);
+    }
     println!("cargo:rustc-link-search=native={}", dir.display());
     println!("cargo:rustc-link-lib=static=overlay");
-    println!("cargo:rerun-if-changed={}", dir.join("liboverlay.a").display());
 }

@@ -1,19 +1,24 @@
 use crate::points::{paths, Point};
-use crate::{raw, room, Refusal, Rule};
+use crate::{raw, room, Choices, Refusal, Rule};
 
 /// Which lines are kept: those inside, or with `invert` those outside. A line with dough on one side only
 /// runs along the boundary; it is inside where `boundary_included`, and outside otherwise.
 #[derive(Debug, Clone, Copy, PartialEq, Eq, Hash)]
 pub struct ClipRule {
+    /// The lines outside instead of those inside.
     pub invert: bool,
+    /// Lines along the boundary count as inside.
     pub boundary_included: bool,
 }
 
 /// The counts of a clip. A step is two neighbouring points of one path.
 #[derive(Debug, Clone, Copy, PartialEq, Eq, Hash)]
 pub struct Totals {
+    /// How many paths there are.
     pub paths: usize,
+    /// How many points all paths have together.
     pub points: usize,
+    /// How many steps all paths have together.
     pub steps: usize,
     /// The sum of |dx| + |dy| over the steps.
     pub travel: u64,
@@ -22,16 +27,23 @@ pub struct Totals {
 /// The lines kept.
 #[derive(Debug, Clone, PartialEq, Eq, Hash)]
 pub struct Clip {
+    /// The points of each path, in the order of its steps.
     pub paths: Vec<Vec<Point>>,
+    /// The counts of the paths.
     pub totals: Totals,
 }
 
 /// The lines kept, joined into paths. Each line drawn is one step, the way it was drawn.
 pub fn clip(segments: &[i32], rule: Rule, clip_rule: ClipRule) -> Result<Clip, Refusal> {
+    clip_by(segments, Choices::new(rule, clip_rule))
+}
+
+/// As [`clip`], by any numbers for the choices.
+pub(crate) fn clip_by(segments: &[i32], choices: Choices) -> Result<Clip, Refusal> {
     let n = room(segments);
     let mut points = vec![0; 8 * n];
     let mut lengths = vec![0; 2 * n];
-    let totals = clip_into(segments, rule, clip_rule, &mut points, &mut lengths)?;
+    let totals = clip_by_into(segments, choices, &mut points, &mut lengths)?;
     Ok(Clip { paths: paths(&points, &lengths[..totals.paths]), totals })
 }
 
@@ -58,8 +70,16 @@ pub fn clip_into(
     points: &mut [i32],
     lengths: &mut [u32],
 ) -> Result<Totals, Refusal> {
-    let ClipRule { invert, boundary_included } = clip_rule;
-    let clipped = raw::clip(segments, rule as i32, invert.into(), boundary_included.into(), points, lengths);
+    clip_by_into(segments, Choices::new(rule, clip_rule), points, lengths)
+}
+
+fn clip_by_into(
+    segments: &[i32],
+    Choices { rule, invert, boundary }: Choices,
+    points: &mut [i32],
+    lengths: &mut [u32],
+) -> Result<Totals, Refusal> {
+    let clipped = raw::clip(segments, rule, invert, boundary, points, lengths);
     Refusal::of_drawing(clipped.number, clipped.place)?;
     Ok(Totals {
         paths: clipped.paths as usize,

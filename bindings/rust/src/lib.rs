@@ -4,7 +4,8 @@
 //! less than b, by x and then y, and the segments come in order of their a. The winding is positive
 //! where the outline runs from a to b. Line bit 1 is a line drawn from a to b, bit 2 one from b to a.
 //!
-//! Any numbers may be passed: a drawing is either answered or refused, with the reason and the place.
+//! Any numbers may be passed: a drawing is either answered or refused, with the reason and the place. [`fills`], [`clip`],
+//! [`slice()`], [`split`] and [`read`] own their lists; the forms that end in `_into` write to lent ones.
 //!
 //! ```
 //! use jumperclay::{clip, fills, slice, ClipRule, Direction, Rule};
@@ -36,6 +37,11 @@
 //! assert_eq!(halves[1].points, [(10, 5), (10, 10), (0, 10), (0, 5)]);
 //! # Ok::<(), jumperclay::Refusal>(())
 //! ```
+//!
+//! The archive `liboverlay.a` that is linked is for x86-64 Linux; the build script looks for it in `target/staticlib` of
+//! this repository, or in the directory that `JUMPERCLAY_LIB_DIR` names.
+
+#![deny(missing_docs)]
 
 mod clip;
 mod fills;
@@ -44,6 +50,7 @@ pub mod raw;
 mod refusal;
 mod slice;
 mod split;
+mod text;
 
 pub use clip::{clip, clip_into, Clip, ClipRule, Totals};
 pub use fills::{fills, fills_into};
@@ -51,6 +58,7 @@ pub use points::{ContourTotals, Point};
 pub use refusal::{Reason, Refusal};
 pub use slice::{slice, slice_into, Contour, Direction};
 pub use split::{split, split_into};
+pub use text::{read, read_into, Choices, Text, MOST_BYTES};
 
 /// Which counts are filled.
 #[derive(Debug, Clone, Copy, PartialEq, Eq, Hash)]

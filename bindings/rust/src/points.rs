@@ -4,7 +4,9 @@ pub type Point = (i32, i32);
 /// How much was written of contours or loops.
 #[derive(Debug, Clone, Copy, PartialEq, Eq, Hash)]
 pub struct ContourTotals {
+    /// How many contours or loops there are.
     pub contours: usize,
+    /// How many points they have together.
     pub points: usize,
 }
 

@@ -4,8 +4,11 @@
 #[repr(C)]
 #[derive(Debug, Clone, Copy, PartialEq, Eq)]
 pub struct Filled {
+    /// The refusal's number, 0 on success.
     pub number: u64,
+    /// Where a refusal is, 0 on success.
     pub place: u64,
+    /// How many fills were written.
     pub count: u64,
 }
 
@@ -13,11 +16,17 @@ pub struct Filled {
 #[repr(C)]
 #[derive(Debug, Clone, Copy, PartialEq, Eq)]
 pub struct Clipped {
+    /// The refusal's number, 0 on success.
     pub number: u64,
+    /// Where a refusal is, 0 on success.
     pub place: u64,
+    /// How many paths there are.
     pub paths: u64,
+    /// How many points they have together.
     pub points: u64,
+    /// How many steps: two neighbouring points of one path.
     pub steps: u64,
+    /// The sum of |dx| + |dy| over the steps.
     pub travel: u64,
 }
 
@@ -25,9 +34,13 @@ pub struct Clipped {
 #[repr(C)]
 #[derive(Debug, Clone, Copy, PartialEq, Eq)]
 pub struct Sliced {
+    /// The refusal's number, 0 on success.
     pub number: u64,
+    /// Where a refusal is, 0 on success.
     pub place: u64,
+    /// How many contours there are.
     pub contours: u64,
+    /// How many points they have together.
     pub points: u64,
 }
 
@@ -35,15 +48,38 @@ pub struct Sliced {
 #[repr(C)]
 #[derive(Debug, Clone, Copy, PartialEq, Eq)]
 pub struct Looped {
+    /// The refusal's number, 0 on success.
     pub number: u64,
+    /// Where a refusal is, 0 on success.
     pub place: u64,
+    /// How many loops there are.
     pub loops: u64,
+    /// How many points they have together.
     pub points: u64,
+}
+
+/// What [`overlay_read`] returns. Number and place are 0 on success, all others are 0 on a refusal.
+#[repr(C)]
+#[derive(Debug, Clone, Copy, PartialEq, Eq)]
+pub struct Read {
+    /// 1 for a malformed text, 0 on success.
+    pub number: u64,
+    /// The first bad line, from 1; 0 if the text is too long, and on success.
+    pub place: u64,
+    /// How many numbers the text has after its first line.
+    pub count: u64,
+    /// The first number of the first line.
+    pub rule: i32,
+    /// The second.
+    pub invert: i32,
+    /// The third.
+    pub boundary: i32,
 }
 
 // Each reads and writes at most as many entries as the lengths say. Lists of one call must not overlap,
 // and no pointer may be null, also where the length is 0.
 extern "C" {
+    /// The fill of each segment.
     pub fn overlay_fills(
         segments: *const i32,
         segments_len: usize,
@@ -52,6 +88,7 @@ extern "C" {
         fills_len: usize,
     ) -> Filled;
 
+    /// The lines kept, as paths.
     pub fn overlay_clip(
         segments: *const i32,
         segments_len: usize,
@@ -64,6 +101,7 @@ extern "C" {
         lengths_len: usize,
     ) -> Clipped;
 
+    /// The pieces, as contours.
     pub fn overlay_slice(
         segments: *const i32,
         segments_len: usize,
@@ -78,6 +116,7 @@ extern "C" {
         roles_len: usize,
     ) -> Sliced;
 
+    /// The loops of a list of points.
     pub fn overlay_split(
         points: *const i32,
         points_len: usize,
@@ -87,6 +126,9 @@ extern "C" {
         lengths: *mut u32,
         lengths_len: usize,
     ) -> Looped;
+
+    /// The numbers of a comma text.
+    pub fn overlay_read(text: *const u8, text_len: usize, numbers: *mut i32, numbers_len: usize) -> Read;
 }
 
 /// [`overlay_fills`] on slices.
@@ -162,4 +204,10 @@ pub fn split(points: &[i32], min_area: u64, out: &mut [i32], lengths: &mut [u32]
             lengths.len(),
         )
     }
+}
+
+/// [`overlay_read`] on slices.
+pub fn read(text: &[u8], numbers: &mut [i32]) -> Read {
+    // SAFETY: both pointers are valid for their lengths, and the borrows keep the lists apart.
+    unsafe { overlay_read(text.as_ptr(), text.len(), numbers.as_mut_ptr(), numbers.len()) }
 }

@@ -1,10 +1,14 @@
 use std::error::Error;
 use std::fmt;
 
-/// What is wrong with a drawing or a list of points, or with the run asked of it.
+/// What is wrong with a drawing, a list of points or a text, or with the run asked of it.
 #[derive(Debug, Clone, Copy, PartialEq, Eq, Hash)]
 #[non_exhaustive]
 pub enum Reason {
+    /// 1, of a text: a line is malformed.
+    Line,
+    /// 1, of a text: it has over 65,536 bytes.
+    TextLength,
     /// 2: the length is no multiple of six, or there are over 1,024 segments.
     Length,
     /// 3: a coordinate is not from -16,777,216 to 16,777,216.
@@ -52,6 +56,7 @@ impl Reason {
     /// The refusal's number.
     pub fn number(self) -> u64 {
         match self {
+            Self::Line | Self::TextLength => 1,
             Self::Length | Self::PointsLength => 2,
             Self::Coordinate | Self::PointCoordinate => 3,
             Self::Ends => 4,
@@ -68,6 +73,8 @@ impl Reason {
 
     fn words(self) -> &'static str {
         match self {
+            Self::Line => "it is malformed",
+            Self::TextLength => "the text has over 65,536 bytes",
             Self::Length => "the length is no multiple of six, or there are over 1,024 segments",
             Self::PointsLength => "the length is odd, or there are over 2,048 points",
             Self::Coordinate | Self::PointCoordinate => "a coordinate is out of range",
@@ -86,18 +93,33 @@ impl Reason {
     /// What the place counts, where one is meant.
     fn place_of(self) -> Option<&'static str> {
         match self {
-            Self::Length | Self::PointsLength | Self::Choice | Self::ShortList | Self::NoMove => None,
+            Self::TextLength | Self::Length | Self::PointsLength | Self::Choice | Self::ShortList | Self::NoMove => {
+                None
+            }
+            Self::Line => Some("line"),
             Self::PointCoordinate => Some("point"),
             _ => Some("segment"),
         }
     }
 }
 
-/// A drawing or a list of points turned down: why, and at which segment or point, counted from 0. The place is 0 where
-/// none is meant.
+/// A drawing, a list of points or a text turned down: why, and at which segment or point, counted from 0, or at which
+/// line, counted from 1. The place is 0 where none is meant.
+///
+/// It is told as a sentence:
+///
+/// ```
+/// use jumperclay::{Reason, Refusal};
+///
+/// let refusal = Refusal { reason: Reason::Winding, place: 7 };
+/// assert_eq!(refusal.number(), 5);
+/// assert_eq!(refusal.to_string(), "segment 7: the winding is out of range");
+/// ```
 #[derive(Debug, Clone, Copy, PartialEq, Eq, Hash)]
 pub struct Refusal {
+    /// What is wrong.
     pub reason: Reason,
+    /// Where.
     pub place: usize,
 }
 
@@ -110,6 +132,12 @@ impl Refusal {
     /// The refusal of a drawing by this number and place; 0 is success.
     pub(crate) fn of_drawing(number: u64, place: u64) -> Result<(), Self> {
         Self::check(&Reason::OF_DRAWINGS, number, place)
+    }
+
+    /// As of a drawing, of a text. Only one that is too long is refused without a line.
+    pub(crate) fn of_text(number: u64, place: u64) -> Result<(), Self> {
+        let reason = if place == 0 { Reason::TextLength } else { Reason::Line };
+        Self::check(&[reason], number, place)
     }
 
     /// As of a drawing, of a list of points.

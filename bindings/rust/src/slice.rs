@@ -5,14 +5,18 @@ use crate::{raw, room, Refusal, Rule};
 #[derive(Debug, Clone, Copy, PartialEq, Eq, Hash)]
 #[repr(i32)]
 pub enum Direction {
+    /// With the inside on their left.
     CounterClockwise = 0,
+    /// With the inside on their right.
     Clockwise = 1,
 }
 
 /// A closed line around a piece, or around a hole in one.
 #[derive(Debug, Clone, PartialEq, Eq, Hash)]
 pub struct Contour {
+    /// In order, the first one not repeated at the end.
     pub points: Vec<Point>,
+    /// Whether it runs around a hole.
     pub is_hole: bool,
 }
 

@@ -1,7 +1,7 @@
 -- The answers of the public operations as the numbers that C is handed: number and place of a refusal, or 0 and 0 and the counts. Assumes nothing.
 use mathlib.Core.List.{List}
 use Prim.Native.Nat.{ℕ}
-use lib.IntN.{ℤ}
+use lib.IntN.{ℤ, pos}
 use Rattle.build.specs.declared.run.Filled.{Filled}
 use Rattle.build.specs.declared.run.Filled.the-variants.{Done, Refused}
 use Rattle.build.specs.Fills.{fillsOutcome}
@@ -14,10 +14,14 @@ use Rattle.string_slice.specs.Run.{sliceOutcome}
 use Rattle.string_split.specs.declared.Loops.{Loops}
 use Rattle.string_split.specs.declared.Loops.the-variants as loops-are
 use Rattle.string_split.specs.Run.{splitOutcome}
+use Rattle.text.specs.declared.Reading.{Reading}
+use Rattle.text.specs.declared.Reading.the-variants as reading-is
+use Rattle.text.specs.Storing.{readOutcome}
 use Rattle.overlay.specs.declared.Fills.{Fills}
 use Rattle.overlay.specs.declared.Clip.{Clip}
 use Rattle.overlay.specs.declared.Slice.{Slice}
 use Rattle.overlay.specs.declared.Split.{Split}
+use Rattle.overlay.specs.declared.Read.{Read}
 
 -- ---- fills
 abbrev pub filledNumbers : Filled → Fills
@@ -88,3 +92,19 @@ returnedSplit answer out lengths = record { answer = answer; out = out; lengths 
 
 unfoldable pub splitNumbers : List ℤ → ℕ → List ℤ → List ℕ → ReturnedSplit
 splitNumbers points least out lengths = let o = splitOutcome points least out lengths in returnedSplit (loopsNumbers (o .answer)) (o .out) (o .lengths)
+
+-- ---- read
+abbrev pub readingNumbers : Reading → Read
+readingNumbers (reading-is.Read choices count) = record { number = 0; place = 0; count = count; rule = choices .rule; invert = choices .invert; boundary = choices .boundary }
+readingNumbers (reading-is.Malformed line) = record { number = 1; place = line; count = 0; rule = pos 0; invert = pos 0; boundary = pos 0 }
+
+-- what a call of `overlay_read` returns, and the lent list then
+pub record ReturnedRead : Type 0 where
+  pub answer : Read
+  pub numbers : List ℤ
+
+abbrev pub returnedRead : Read → List ℤ → ReturnedRead
+returnedRead answer numbers = record { answer = answer; numbers = numbers }
+
+unfoldable pub readNumbers : List ℕ → List ℤ → ReturnedRead
+readNumbers text numbers = let o = readOutcome text numbers in returnedRead (readingNumbers (o .answer)) (o .numbers)

@@ -4,8 +4,9 @@ use build::Filled;
 use string_clip::Clipped;
 use string_slice::Sliced;
 use string_split::Loops;
+use text::Reading;
 ghost use mathlib.Core.Path.{_≡_};
-ghost use Rattle.overlay.specs.Numbers.{fillsNumbers, returned, clipNumbers, returnedClip, sliceNumbers, returnedSlice, splitNumbers, returnedSplit};
+ghost use Rattle.overlay.specs.Numbers.{fillsNumbers, returned, clipNumbers, returnedClip, sliceNumbers, returnedSlice, splitNumbers, returnedSplit, readNumbers, returnedRead};
 
 // A refusal's number and place, or 0 and 0 and how many fills were written.
 #[repr(C)]
@@ -146,6 +147,42 @@ pub extern "C" fn overlay_split(
             place: place as u64,
             loops: 0,
             points: 0,
+        },
+    }
+}
+
+// 1 and the first bad line of a text, 0 if it is too long; or 0 and 0, how many numbers its segments have, and its choices.
+#[repr(C)]
+pub struct Read {
+    pub number: u64,
+    pub place: u64,
+    pub count: u64,
+    pub rule: i32,
+    pub invert: i32,
+    pub boundary: i32,
+}
+
+// A comma text read: the numbers of its segments, as many as the list holds.
+#[no_mangle]
+pub extern "C" fn overlay_read(text: &[u8], numbers: &mut [i32]) -> Read
+    ensures { λ r. ⌜ returnedRead r (now (numbers .exit)) ≡ readNumbers (now (text .entry)) (now (numbers .entry)) ⌝ }
+{
+    match text::read(text, numbers) {
+        Reading::Read(choices, count) => Read {
+            number: 0,
+            place: 0,
+            count: count as u64,
+            rule: choices.rule,
+            invert: choices.invert,
+            boundary: choices.boundary,
+        },
+        Reading::Malformed(line) => Read {
+            number: 1,
+            place: line as u64,
+            count: 0,
+            rule: 0,
+            invert: 0,
+            boundary: 0,
         },
     }
 }

@@ -1,10 +1,11 @@
-//! The clip program on many texts, beside what the prose says that it prints.
+//! The clip program and overlay_read on many texts, beside what the prose says that they print and read.
 
 use crate::answer::answer;
 use crate::blocks::in_blocks;
 use crate::case_texts;
 use crate::program::Program;
 use crate::random::Random;
+use crate::reader;
 use crate::shrink::{shorter, smallest};
 use crate::table::Table;
 use crate::tally::has_all;
@@ -49,7 +50,7 @@ impl Tally {
         let [good, malformed, otherwise] = [0, 1, 2].map(|column| self.kinds.sum(column));
         let all = good + malformed + otherwise;
         println!(
-            "{all} texts given to the clip program: {good} good, {malformed} refused 1, {otherwise} refused otherwise"
+            "{all} texts given to the clip program and overlay_read: {good} good, {malformed} refused 1, {otherwise} refused otherwise"
         );
     }
 
@@ -59,7 +60,7 @@ impl Tally {
     }
 }
 
-/// What the program prints for a text, and what it should.
+/// What the program prints for a text, or what is read of it, and what it should.
 struct Difference {
     text: Vec<u8>,
     expected: Vec<u8>,
@@ -111,6 +112,9 @@ fn check_block(program: &Program, seed: u64, block: usize, tally: &mut Tally) ->
 
 /// Returns the number of the refusal due, 0 for none.
 fn compare(program: &Program, text: Vec<u8>) -> Result<u64, Difference> {
+    if let Err([expected, got]) = reader::compare(&text) {
+        return Err(Difference { text, expected: expected.into_bytes(), got: Ok(got.into_bytes()) });
+    }
     let due = answer(&text);
     let (expected, got) = (due.printed.into_bytes(), program.printed(&text));
     if got.as_ref() == Ok(&expected) {

@@ -1,5 +1,5 @@
 //! Compares the exported functions with the unchanged Rust, and with a check, a ray, walks and loops written from prose;
-//! and the clip program with these and a reader of its text, also from prose.
+//! and the clip program and overlay_read with these and a reader of texts, also from prose.
 
 mod answer;
 mod areas;
@@ -39,6 +39,7 @@ mod program;
 mod prose;
 mod random;
 mod ray;
+mod reader;
 mod shapes;
 mod shrink;
 mod slice;
@@ -66,7 +67,7 @@ const USAGE: &str = "\
 driver check [--seed S] [--drawings N] [--lists N] [--texts N]
                                      compare with all that is stored, then on N drawings, N lists of points and N texts
 driver lists [--seed S] [--lists N]  compare overlay_split alone, on N lists of points
-driver texts [--seed S] [--texts N]  compare the clip program alone, on N texts
+driver texts [--seed S] [--texts N]  compare the clip program and overlay_read alone, on N texts
 driver replay [FOLDER]               compare with the stored answers, in crates/replay if not said
 driver store [FOLDER]                make the stored answers (needs the Rust)
 driver cases [FOLDER]                make the cases of the clip program, in crates/clip_cases if not said

@@ -1,0 +1,79 @@
+mod common;
+
+use common::A;
+use jumperclay::{read, read_into, Choices, ClipRule, Reason, Refusal, Rule, Text, MOST_BYTES};
+
+const LINE: &str = "0,0,1,0,0,1\n";
+
+fn refused(text: &[u8], reason: Reason, place: usize, sentence: &str) {
+    let refusal = read(text).unwrap_err();
+    assert_eq!((refusal, refusal.number()), (Refusal { reason, place }, 1));
+    assert_eq!(refusal.to_string(), sentence);
+}
+
+#[test]
+fn case_a() {
+    let text = read(include_bytes!("../../../examples/case-a")).unwrap();
+    let choices = Choices { rule: 1, invert: 0, boundary: 1 };
+    assert_eq!(text, Text { choices, segments: A.to_vec() });
+    assert_eq!(text.clip().unwrap().paths, [[(0, 5), (10, 5)]]);
+}
+
+#[test]
+fn no_segments() {
+    let text = read(b"-999999999,999999999,0\n").unwrap();
+    assert_eq!(text.choices, Choices { rule: -999_999_999, invert: 999_999_999, boundary: 0 });
+    assert!(text.segments.is_empty());
+    assert_eq!(text.clip().unwrap_err(), Refusal { reason: Reason::Choice, place: 0 });
+}
+
+#[test]
+fn a_bad_line() {
+    refused(b"", Reason::Line, 1, "line 1: it is malformed");
+    refused(b"1,0\n", Reason::Line, 1, "line 1: it is malformed");
+    for bad in ["0,0,1,0,0\n", "0,0,1,0,0,1", "0,0,1,0,-0,1\n", "0,0,1,0,0,1000000000\n", "\n", "0,0,1,0,0,1\r\n"] {
+        refused(format!("1,0,1\n{LINE}{bad}").as_bytes(), Reason::Line, 3, "line 3: it is malformed");
+    }
+}
+
+#[test]
+fn a_text_too_long_by_one() {
+    let mut text = [b"1,0,1\n", LINE.repeat(5461).as_bytes()].concat();
+    text.truncate(MOST_BYTES);
+    refused(&text, Reason::Line, 5462, "line 5462: it is malformed");
+    text.push(b'\n');
+    refused(&text, Reason::TextLength, 0, "the text has over 65,536 bytes");
+}
+
+#[test]
+fn entries_past_the_numbers_stay() {
+    let text = format!("1,0,1\n{LINE}");
+    let mut list = [99; 8];
+    assert_eq!(read_into(text.as_bytes(), &mut list).unwrap().1, 6);
+    assert_eq!(list, [0, 0, 1, 0, 0, 1, 99, 99]);
+    let mut list = [99; 8];
+    assert!(read_into(text.trim_end().as_bytes(), &mut list).is_err());
+    assert_eq!(list, [99; 8]);
+}
+
+#[test]
+fn a_list_too_short_gets_what_it_holds() {
+    let text = format!("1,0,1\n{LINE}{LINE}");
+    let mut list = [99; 7];
+    assert_eq!(read_into(text.as_bytes(), &mut list).unwrap().1, 12);
+    assert_eq!(list, [0, 0, 1, 0, 0, 1, 0]);
+    assert_eq!(read_into(text.as_bytes(), &mut []).unwrap().1, 12);
+}
+
+#[test]
+fn choices_by_name_and_by_number() {
+    for rule in [Rule::EvenOdd, Rule::NonZero, Rule::Positive, Rule::Negative] {
+        for (invert, boundary_included) in [(false, false), (false, true), (true, false), (true, true)] {
+            let clip_rule = ClipRule { invert, boundary_included };
+            assert_eq!(Choices::new(rule, clip_rule).named(), Ok((rule, clip_rule)));
+        }
+    }
+    for (rule, invert, boundary) in [(4, 0, 0), (-1, 0, 0), (0, 2, 0), (0, 0, -1)] {
+        assert_eq!(Choices { rule, invert, boundary }.named().unwrap_err().number(), 10);
+    }
+}
