@@ -1,5 +1,5 @@
 -- Kept links: which segments a clip run keeps. The contracts of `build` cite these. Assumes nothing.
-use mathlib.Core.List.{List, [], _∷_}
+use mathlib.Core.List.{List, [], _∷_, map}
 use mathlib.Core.Bool.{Bool, not, _&&_, cond}
 use Prim.Native.Nat.{ℕ, _+_, _/_, _%_}
 use lib.Dec.{eqb, ltb}
@@ -36,7 +36,11 @@ filterOf invert boundary =
 unfoldable pub keptLinks : Rule → Filter → Drawing → Drawing
 keptLinks rule filter d = keep (λ s. keeps filter (fill rule d s)) d
 
--- the same, each segment by its entry in a list of fills
+-- the segments of a drawing, those that a run does not keep without their line bits
+unfoldable pub masked : Rule → Filter → Drawing → Drawing
+masked rule filter d = map (λ s. cond (keeps filter (fill rule d s)) s (record { a = s .a; b = s .b; winding = s .winding; bits = pos 0 })) d
+
+-- the kept links, each segment by its entry in a list of fills
 unfoldable pub keptBy : Filter → Drawing → List ℕ → Drawing
 keptBy filter [] fills = []
 keptBy filter (s ∷ d) [] = []

@@ -1,3 +1,4 @@
+pub mod LinkValue
 pub mod Moves
 pub mod Unroll
 pub mod Flat

@@ -19,6 +19,10 @@ moveOf m out e = move (linkOf m e) (Bool·beq out (ltb e m))
 unfoldable pub linkAt : List ℕ → List ℕ → ℕ → Link
 linkAt nodes bits k = record { a = getD nodes k 0; b = getD nodes (length bits + k) 0; bits = getD bits k 0 }
 
+-- what a list of links has past its end
+unfoldable pub noLink : Link
+noLink = record { a = 0; b = 0; bits = 0 }
+
 -- one line bit cleared
 unfoldable pub visited : Link → Bool → Link
 visited l forth = record { a = l .a; b = l .b; bits = clear forth (l .bits) }

@@ -2,12 +2,12 @@
 ghost use mathlib.Core.Path.{_≡_};
 ghost use mathlib.Core.Bool.{true};
 ghost use Prim.Native.Nat.{_*_, _≤_, _<_};
-ghost use lib.ListN.{length};
+ghost use lib.ListN.{length, getD, set};
 ghost use Rattle.segm.specs.Lists.{written};
 ghost use Rattle.graph.specs.Nodes.{part};
 ghost use Rattle.clip_walk.specs.declared.Next.the-variants.{Leave};
 ghost use Rattle.clip_walk.specs.Walk.{has, clear, isLeft, taken, bitsLeft};
-ghost use Rattle.clip_walk.specs.Flat.{moveOf, linkAt, visited, farNode, firstEnd, graph, nextEnd, takenBy, movesOn, bitsAfter, NodeAt, Sound};
+ghost use Rattle.clip_walk.specs.Flat.{moveOf, linkAt, noLink, visited, farNode, firstEnd, graph, nextEnd, takenBy, movesOn, bitsAfter, NodeAt, Sound};
 
 // A link: the nodes of its ends, and its line bits that are left.
 pub struct Link {
@@ -66,6 +66,24 @@ fn visit(link: Link, forth: bool) -> Link
     l
 }
 
+// Clears one line bit of link k, in place.
+pub fn visit_at(links: &mut [Link], k: usize, forth: bool)
+    requires { ⌜ (k < length (now links)) × (has forth (getD (now links) k noLink .bits) ≡ true) ⌝ }
+    ensures { λ r. ⌜ now (links .exit) ≡ set (now (links .entry)) k (visited (getD (now (links .entry)) k noLink) forth) ⌝ }
+{
+    links[k] = visit(links[k], forth);
+}
+
+// The same for a link by value, lent as a slice of one.
+fn visit_lent(link: Link, forth: bool) -> Link
+    requires { ⌜ has forth (link .bits) ≡ true ⌝ }
+    ensures { λ r. ⌜ r ≡ visited link forth ⌝ }
+{
+    let mut links = [link];
+    visit_at(&mut links, 0, forth);
+    links[0]
+}
+
 // The node of the link's other end.
 fn far_node(link: Link, start: bool) -> usize
     ensures { λ r. ⌜ r ≡ farNode link start ⌝ }
@@ -107,7 +125,7 @@ pub fn take(nodes: &[u32], bits: &mut [u8], e: usize, out: bool)
 {
     let m = bits.len();
     let k = graph::link_of(m, e);
-    let link = visit(link_at(nodes, bits, k), out == (e < m));
+    let link = visit_lent(link_at(nodes, bits, k), out == (e < m));
     bits[k] = link.bits;
 }
 

@@ -33,9 +33,9 @@ module _ (c : tie.After-link-of) where
 link-at-requires : tie.Need-link-at-requires
 link-at-requires c κs = let o = c .before in (inside o, s o .pre .1, s o .pre .2)
 
-visit-requires : tie.Need-visit-requires
+visit-lent-requires : tie.Need-visit-lent-requires
 unfolding isLeft moveOf linkAt
-visit-requires c κs =
+visit-lent-requires c κs =
     let o = c .before .before in
     ap (λ (l : Link). has (forth o) (l .bits)) (c .link-at .ensures) ∙ ap (λ k. has (forth o) (getD (bits o) k 0)) (o .link-of .ensures) ∙ s o .pre .3
 
@@ -49,7 +49,7 @@ returns : tie.Need-returns
 unfolding taken moveOf linkAt visited
 returns c =
     let o = c .before .before .before in
-    ap (λ (l : Link). set (bits o) (o .link-of .result) (l .bits)) (c .visit .ensures ∙ ap (λ (l : Link). visited l (forth o)) (c .before .link-at .ensures))
+    ap (λ (l : Link). set (bits o) (o .link-of .result) (l .bits)) (c .visit-lent .ensures ∙ ap (λ (l : Link). visited l (forth o)) (c .before .link-at .ensures))
     ∙ ap (λ k. set (bits o) k (clear (forth o) (getD (bits o) k 0))) (o .link-of .ensures)
 
 pub take-spec : {M : Type 1} → statement M
@@ -58,7 +58,7 @@ take-spec =
     (tie.spec
     link-of-requires
     link-at-requires
-    visit-requires
+    visit-lent-requires
     slice-write-bits
     same-length
     returns)
