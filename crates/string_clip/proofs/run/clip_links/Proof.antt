@@ -22,15 +22,6 @@ slice-aggregate-walk-links c = search needs
 slice-aggregate-walk-links-2 : tie.Need-slice-aggregate-walk-links-2
 slice-aggregate-walk-links-2 c = search needs
 
-slice-aggregate-walk-links-3 : tie.Need-slice-aggregate-walk-links-3
-slice-aggregate-walk-links-3 c = search needs
-
-slice-aggregate-walk-links-4 : tie.Need-slice-aggregate-walk-links-4
-slice-aggregate-walk-links-4 c = search needs
-
-slice-aggregate-walk-links-5 : tie.Need-slice-aggregate-walk-links-5
-slice-aggregate-walk-links-5 c = search needs
-
 walk-links-requires : tie.Need-walk-links-requires
 walk-links-requires c κs = search needs
 
@@ -78,9 +69,6 @@ clip-links-spec =
     (tie.spec
     slice-aggregate-walk-links
     slice-aggregate-walk-links-2
-    slice-aggregate-walk-links-3
-    slice-aggregate-walk-links-4
-    slice-aggregate-walk-links-5
     walk-links-requires
     sub-t24
     travel-requires
