@@ -1,7 +1,6 @@
--- Kept links: the sides counted by ones, what the links share with the drawing, and how the others lose their line bits by a list of its fills.
+-- Kept links: the sides counted by ones, and how the others lose their line bits by a list of fills.
 use mathlib.Core.Path.{_≡_, refl, ap, _∙_}
 use mathlib.Core.List.{List, [], _∷_, _++_, map}
-use mathlib.Core.Bool.{true}
 use Prim.Native.Nat.{ℕ, zero, suc, _+_, _/_, _%_, _<_, _≤_}
 use native.Mathlib.Omega.{arith}
 use native.Mathlib.Numerals.{add-one}
@@ -9,13 +8,12 @@ use lib.Bits.{bitAnd, and-mask}
 use lib.Count.{ones, onesIn}
 use lib.ListN.{length, getD, take, drop}
 use Rattle.segm.specs.declared.Segment.{Segment}
-use Rattle.segm.specs.Lists.{_∈_, Pairs, keep, written}
+use Rattle.segm.specs.Lists.{written}
 use Rattle.segm.specs.Segments.{Drawing, nowhere, segmentAt}
-use Rattle.segm.proofs.Tallies.{keep-in, length-keep, pairs-keep}
 use Rattle.fill_rule.specs.declared.Rule.{Rule}
 use Rattle.build.specs.declared.links.Filter.{Filter}
 use Rattle.ray.specs.Ray.{fill, fills}
-use Rattle.build.specs.Links.{sidesSet, keeps, keptLinks, linesIf, masked, maskedBy}
+use Rattle.build.specs.Links.{sidesSet, keeps, linesIf, masked, maskedBy}
 
 -- ---- the ones of the masked fill are the sides set
 ones-below : (m : ℕ) → m < 4 → ones m ≡ m % 2 + m / 2 % 2
@@ -29,20 +27,6 @@ ones-below (suc (suc (suc (suc m)))) h = absurd (omega arith)
 pub ones-set : (f : ℕ) → ones (bitAnd f 3) ≡ sidesSet f
 unfolding sidesSet
 ones-set f = ap ones (and-mask f 2) ∙ ones-below (f % 4) (omega arith) ∙ omega arith
-
--- ---- a part of the drawing, in its order
-module _ (rule : Rule) (filter : Filter) (d : Drawing) where
-  pub length-kept : length (keptLinks rule filter d) ≤ length d
-  unfolding keptLinks
-  length-kept = length-keep (λ s. keeps filter (fill rule d s)) d
-
-  pub kept-in : (s : Segment) → s ∈ keptLinks rule filter d → (s ∈ d) × (keeps filter (fill rule d s) ≡ true)
-  unfolding keptLinks
-  kept-in s m = keep-in (λ t. keeps filter (fill rule d t)) s d m
-
-  pub pairs-kept : (R : Segment → Segment → Type 0) → Pairs R d → Pairs R (keptLinks rule filter d)
-  unfolding keptLinks
-  pairs-kept R h = pairs-keep (λ s. keeps filter (fill rule d s)) R d h
 
 -- ---- without the line bits of the others, by a list of fills
 module _ (filter : Filter) where

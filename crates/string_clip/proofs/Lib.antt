@@ -8,6 +8,5 @@ pub mod Points
 pub mod Links
 pub mod OnePath
 pub mod AllPaths
-pub mod Same
 pub mod NoLines
 pub mod Masked

@@ -17,6 +17,7 @@ use Rattle.segm.specs.Lists.{_∈_, keep}
 use Rattle.segm.specs.Segments.{Drawing, nowhere, segmentAt}
 use Rattle.segm.proofs.Tallies.{in-map}
 use Rattle.graph.specs.Nodes.{Rising, Nodes, NodesIn}
+use Rattle.graph.proofs.Same.{nodes-same}
 use Rattle.checks.specs.Drawing.{endsInRange}
 use Rattle.checks.specs.Accepted.{Good}
 use Rattle.fill_rule.specs.declared.Rule.{Rule}
@@ -27,7 +28,6 @@ use Rattle.build.specs.Links.{sidesSet, keepsSides, keeps, keptLinks, masked}
 use Rattle.string_clip.specs.Paths.{clipPaths}
 use Rattle.string_clip.specs.Writing.{Kept, linksPaths}
 use Rattle.string_clip.proofs.NoLines.{no-lines}
-use Rattle.string_clip.proofs.Same.{nodes-same}
 
 module _ (rule : Rule) (filter : Filter) (d : Drawing) where
   -- the run keeps s
@@ -118,7 +118,7 @@ module _ (rule : Rule) (filter : Filter) (d : Drawing) where
   b-at (s ∷ l) (suc k) = b-at l k
 
   -- and they have its nodes
-  pub masked-nodes : {flat starts nodes : List ℕ} → NodesIn d flat starts nodes → NodesIn (masked rule filter d) flat starts nodes
+  pub masked-nodes : (flat starts nodes : List ℕ) → NodesIn d flat starts nodes → NodesIn (masked rule filter d) flat starts nodes
   unfolding masked segmentAt
-  masked-nodes {flat} {starts} {nodes} h =
+  masked-nodes flat starts nodes h =
       subst (λ n. Nodes (map mask d) (take (2 * n) flat) starts (take (2 * n) nodes)) (sym (length-map d mask)) (nodes-same d (map mask d) (length-map d mask) (a-at d) (b-at d) h)

@@ -27,42 +27,50 @@ masked-links-requires c κs = search needs
 count-requires : tie.Need-count-requires
 count-requires c κs = search needs
 
-size-requires : tie.Need-size-requires
-size-requires c κs = ?
-
-module _ (z : tie.After-size) where
+-- what was counted
+module _ (q : tie.After-count) where
   abbrev k : tie.After-masked-links
-  k = z .before .before .before .before
+  k = q .before .before .before .before
 
   abbrev s : tie.Start
-  s = k .before .before .before .before .before
+  s = k .before .before .before .before .before .before .before .before
 
   abbrev d : Drawing
   d = segments (s .args .s .now)
 
+  number : q .count .result ≡ length d
+  number = q .count .ensures ∙ sym (length-segments (s .args .s .now))
+
   abbrev links : Drawing
   links = masked (s .args .rule) (s .args .filter) d
-
-  abbrev list : List ℤ
-  list = k .masked-links .last .1 .1 .1 .1 .0
 
   as-many : length links ≡ length d
   as-many = length-masked (s .args .rule) (s .args .filter) d
 
-  size-is : z .size .result ≡ length links * width
-  size-is = ?
+size-requires : tie.Need-size-requires
+size-requires c κs = omega (arith, number c, s c .pre .0 .few)
+
+module _ (z : tie.After-size) where
+  abbrev q : tie.After-count
+  q = z .before
+
+  abbrev list : List ℤ
+  list = k q .masked-links .last .1 .1 .1 .1 .0
+
+  size-is : z .size .result ≡ length (links q) * width
+  size-is = z .size .ensures ∙ ap (_* width) (number q ∙ sym (as-many q))
 
   room : z .size .result ≤ length list
-  room = omega (arith, size-is, as-many, s .pre .0 .few, k .masked-links .kept .1 .1 .1 .1 .0, s .pre .3)
+  room = omega (arith, size-is, as-many q, s q .pre .0 .few, k q .masked-links .kept .1 .1 .1 .1 .0, s q .pre .3)
 
-  links-are : segments (take (z .size .result) list) ≡ links
+  links-are : segments (take (z .size .result) list) ≡ links q
   links-are =
       ap (λ (n : ℕ). segments (take n list)) size-is
-      ∙ ap (λ (l : List ℤ). segments (take (length links * width) l)) (k .masked-links .ensures)
-      ∙ segments-written links (s .args .links .now)
+      ∙ ap (λ (l : List ℤ). segments (take (length (links q) * width) l)) (k q .masked-links .ensures)
+      ∙ segments-written (links q) (s q .args .links .now)
 
-  paths-are : linksPaths (segments (take (z .size .result) list)) ≡ clipPaths (s .args .rule) (s .args .filter) d
-  paths-are = ap linksPaths links-are ∙ masked-paths (s .args .rule) (s .args .filter) d
+  paths-are : linksPaths (segments (take (z .size .result) list)) ≡ clipPaths (s q .args .rule) (s q .args .filter) (d q)
+  paths-are = ap linksPaths links-are ∙ masked-paths (s q .args .rule) (s q .args .filter) (d q)
 
 slice-reshare-prefix-clip-links : tie.Need-slice-reshare-prefix-clip-links
 slice-reshare-prefix-clip-links c = room c
@@ -73,11 +81,11 @@ slice-aggregate-clip-links c = sym (length-take-le _ _ (room (c .before)))
 clip-links-requires : tie.Need-clip-links-requires
 clip-links-requires c κs =
     let z = c .before .before .before in
-    let p = s z .pre in
-    let a = s z .args in
-    let n : length (segments (take (z .size .result) (list z))) ≡ length (d z) = ap length (links-are z) ∙ as-many z in (
-      subst Kept (sym (links-are z)) (masked-kept (a .rule) (a .filter) (d z) (p .0)),
-      subst (λ (e : Drawing). NodesIn e (a .flat .now) (a .starts .now) (a .nodes .now)) (sym (links-are z)) (masked-nodes (a .rule) (a .filter) (d z) (p .1)),
+    let p = s (q z) .pre in
+    let a = s (q z) .args in
+    let n : length (segments (take (z .size .result) (list z))) ≡ length (d (q z)) = ap length (links-are z) ∙ as-many (q z) in (
+      subst Kept (sym (links-are z)) (masked-kept (a .rule) (a .filter) (d (q z)) (p .0)),
+      subst (λ (e : Drawing). NodesIn e (a .flat .now) (a .starts .now) (a .nodes .now)) (sym (links-are z)) (masked-nodes (a .rule) (a .filter) (d (q z)) (a .flat .now) (a .starts .now) (a .nodes .now) (p .1)),
       omega (arith, n, p .4),
       omega (arith, n, p .5),
     )
@@ -98,9 +106,9 @@ returns : tie.Need-returns
 returns c =
     let l = c .before .before .before in
     let z = l .before .before .before .before in
-    let a = s z .args in (
+    let a = s (q z) .args in (
       l .clip-links .ensures .0 ∙ ap totals (paths-are z),
-      subst (λ (p : List (List Point)). Writes p (a .points .now) (a .lengths .now) (l .clip-links .last .1 .0) (l .clip-links .last .1 .1 .0)) (paths-are z) (l .clip-links .ensures .1),
+      subst (λ (p : List (List Point)). Writes p (a .points .now) (a .lengths .now) (l .clip-links .last .1 .1 .1 .1 .0) (l .clip-links .last .1 .1 .1 .1 .1 .0)) (paths-are z) (l .clip-links .ensures .1),
     )
 
 pub clip-with-spec : {M : Type 1} → statement M

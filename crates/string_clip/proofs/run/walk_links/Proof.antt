@@ -4,12 +4,13 @@ use mathlib.Core.Path.{_≡_, sym, ap, subst, _∙_}
 use mathlib.Core.List.{List, _++_}
 use native.Mathlib.Omega.{arith}
 use Prim.Native.Nat.{ℕ, _*_, _≤_}
-use lib.ListN.{length, take, drop, length-take}
+use lib.ListN.{length, take, drop}
 use lib.Seq.{length-take-le, length-front}
 use Rattle.segm.specs.Segments.{Drawing, segments}
 use Rattle.segm.proofs.Segments.{length-segments}
 use Rattle.ends.proofs.Parts.{prefix-back, prefix-length}
 use Rattle.graph.specs.Nodes.{Nodes}
+use Rattle.graph.proofs.Fronts.{front-nodes, ends-room, numbers-room}
 use Rattle.clip_walk.specs.Walk.{lineBits}
 use Rattle.string_clip.specs.Writing.{Walking}
 use Rattle.string_clip.proofs.run.walk_links.Statement.{statement}
@@ -36,13 +37,13 @@ module _ (k : tie.After-count) where
 
   -- the nodes, in the parts of the lists that are theirs
   nodes-are : Nodes links (take (2 * m) (s .args .flat .now)) (s .args .starts .now) (take (2 * m) (s .args .nodes .now))
-  nodes-are = subst (λ (n : ℕ). Nodes links (take (2 * n) (s .args .flat .now)) (s .args .starts .now) (take (2 * n) (s .args .nodes .now))) (sym m-is) (s .pre .1)
+  nodes-are = front-nodes links (s .args .flat .now) (s .args .starts .now) (s .args .nodes .now) (s .pre .1) m m-is
 
   flat-room : 2 * m ≤ length (s .args .flat .now)
-  flat-room = omega (arith, m-is, nodes-are .all-ends, length-take (2 * m) (s .args .flat .now))
+  flat-room = ends-room links (s .args .flat .now) (s .args .starts .now) (s .args .nodes .now) (s .pre .1) m m-is
 
   nodes-room : 2 * m ≤ length (s .args .nodes .now)
-  nodes-room = omega (arith, m-is, nodes-are .each-end, length-take (2 * m) (s .args .nodes .now))
+  nodes-room = numbers-room links (s .args .flat .now) (s .args .starts .now) (s .args .nodes .now) (s .pre .1) m m-is
 
   bits-room : m ≤ length (s .args .bits .now)
   bits-room = omega (arith, few, s .pre .2)
