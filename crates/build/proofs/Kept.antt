@@ -1,7 +1,6 @@
--- Kept links: the sides counted by ones, what the links share with the drawing, and how they are found by a list of its fills.
+-- Kept links: the sides counted by ones, and how the others lose their line bits by a list of fills.
 use mathlib.Core.Path.{_≡_, refl, ap, _∙_}
 use mathlib.Core.List.{List, [], _∷_, _++_, map}
-use mathlib.Core.Bool.{Bool, true, false, cond}
 use Prim.Native.Nat.{ℕ, zero, suc, _+_, _/_, _%_, _<_, _≤_}
 use native.Mathlib.Omega.{arith}
 use native.Mathlib.Numerals.{add-one}
@@ -9,13 +8,12 @@ use lib.Bits.{bitAnd, and-mask}
 use lib.Count.{ones, onesIn}
 use lib.ListN.{length, getD, take, drop}
 use Rattle.segm.specs.declared.Segment.{Segment}
-use Rattle.segm.specs.Lists.{_∈_, Pairs, keep, written}
+use Rattle.segm.specs.Lists.{written}
 use Rattle.segm.specs.Segments.{Drawing, nowhere, segmentAt}
-use Rattle.segm.proofs.Tallies.{keep-in, length-keep, pairs-keep}
 use Rattle.fill_rule.specs.declared.Rule.{Rule}
 use Rattle.build.specs.declared.links.Filter.{Filter}
 use Rattle.ray.specs.Ray.{fill, fills}
-use Rattle.build.specs.Links.{sidesSet, keeps, keptLinks, keptBy}
+use Rattle.build.specs.Links.{sidesSet, keeps, linesIf, masked, maskedBy}
 
 -- ---- the ones of the masked fill are the sides set
 ones-below : (m : ℕ) → m < 4 → ones m ≡ m % 2 + m / 2 % 2
@@ -30,60 +28,34 @@ pub ones-set : (f : ℕ) → ones (bitAnd f 3) ≡ sidesSet f
 unfolding sidesSet
 ones-set f = ap ones (and-mask f 2) ∙ ones-below (f % 4) (omega arith) ∙ omega arith
 
--- ---- a part of the drawing, in its order
-module _ (rule : Rule) (filter : Filter) (d : Drawing) where
-  pub length-kept : length (keptLinks rule filter d) ≤ length d
-  unfolding keptLinks
-  length-kept = length-keep (λ s. keeps filter (fill rule d s)) d
-
-  pub kept-in : (s : Segment) → s ∈ keptLinks rule filter d → (s ∈ d) × (keeps filter (fill rule d s) ≡ true)
-  unfolding keptLinks
-  kept-in s m = keep-in (λ t. keeps filter (fill rule d t)) s d m
-
-  pub pairs-kept : (R : Segment → Segment → Type 0) → Pairs R d → Pairs R (keptLinks rule filter d)
-  unfolding keptLinks
-  pairs-kept R h = pairs-keep (λ s. keeps filter (fill rule d s)) R d h
-
--- ---- by a list of fills
-in-front : (b : Bool) (s : Segment) (d e : Drawing) → cond b (s ∷ (d ++ e)) (d ++ e) ≡ cond b (s ∷ d) d ++ e
-in-front true s d e = refl
-in-front false s d e = refl
-
+-- ---- without the line bits of the others, by a list of fills
 module _ (filter : Filter) where
   -- the fills of a drawing, whatever stands after them
-  by-map : (g : Segment → ℕ) (e : Drawing) (rest : List ℕ) → keptBy filter e (map g e ++ rest) ≡ keep (λ s. keeps filter (g s)) e
-  unfolding keptBy keep
+  by-map : (g : Segment → ℕ) (e : Drawing) (rest : List ℕ) → maskedBy filter e (map g e ++ rest) ≡ map (λ s. linesIf (keeps filter (g s)) s) e
+  unfolding maskedBy
   by-map g [] rest = refl
-  by-map g (s ∷ e) rest = ap (λ (l : Drawing). cond (keeps filter (g s)) (s ∷ l) l) (by-map g e rest)
+  by-map g (s ∷ e) rest = ap (λ (l : Drawing). linesIf (keeps filter (g s)) s ∷ l) (by-map g e rest)
 
-  pub kept-by : (rule : Rule) (d : Drawing) (old : List ℕ) → keptBy filter d (written (fills rule d) old) ≡ keptLinks rule filter d
-  unfolding written fills keptLinks
-  kept-by rule d old = by-map (fill rule d) d (drop (length (fills rule d)) old)
+  pub masked-by : (rule : Rule) (d : Drawing) (old : List ℕ) → maskedBy filter d (written (fills rule d) old) ≡ masked rule filter d
+  unfolding written fills masked
+  masked-by rule d old = by-map (fill rule d) d (drop (length (fills rule d)) old)
 
-  pub length-by : (d : Drawing) (fills : List ℕ) → length (keptBy filter d fills) ≤ length d
-  unfolding keptBy
-  length-by [] fills = omega arith
-  length-by (s ∷ d) [] = omega arith
-  length-by (s ∷ d) (f ∷ fills) = go (keeps filter f) (length-by d fills)
-    where
-      go : (b : Bool) → length (keptBy filter d fills) ≤ length d → length (cond b (s ∷ keptBy filter d fills) (keptBy filter d fills)) ≤ suc (length d)
-      go true h = omega arith
-      go false h = omega arith
+  pub length-by : (d : Drawing) (fills : List ℕ) → length d ≤ length fills → length (maskedBy filter d fills) ≡ length d
+  unfolding maskedBy
+  length-by [] fills h = refl
+  length-by (s ∷ d) [] h = absurd (omega arith)
+  length-by (s ∷ d) (f ∷ fills) h = ap suc (length-by d fills (omega arith))
 
   -- one place more
-  abbrev at : Drawing → List ℕ → ℕ → Drawing
-  at d fills i = cond (keeps filter (getD fills i 0)) (getD d i nowhere ∷ []) []
-
-  by-suc : (d : Drawing) (fills : List ℕ) (i : ℕ) → i < length d → i < length fills → keptBy filter (take (suc i) d) fills ≡ keptBy filter (take i d) fills ++ at d fills i
-  unfolding keptBy
+  by-suc : (d : Drawing) (fills : List ℕ) (i : ℕ) → i < length d → i < length fills
+      → maskedBy filter (take (suc i) d) fills ≡ maskedBy filter (take i d) fills ++ (linesIf (keeps filter (getD fills i 0)) (getD d i nowhere) ∷ [])
+  unfolding maskedBy
   by-suc [] fills i h k = absurd (omega arith)
   by-suc (s ∷ d) [] i h k = absurd (omega arith)
   by-suc (s ∷ d) (f ∷ fills) zero h k = refl
-  by-suc (s ∷ d) (f ∷ fills) (suc i) h k =
-      ap (λ (l : Drawing). cond (keeps filter f) (s ∷ l) l) (by-suc d fills i (omega arith) (omega arith)) ∙ in-front (keeps filter f) s (keptBy filter (take i d) fills) (at d fills i)
+  by-suc (s ∷ d) (f ∷ fills) (suc i) h k = ap (λ (l : Drawing). linesIf (keeps filter f) s ∷ l) (by-suc d fills i (omega arith) (omega arith))
 
-  pub by-next : (d : Drawing) (fills : List ℕ) (i : ℕ) → i < length d → i < length fills → (b : Bool) → keeps filter (getD fills i 0) ≡ b
-      → keptBy filter (take (i + 1) d) fills ≡ keptBy filter (take i d) fills ++ cond b (segmentAt d i ∷ []) []
+  pub by-next : (d : Drawing) (fills : List ℕ) (i : ℕ) → i < length d → i < length fills
+      → maskedBy filter (take (i + 1) d) fills ≡ maskedBy filter (take i d) fills ++ (linesIf (keeps filter (getD fills i 0)) (segmentAt d i) ∷ [])
   unfolding segmentAt
-  by-next d fills i h k b e =
-      ap (λ n. keptBy filter (take n d) fills) (add-one i) ∙ by-suc d fills i h k ∙ ap (λ (c : Bool). keptBy filter (take i d) fills ++ cond c (getD d i nowhere ∷ []) []) e
+  by-next d fills i h k = ap (λ n. maskedBy filter (take n d) fills) (add-one i) ∙ by-suc d fills i h k

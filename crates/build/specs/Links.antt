@@ -5,6 +5,7 @@ use Prim.Native.Nat.{ℕ, _+_, _/_, _%_}
 use lib.Dec.{eqb, ltb}
 use lib.IntN.{ℤ, pos}
 use Rattle.geom.specs.Points.{eqZ}
+use Rattle.segm.specs.declared.Segment.{Segment}
 use Rattle.segm.specs.Lists.{keep}
 use Rattle.segm.specs.Segments.{Drawing}
 use Rattle.fill_rule.specs.declared.Rule.{Rule}
@@ -36,12 +37,16 @@ filterOf invert boundary =
 unfoldable pub keptLinks : Rule → Filter → Drawing → Drawing
 keptLinks rule filter d = keep (λ s. keeps filter (fill rule d s)) d
 
--- the segments of a drawing, those that a run does not keep without their line bits
-unfoldable pub masked : Rule → Filter → Drawing → Drawing
-masked rule filter d = map (λ s. cond (keeps filter (fill rule d s)) s (record { a = s .a; b = s .b; winding = s .winding; bits = pos 0 })) d
+-- a segment, without its line bits if it is not kept
+abbrev pub linesIf : Bool → Segment → Segment
+linesIf kept s = cond kept s (record { a = s .a; b = s .b; winding = s .winding; bits = pos 0 })
 
--- the kept links, each segment by its entry in a list of fills
-unfoldable pub keptBy : Filter → Drawing → List ℕ → Drawing
-keptBy filter [] fills = []
-keptBy filter (s ∷ d) [] = []
-keptBy filter (s ∷ d) (f ∷ fills) = cond (keeps filter f) (s ∷ keptBy filter d fills) (keptBy filter d fills)
+-- the segments of a drawing, those that a run does not keep without their line bits. (The walk over these has the paths of the kept links)
+unfoldable pub masked : Rule → Filter → Drawing → Drawing
+masked rule filter d = map (λ s. linesIf (keeps filter (fill rule d s)) s) d
+
+-- the same, each segment by its entry in a list of fills
+unfoldable pub maskedBy : Filter → Drawing → List ℕ → Drawing
+maskedBy filter [] fills = []
+maskedBy filter (s ∷ d) [] = []
+maskedBy filter (s ∷ d) (f ∷ fills) = linesIf (keeps filter f) s ∷ maskedBy filter d fills

@@ -4,6 +4,6 @@ mod run;
 
 pub use links::Filter;
 pub use links::filter_of;
-pub use links::kept_links;
+pub use links::masked_links;
 pub use run::Filled;
 pub use run::fills;

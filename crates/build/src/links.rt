@@ -1,12 +1,13 @@
-// Kept links: the segments that a clip run keeps.
+// Kept links: the segments that a clip run keeps. All are handed on, so that the nodes of the drawing serve, and the others lose their line bits.
 use fill_rule::Rule;
+use segm::Segment;
 ghost use mathlib.Core.Path.{_≡_};
 ghost use Prim.Native.Nat.{_*_, _≤_};
 ghost use lib.ListN.{length};
 ghost use Rattle.segm.specs.Lists.{written};
 ghost use Rattle.segm.specs.Segments.{width, segments, laid};
 ghost use Rattle.checks.specs.Accepted.{Good};
-ghost use Rattle.build.specs.Links.{keepsSides, keeps, filterOf, keptBy, keptLinks};
+ghost use Rattle.build.specs.Links.{keepsSides, keeps, filterOf, linesIf, maskedBy, masked};
 
 // The four filters of a clip run: which side of the outline, and whether lines on the outline count as inside.
 pub enum Filter {
@@ -51,37 +52,37 @@ fn keeps(filter: Filter, fill: u8) -> bool
     (fill / 4 != 0) & keeps_sides(filter, u8::count_ones(fill & 3))
 }
 
-// Writes the segments whose entry in fills is kept, and tells how many they are.
-fn write_links(s: &[i32], fills: &[u8], filter: Filter, links: &mut [i32]) -> usize
-    requires { ⌜ (length (segments (now s)) ≤ length (now fills)) × (length (segments (now s)) * width ≤ length (now links)) ⌝ }
-    ensures { λ r. ⌜ (now (links .exit) ≡ written (laid (keptBy filter (segments (now (s .entry))) (now (fills .entry)))) (now (links .entry)))
-        × (r ≡ length (keptBy filter (segments (now (s .entry))) (now (fills .entry)))) ⌝ }
+// The segment, without its line bits if it is not kept.
+fn lines_if(kept: bool, t: Segment) -> Segment
+    ensures { λ r. ⌜ r ≡ linesIf kept t ⌝ }
 {
-    let n = segm::count(s);
-    let mut m: usize = 0;
-    let mut i: usize = 0;
-    while i < n {
-        if keeps(filter, fills[i]) {
-            segm::put(links, m, segm::segment_at(s, i));
-            m += 1;
-        }
-        i += 1;
+    if kept {
+        return t;
     }
-    m
+    let mut u = t;
+    u.bits = 0;
+    u
 }
 
-// Writes the links that a clip run keeps of an accepted drawing, and tells how many they are. The list `fills` is working memory.
-pub fn kept_links(
-    s: &[i32],
-    rule: Rule,
-    filter: Filter,
-    fills: &mut [u8],
-    links: &mut [i32],
-) -> usize
+// Writes the segments, those whose entry in fills is not kept without their line bits.
+fn write_links(s: &[i32], fills: &[u8], filter: Filter, links: &mut [i32])
+    requires { ⌜ (length (segments (now s)) ≤ length (now fills)) × (length (segments (now s)) * width ≤ length (now links)) ⌝ }
+    ensures { λ _. ⌜ now (links .exit) ≡ written (laid (maskedBy filter (segments (now (s .entry))) (now (fills .entry)))) (now (links .entry)) ⌝ }
+{
+    let n = segm::count(s);
+    let mut i: usize = 0;
+    while i < n {
+        let kept = keeps(filter, fills[i]);
+        segm::put(links, i, lines_if(kept, segm::segment_at(s, i)));
+        i += 1;
+    }
+}
+
+// Writes the segments of an accepted drawing, those that a clip run does not keep without their line bits. The list `fills` is working memory.
+pub fn masked_links(s: &[i32], rule: Rule, filter: Filter, fills: &mut [u8], links: &mut [i32])
     requires { ⌜ Good (segments (now s)) × (length (segments (now s)) ≤ length (now fills)) × (length (segments (now s)) * width ≤ length (now links)) ⌝ }
-    ensures { λ r. ⌜ (now (links .exit) ≡ written (laid (keptLinks rule filter (segments (now (s .entry))))) (now (links .entry)))
-        × (r ≡ length (keptLinks rule filter (segments (now (s .entry))))) ⌝ }
+    ensures { λ _. ⌜ now (links .exit) ≡ written (laid (masked rule filter (segments (now (s .entry))))) (now (links .entry)) ⌝ }
 {
     fill_sweep::write_fills(s, rule, fills);
-    write_links(s, fills, filter, links)
+    write_links(s, fills, filter, links);
 }

@@ -1,8 +1,15 @@
 -- What the contracts of the inner functions cite: the code searches for refusals 3 to 8 by place in one loop. Assumes nothing.
 use mathlib.Core.Path.{_≡_}
-use Prim.Native.Nat.{ℕ, _<_, _≤_}
-use lib.ListN.{length}
-use Rattle.segm.specs.Segments.{Drawing}
+use mathlib.Core.List.{List}
+use Prim.Native.Nat.{ℕ, _*_, _<_, _≤_}
+use lib.ListN.{length, take}
+use lib.IntN.{ℤ}
+use Rattle.segm.specs.Lists.{upFrom}
+use Rattle.segm.specs.Segments.{Drawing, segments}
+use Rattle.ends.specs.Ends.{endBefore}
+use Rattle.ends.specs.Ordering.{ordering}
+use Rattle.graph.specs.Nodes.{NodesIn}
+use Rattle.balance.specs.Balance.{Numbered}
 use Rattle.checks.specs.declared.Search.{Search}
 use Rattle.checks.specs.declared.Search.the-variants.{Faults, Meetings}
 use Rattle.checks.specs.Drawing.{faultAt, meetingAt}
@@ -21,3 +28,16 @@ numberAt Meetings d = meetingAt d
 abbrev pub Ready : Search → Drawing → Type 0
 Ready Faults d = Unit {0}
 Ready Meetings d = Sound d
+
+-- the ordered ends, and the numbers of their nodes, at the front of lists
+pub record OrderedIn (d : Drawing) (flat : List ℕ) : Type 0 where
+  pub all-ends : 2 * length d ≤ length flat
+  pub order : take (2 * length d) flat ≡ ordering (endBefore d) (upFrom 0 (2 * length d))
+
+pub record NumberedIn (d : Drawing) (nodes : List ℕ) : Type 0 where
+  pub each-end : 2 * length d ≤ length nodes
+  pub numbered : Numbered d (take (2 * length d) nodes)
+
+-- the nodes of the drawing that numbers are, at the front of lists
+abbrev pub NodesOf : List ℤ → (flat starts nodes : List ℕ) → Type 0
+NodesOf numbers flat starts nodes = NodesIn (segments numbers) flat starts nodes

@@ -11,10 +11,11 @@ ghost use Rattle.ends.specs.Ends.{endBefore};
 ghost use Rattle.ends.specs.Ordering.{ordering};
 ghost use Rattle.meetings.specs.Meetings.{Proper, meetsWrongly};
 ghost use Rattle.balance.specs.Balance.{Numbered};
+ghost use Rattle.checks.specs.declared.Verdict.the-variants.{Accepted};
 ghost use Rattle.checks.specs.Drawing.{fault, faultAt, meetingAt, unbalancedAt};
 ghost use Rattle.checks.specs.Verdict.{wrongLength, unknownChoice, tooShort, first, _then_, inOrder, verdict};
 ghost use Rattle.checks.specs.Runs.{upTo, lent, fillsRun, clipRun, sliceRun};
-ghost use Rattle.checks.specs.Search.{Sound, Ready, numberAt};
+ghost use Rattle.checks.specs.Search.{Sound, Ready, numberAt, OrderedIn, NumberedIn, NodesOf};
 
 // What a check finds: nothing wrong, or a refusal's number and place.
 pub enum Verdict {
@@ -150,15 +151,11 @@ fn find_unbalanced(s: &[i32], nodes: &[u32]) -> Verdict
 }
 
 // Refusals 8 and 9, by the ordered ends and their nodes.
-fn find_by_ends(s: &[i32]) -> Verdict
-    requires { ⌜ Sound (segments (now s)) ⌝ }
+fn find_by_ends(s: &[i32], flat: &[u32], nodes: &[u32]) -> Verdict
+    requires { ⌜ Sound (segments (now s)) × OrderedIn (segments (now s)) (now flat) × NumberedIn (segments (now s)) (now nodes) ⌝ }
     ensures { λ r. ⌜ r ≡ (first (meetingAt (segments (now (s .entry)))) (segments (now (s .entry))) then first (unbalancedAt (segments (now (s .entry)))) (segments (now (s .entry)))) ⌝ }
 {
-    let mut flat = [0u32; 2048];
-    let mut starts = [0u32; 2049];
-    let mut nodes = [0u32; 2048];
     let e = 2 * segm::count(s);
-    graph::build_nodes(s, &mut flat[..e], &mut starts, &mut nodes[..e]);
     let meetings = find_meeting(s, &flat[..e]);
     let Verdict::Accepted = meetings else {
         return meetings;
@@ -166,9 +163,18 @@ fn find_by_ends(s: &[i32]) -> Verdict
     find_unbalanced(s, &nodes[..e])
 }
 
-// Every refusal in its order, of which 10 and 11 have been tried.
-fn in_order(s: &[i32], unknown: bool, short: bool) -> Verdict
-    ensures { λ r. ⌜ r ≡ inOrder (wrongLength (now (s .entry))) unknown short (segments (now (s .entry))) ⌝ }
+// Every refusal in its order, of which 10 and 11 have been tried. An accepted drawing's nodes are left in the lists.
+fn in_order(
+    s: &[i32],
+    unknown: bool,
+    short: bool,
+    flat: &mut [u32],
+    starts: &mut [u32],
+    nodes: &mut [u32],
+) -> Verdict
+    requires { ⌜ (length (now flat) ≡ 2048) × (length (now starts) ≡ 2049) × (length (now nodes) ≡ 2048) ⌝ }
+    ensures { λ r. ⌜ (r ≡ inOrder (wrongLength (now (s .entry))) unknown short (segments (now (s .entry))))
+        × (r ≡ Accepted → NodesOf (now (s .entry)) (now (flat .exit)) (now (starts .exit)) (now (nodes .exit))) ⌝ }
 {
     if !segm::is_whole(s) {
         return Verdict::Refused(2, 0);
@@ -186,7 +192,8 @@ fn in_order(s: &[i32], unknown: bool, short: bool) -> Verdict
     let Verdict::Accepted = faults else {
         return faults;
     };
-    find_by_ends(s)
+    graph::write_nodes(s, flat, starts, nodes);
+    find_by_ends(s, flat, nodes)
 }
 
 // Whether a choice is none of 0 to the greatest.
@@ -211,10 +218,13 @@ pub fn check_fills(segments: &[i32], rule: i32, fills: usize) -> Verdict
     let n = segm::count(segments);
     let unknown = is_unknown(rule, 3);
     let short = is_short(fills, 1, n);
-    in_order(segments, unknown, short)
+    let mut flat = [0u32; 2048];
+    let mut starts = [0u32; 2049];
+    let mut nodes = [0u32; 2048];
+    in_order(segments, unknown, short, &mut flat, &mut starts, &mut nodes)
 }
 
-// The verdict on a clip run.
+// The verdict on a clip run. An accepted drawing's nodes are left in the lists `flat`, `starts` and `nodes`, for the run that comes.
 pub fn check_clip(
     segments: &[i32],
     rule: i32,
@@ -222,16 +232,20 @@ pub fn check_clip(
     boundary: i32,
     points: usize,
     lengths: usize,
+    flat: &mut [u32; 2048],
+    starts: &mut [u32; 2049],
+    nodes: &mut [u32; 2048],
 ) -> Verdict
-    ensures { λ r. ⌜ r ≡ verdict (clipRun (now (segments .entry)) rule invert boundary points lengths) ⌝ }
+    ensures { λ r. ⌜ (r ≡ verdict (clipRun (now (segments .entry)) rule invert boundary points lengths))
+        × (r ≡ Accepted → NodesOf (now (segments .entry)) (now (flat .exit)) (now (starts .exit)) (now (nodes .exit))) ⌝ }
 {
     let n = segm::count(segments);
     let unknown = is_unknown(rule, 3) | (is_unknown(invert, 1) | is_unknown(boundary, 1));
     let short = is_short(points, 8, n) | is_short(lengths, 2, n);
-    in_order(segments, unknown, short)
+    in_order(segments, unknown, short, flat, starts, nodes)
 }
 
-// The verdict on a slice run.
+// The verdict on a slice run. An accepted drawing's nodes are left in the lists `flat`, `starts` and `nodes`, for the run that comes.
 pub fn check_slice(
     segments: &[i32],
     rule: i32,
@@ -239,11 +253,15 @@ pub fn check_slice(
     points: usize,
     lengths: usize,
     roles: usize,
+    flat: &mut [u32; 2048],
+    starts: &mut [u32; 2049],
+    nodes: &mut [u32; 2048],
 ) -> Verdict
-    ensures { λ r. ⌜ r ≡ verdict (sliceRun (now (segments .entry)) rule direction points lengths roles) ⌝ }
+    ensures { λ r. ⌜ (r ≡ verdict (sliceRun (now (segments .entry)) rule direction points lengths roles))
+        × (r ≡ Accepted → NodesOf (now (segments .entry)) (now (flat .exit)) (now (starts .exit)) (now (nodes .exit))) ⌝ }
 {
     let n = segm::count(segments);
     let unknown = is_unknown(rule, 3) | is_unknown(direction, 1);
     let short = is_short(points, 4, n) | (is_short(lengths, 2, n) | is_short(roles, 2, n));
-    in_order(segments, unknown, short)
+    in_order(segments, unknown, short, flat, starts, nodes)
 }

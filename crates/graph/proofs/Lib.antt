@@ -3,3 +3,5 @@ pub mod Merged
 pub mod Node
 pub mod Numbering
 pub mod Parts
+pub mod Same
+pub mod Fronts

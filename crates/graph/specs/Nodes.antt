@@ -47,3 +47,7 @@ pub record Nodes (links : Drawing) (flat starts nodes : List ℕ) : Type 0 where
   pub inside : (e : ℕ) → e < 2 * length links → getD starts (suc (getD nodes e 0)) 0 ≤ 2 * length links
   pub ends : (e f : ℕ) → e < 2 * length links → f ∈ part flat starts (getD nodes e 0) → (f < 2 * length links) × (endPoint links f ≡ endPoint links e)
   pub list : (e : ℕ) → e < 2 * length links → map (linkOf (length links)) (part flat starts (getD nodes e 0)) ≡ node links (endPoint links e)
+
+-- the same in longer lists: the ends and the numbers stand at the front
+abbrev pub NodesIn : Drawing → List ℕ → List ℕ → List ℕ → Type 0
+NodesIn links flat starts nodes = Nodes links (take (2 * length links) flat) starts (take (2 * length links) nodes)

@@ -9,7 +9,7 @@ ghost use Rattle.segm.specs.Lists.{upFrom};
 ghost use Rattle.segm.specs.Segments.{segments};
 ghost use Rattle.ends.specs.Ends.{endBefore};
 ghost use Rattle.ends.specs.Ordering.{ordering};
-ghost use Rattle.graph.specs.Nodes.{linkOf, otherEnd, Rising, Nodes};
+ghost use Rattle.graph.specs.Nodes.{linkOf, otherEnd, Rising, Nodes, NodesIn};
 
 // Of m links, the link of end e.
 pub fn link_of(m: usize, e: usize) -> usize
@@ -60,7 +60,7 @@ fn number_nodes(links: &[i32], flat: &[u32], starts: &mut [u32], nodes: &mut [u3
 }
 
 // The nodes of links whose starts rise: those are in order already, so only the other ends are ordered, and the two are merged.
-pub fn build_nodes(links: &[i32], flat: &mut [u32], starts: &mut [u32], nodes: &mut [u32])
+fn build_nodes(links: &[i32], flat: &mut [u32], starts: &mut [u32], nodes: &mut [u32])
     requires { ⌜ Rising (segments (now links))
         × (length (segments (now links)) ≤ 1024)
         × (length (now flat) ≡ 2 * length (segments (now links)))
@@ -73,4 +73,17 @@ pub fn build_nodes(links: &[i32], flat: &mut [u32], starts: &mut [u32], nodes: &
     ends::order_ends(By::Position, links, &mut nodes[m..], flat);
     ends::merge_into(By::Position, links, nodes, m, flat);
     number_nodes(links, flat, starts, nodes);
+}
+
+// The same at the front of lists that may be longer.
+pub fn write_nodes(links: &[i32], flat: &mut [u32], starts: &mut [u32], nodes: &mut [u32])
+    requires { ⌜ Rising (segments (now links))
+        × (length (segments (now links)) ≤ 1024)
+        × (2 * length (segments (now links)) ≤ length (now flat))
+        × (2 * length (segments (now links)) < length (now starts))
+        × (2 * length (segments (now links)) ≤ length (now nodes)) ⌝ }
+    ensures { λ _. ⌜ NodesIn (segments (now (links .entry))) (now (flat .exit)) (now (starts .exit)) (now (nodes .exit)) ⌝ }
+{
+    let e = 2 * segm::count(links);
+    build_nodes(links, &mut flat[..e], starts, &mut nodes[..e]);
 }

@@ -17,7 +17,20 @@ pub struct Check {
 fn verdict_of(segments: &[i32]) -> Verdict
     ensures { λ r. ⌜ r ≡ verdictOf (now (segments .entry)) ⌝ }
 {
-    checks::check_clip(segments, 0, 0, 0, 8192, 2048)
+    let mut flat = [0u32; 2048];
+    let mut starts = [0u32; 2049];
+    let mut nodes = [0u32; 2048];
+    checks::check_clip(
+        segments,
+        0,
+        0,
+        0,
+        8192,
+        2048,
+        &mut flat,
+        &mut starts,
+        &mut nodes,
+    )
 }
 
 // The check alone.
@@ -44,8 +57,8 @@ fn is_swept(s: &[i32]) -> bool
     let mut flat = [0u32; 2048];
     let mut starts = [0u32; 2049];
     let mut nodes = [0u32; 2048];
+    graph::write_nodes(s, &mut flat, &mut starts, &mut nodes);
     let e = 2 * segm::count(s);
-    graph::build_nodes(s, &mut flat[..e], &mut starts, &mut nodes[..e]);
     meeting_sweep::is_clear(s, &flat[..e])
 }
 

@@ -1,4 +1,4 @@
--- Links: what the kept ones of an accepted drawing have, and how large the travel over one is.
+-- Links: how many line bits are set, and how large the travel over one is.
 use mathlib.Core.Path.{_≡_, refl, ap₂}
 use mathlib.Core.Bool.{true, false}
 use Prim.Native.Nat.{ℕ, zero, suc, _+_, _*_, _/_, _%_, _<_, _≤_}
@@ -11,25 +11,9 @@ use Rattle.integers.proofs.Order.{abs--}
 use Rattle.geom.specs.Points.{inRange}
 use Rattle.geom.proofs.Points.{near-x, near-y}
 use Rattle.segm.specs.declared.Segment.{Segment}
-use Rattle.segm.specs.Segments.{Drawing}
 use Rattle.checks.specs.Drawing.{endsInRange}
-use Rattle.checks.specs.Accepted.{Good}
-use Rattle.fill_rule.specs.declared.Rule.{Rule}
-use Rattle.build.specs.declared.links.Filter.{Filter}
-use Rattle.build.specs.Links.{keptLinks}
-use Rattle.build.proofs.Kept.{length-kept, kept-in, pairs-kept}
 use Rattle.clip_walk.specs.Walk.{has, asDrawn, one}
 use Rattle.string_clip.specs.Paths.{travelOf, linesOf}
-use Rattle.string_clip.specs.Writing.{Kept}
-
-pub kept : (d : Drawing) → Good d → (rule : Rule) (filter : Filter) → Kept (keptLinks rule filter d)
-kept d g rule filter = record {
-  few = N.le-trans (length-kept rule filter d) (g .few);
-  near = λ s m. g .near s (kept-in rule filter d s m .0);
-  proper = λ s m. g .proper s (kept-in rule filter d s m .0);
-  bits = λ s m. g .bits s (kept-in rule filter d s m .0);
-  rising = pairs-kept rule filter d _ (g .rising);
-}
 
 -- ---- line bits that are set
 one-is : (m : ℕ) → m < 2 → one (eqb m 1) ≡ m

@@ -13,6 +13,7 @@ ghost use Prim.Native.Nat.{_*_, _≤_};
 ghost use lib.ListN.{length};
 ghost use Rattle.segm.specs.Segments.{width, segments};
 ghost use Rattle.contour.specs.Points.{Writes};
+ghost use Rattle.graph.specs.Nodes.{NodesIn};
 ghost use Rattle.checks.specs.Accepted.{Good};
 ghost use Rattle.string_clip.specs.Paths.{clipPaths};
 ghost use Rattle.string_clip.specs.Run.{totals, outcome, clipOutcome};
@@ -38,17 +39,21 @@ pub struct Both {
     pub outside: Clipped,
 }
 
-// Clips an accepted drawing. The lists `fills` and `links` are working memory.
+// Clips an accepted drawing with its nodes. The lists `fills` and `links` are working memory.
 fn clip_with(
     s: &[i32],
     rule: Rule,
     filter: Filter,
+    flat: &[u32],
+    starts: &[u32],
+    nodes: &[u32],
     fills: &mut [u8],
     links: &mut [i32],
     points: &mut [i32],
     lengths: &mut [u32],
 ) -> Totals
     requires { ⌜ Good (segments (now s))
+        × NodesIn (segments (now s)) (now flat) (now starts) (now nodes)
         × (1024 ≤ length (now fills))
         × (1024 * width ≤ length (now links))
         × (8 * length (segments (now s)) ≤ length (now points))
@@ -56,20 +61,24 @@ fn clip_with(
     ensures { λ r. ⌜ (r ≡ totals (clipPaths rule filter (segments (now (s .entry)))))
         × Writes (clipPaths rule filter (segments (now (s .entry)))) (now (points .entry)) (now (lengths .entry)) (now (points .exit)) (now (lengths .exit)) ⌝ }
 {
-    let m = build::kept_links(s, rule, filter, fills, links);
-    let n = segm::size(m);
-    clip_links(&links[..n], points, lengths)
+    build::masked_links(s, rule, filter, fills, links);
+    let n = segm::size(segm::count(s));
+    clip_links(&links[..n], flat, starts, nodes, points, lengths)
 }
 
-// Clips an accepted drawing.
+// Clips an accepted drawing with its nodes.
 fn clip_accepted(
     s: &[i32],
     rule: Rule,
     filter: Filter,
+    flat: &[u32; 2048],
+    starts: &[u32; 2049],
+    nodes: &[u32; 2048],
     points: &mut [i32],
     lengths: &mut [u32],
 ) -> Totals
     requires { ⌜ Good (segments (now s))
+        × NodesIn (segments (now s)) (now flat) (now starts) (now nodes)
         × (8 * length (segments (now s)) ≤ length (now points))
         × (2 * length (segments (now s)) ≤ length (now lengths)) ⌝ }
     ensures { λ r. ⌜ (r ≡ totals (clipPaths rule filter (segments (now (s .entry)))))
@@ -77,7 +86,18 @@ fn clip_accepted(
 {
     let mut fills = [0u8; 1024];
     let mut links = [0i32; segm::MOST];
-    clip_with(s, rule, filter, &mut fills, &mut links, points, lengths)
+    clip_with(
+        s,
+        rule,
+        filter,
+        flat,
+        starts,
+        nodes,
+        &mut fills,
+        &mut links,
+        points,
+        lengths,
+    )
 }
 
 // The cut lines inside (invert 0) or outside (invert 1), as x, y pairs and one length a path, or the refusal.
@@ -91,6 +111,9 @@ pub fn clip(
 ) -> Clipped
     ensures { λ r. ⌜ outcome r (now (points .exit)) (now (lengths .exit)) ≡ clipOutcome (now (segments .entry)) rule invert boundary (now (points .entry)) (now (lengths .entry)) ⌝ }
 {
+    let mut flat = [0u32; 2048];
+    let mut starts = [0u32; 2049];
+    let mut nodes = [0u32; 2048];
     match checks::check_clip(
         segments,
         rule,
@@ -98,11 +121,17 @@ pub fn clip(
         boundary,
         points.len(),
         lengths.len(),
+        &mut flat,
+        &mut starts,
+        &mut nodes,
     ) {
         Verdict::Accepted => Clipped::Done(clip_accepted(
             segments,
             fill_rule::rule_of(rule),
             build::filter_of(invert, boundary),
+            &flat,
+            &starts,
+            &nodes,
             points,
             lengths,
         )),

@@ -8,6 +8,7 @@ ghost use Prim.Native.Nat.{_*_, _%_, _≤_, _<_};
 ghost use lib.ListN.{length, getD};
 ghost use Rattle.segm.specs.Lists.{written};
 ghost use Rattle.segm.specs.Segments.{segments};
+ghost use Rattle.graph.specs.Nodes.{NodesIn};
 ghost use Rattle.contour.specs.Points.{coordinates, Writes};
 ghost use Rattle.clip_walk.specs.Walk.{lineBits, takenAll};
 ghost use Rattle.string_clip.specs.Paths.{pathPoints};
@@ -95,21 +96,19 @@ fn write_paths(
     }
 }
 
-// Writes every path of the links: their nodes, their line bits, then the walk. The lists before `points` are working memory.
+// Writes every path of the links, by their nodes: their line bits, then the walk. The lists `bits` and `moves` are working memory.
 fn walk_links(
     links: &[i32],
-    flat: &mut [u32],
-    starts: &mut [u32],
-    nodes: &mut [u32],
+    flat: &[u32],
+    starts: &[u32],
+    nodes: &[u32],
     bits: &mut [u8],
     moves: &mut [u32],
     points: &mut [i32],
     lengths: &mut [u32],
 ) -> Written
     requires { ⌜ Kept (segments (now links))
-        × (2048 ≤ length (now flat))
-        × (2048 < length (now starts))
-        × (2048 ≤ length (now nodes))
+        × NodesIn (segments (now links)) (now flat) (now starts) (now nodes)
         × (1024 ≤ length (now bits))
         × (2048 ≤ length (now moves))
         × (8 * length (segments (now links)) ≤ length (now points))
@@ -119,7 +118,6 @@ fn walk_links(
 {
     let m = segm::count(links);
     let e = 2 * m;
-    graph::build_nodes(links, &mut flat[..e], starts, &mut nodes[..e]);
     line_bits(links, &mut bits[..m]);
     write_paths(
         links,
@@ -133,24 +131,29 @@ fn walk_links(
     )
 }
 
-// The clip run over links.
-pub fn clip_links(links: &[i32], points: &mut [i32], lengths: &mut [u32]) -> Totals
+// The clip run over links, by their nodes.
+pub fn clip_links(
+    links: &[i32],
+    flat: &[u32],
+    starts: &[u32],
+    nodes: &[u32],
+    points: &mut [i32],
+    lengths: &mut [u32],
+) -> Totals
     requires { ⌜ Kept (segments (now links))
+        × NodesIn (segments (now links)) (now flat) (now starts) (now nodes)
         × (8 * length (segments (now links)) ≤ length (now points))
         × (2 * length (segments (now links)) ≤ length (now lengths)) ⌝ }
     ensures { λ r. ⌜ (r ≡ totals (linksPaths (segments (now (links .entry)))))
         × Writes (linksPaths (segments (now (links .entry)))) (now (points .entry)) (now (lengths .entry)) (now (points .exit)) (now (lengths .exit)) ⌝ }
 {
-    let mut flat = [0u32; 2048];
-    let mut starts = [0u32; 2049];
-    let mut nodes = [0u32; 2048];
     let mut bits = [0u8; 1024];
     let mut moves = [0u32; 2048];
     let w = walk_links(
         links,
-        &mut flat,
-        &mut starts,
-        &mut nodes,
+        flat,
+        starts,
+        nodes,
         &mut bits,
         &mut moves,
         points,

@@ -12,6 +12,7 @@ ghost use mathlib.Core.Path.{_≡_};
 ghost use Prim.Native.Nat.{_*_, _≤_};
 ghost use lib.ListN.{length};
 ghost use Rattle.segm.specs.Segments.{segments};
+ghost use Rattle.graph.specs.Nodes.{NodesIn};
 ghost use Rattle.checks.specs.Accepted.{Good};
 ghost use Rattle.string_slice.specs.Contours.{sliceContours};
 ghost use Rattle.string_slice.specs.Run.{outcome, handedOver, sliceOutcome};
@@ -22,17 +23,21 @@ pub enum Sliced {
     Refused(u32, usize),
 }
 
-// Slices an accepted drawing. All walks are made before the first contour is written, so that a walk that finds no move leaves the lists as they were.
+// Slices an accepted drawing with its nodes. All walks are made before the first contour is written, so that a walk that finds no move leaves the lists as they were.
 fn slice_accepted(
     s: &[i32],
     rule: Rule,
     clockwise: bool,
     min_area: u64,
+    flat: &[u32; 2048],
+    starts: &[u32; 2049],
+    nodes: &[u32; 2048],
     points: &mut [i32],
     lengths: &mut [u32],
     roles: &mut [u8],
 ) -> Sliced
     requires { ⌜ Good (segments (now s))
+        × NodesIn (segments (now s)) (now flat) (now starts) (now nodes)
         × (4 * length (segments (now s)) ≤ length (now points))
         × (2 * length (segments (now s)) ≤ length (now lengths))
         × (2 * length (segments (now s)) ≤ length (now roles)) ⌝ }
@@ -42,7 +47,16 @@ fn slice_accepted(
     let mut walks = [0i32; 4096];
     let mut walk_lengths = [0u32; 2048];
     let mut directions = [0u8; 2048];
-    let made = make_walks(s, rule, &mut walks, &mut walk_lengths, &mut directions);
+    let made = make_walks(
+        s,
+        rule,
+        flat,
+        starts,
+        nodes,
+        &mut walks,
+        &mut walk_lengths,
+        &mut directions,
+    );
     let Walks::Done(n) = made else {
         return Sliced::Refused(12, 0);
     };
@@ -71,6 +85,9 @@ pub fn slice(
     ensures { λ r. ⌜ outcome r (now (points .exit)) (now (lengths .exit)) (now (roles .exit))
         ≡ sliceOutcome (now (segments .entry)) rule direction «min_area» (now (points .entry)) (now (lengths .entry)) (now (roles .entry)) ⌝ }
 {
+    let mut flat = [0u32; 2048];
+    let mut starts = [0u32; 2049];
+    let mut nodes = [0u32; 2048];
     match checks::check_slice(
         segments,
         rule,
@@ -78,12 +95,18 @@ pub fn slice(
         points.len(),
         lengths.len(),
         roles.len(),
+        &mut flat,
+        &mut starts,
+        &mut nodes,
     ) {
         Verdict::Accepted => slice_accepted(
             segments,
             fill_rule::rule_of(rule),
             direction == 1,
             min_area,
+            &flat,
+            &starts,
+            &nodes,
             points,
             lengths,
             roles,

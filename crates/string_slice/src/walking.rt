@@ -6,6 +6,7 @@ ghost use mathlib.Core.List.{map};
 ghost use Prim.Native.Nat.{_*_, _%_, _≤_, _<_};
 ghost use lib.ListN.{length};
 ghost use Rattle.segm.specs.Segments.{segments};
+ghost use Rattle.graph.specs.Nodes.{NodesIn};
 ghost use Rattle.checks.specs.Accepted.{Good};
 ghost use Rattle.slice_walk.specs.Walk.{walks};
 ghost use Rattle.slice_walk.specs.Writing.{WalksAre};
@@ -22,23 +23,21 @@ fn keep_sides(fills: &mut [u8])
     }
 }
 
-// The walks. The lists before `points` are working memory.
+// The walks, by the nodes of the drawing. The list `bits` is working memory.
 fn walk_links(
     s: &[i32],
     rule: Rule,
     bits: &mut [u8],
-    flat: &mut [u32],
-    starts: &mut [u32],
-    nodes: &mut [u32],
+    flat: &[u32],
+    starts: &[u32],
+    nodes: &[u32],
     points: &mut [i32],
     lengths: &mut [u32],
     directions: &mut [u8],
 ) -> Walks
     requires { ⌜ Good (segments (now s))
         × (1024 ≤ length (now bits))
-        × (2048 ≤ length (now flat))
-        × (2048 < length (now starts))
-        × (2048 ≤ length (now nodes))
+        × NodesIn (segments (now s)) (now flat) (now starts) (now nodes)
         × (4096 ≤ length (now points))
         × (2048 ≤ length (now lengths))
         × (2048 ≤ length (now directions)) ⌝ }
@@ -48,7 +47,6 @@ fn walk_links(
     let e = 2 * m;
     fill_sweep::write_fills(s, rule, &mut bits[..m]);
     keep_sides(&mut bits[..m]);
-    graph::build_nodes(s, &mut flat[..e], starts, &mut nodes[..e]);
     slice_walk::write_walks(
         s,
         &flat[..e],
@@ -61,28 +59,32 @@ fn walk_links(
     )
 }
 
-// The walks of an accepted drawing: their points, how many each has, and its direction.
+// The walks of an accepted drawing with its nodes: their points, how many each has, and its direction.
 pub fn make_walks(
     s: &[i32],
     rule: Rule,
+    flat: &[u32],
+    starts: &[u32],
+    nodes: &[u32],
     points: &mut [i32],
     lengths: &mut [u32],
     directions: &mut [u8],
 ) -> Walks
-    requires { ⌜ Good (segments (now s)) × (4096 ≤ length (now points)) × (2048 ≤ length (now lengths)) × (2048 ≤ length (now directions)) ⌝ }
+    requires { ⌜ Good (segments (now s))
+        × NodesIn (segments (now s)) (now flat) (now starts) (now nodes)
+        × (4096 ≤ length (now points))
+        × (2048 ≤ length (now lengths))
+        × (2048 ≤ length (now directions)) ⌝ }
     ensures { λ r. ⌜ WalksAre (segments (now (s .entry))) (walks (segments (now (s .entry))) (sideBits rule (segments (now (s .entry))))) (now (points .entry)) (now (lengths .entry)) (now (directions .entry)) r (now (points .exit)) (now (lengths .exit)) (now (directions .exit)) ⌝ }
 {
     let mut bits = [0u8; 1024];
-    let mut flat = [0u32; 2048];
-    let mut starts = [0u32; 2049];
-    let mut nodes = [0u32; 2048];
     walk_links(
         s,
         rule,
         &mut bits,
-        &mut flat,
-        &mut starts,
-        &mut nodes,
+        flat,
+        starts,
+        nodes,
         points,
         lengths,
         directions,

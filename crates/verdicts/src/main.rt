@@ -107,9 +107,26 @@ fn show(v: Verdict) {
     }
 }
 
+fn show_clip(d: &[i32], rule: i32, invert: i32, boundary: i32, points: usize, lengths: usize) {
+    let mut flat = [0u32; 2048];
+    let mut starts = [0u32; 2049];
+    let mut nodes = [0u32; 2048];
+    show(checks::check_clip(
+        d,
+        rule,
+        invert,
+        boundary,
+        points,
+        lengths,
+        &mut flat,
+        &mut starts,
+        &mut nodes,
+    ));
+}
+
 // A clip run with known choices and lists that are long enough.
 fn clip(d: &[i32]) {
-    show(checks::check_clip(d, 1, 0, 1, 8192, 2048));
+    show_clip(d, 1, 0, 1, 8192, 2048);
 }
 
 // ---- case A with numbers altered
@@ -202,7 +219,7 @@ fn clip_run(d: &[i32], rule: i32, invert: i32, boundary: i32, points: usize, len
     number(boundary);
     size(points);
     size(lengths);
-    show(checks::check_clip(d, rule, invert, boundary, points, lengths));
+    show_clip(d, rule, invert, boundary, points, lengths);
 }
 
 fn slice_run(d: &[i32], rule: i32, direction: i32, points: usize, lengths: usize, roles: usize) {
@@ -213,7 +230,20 @@ fn slice_run(d: &[i32], rule: i32, direction: i32, points: usize, lengths: usize
     size(points);
     size(lengths);
     size(roles);
-    show(checks::check_slice(d, rule, direction, points, lengths, roles));
+    let mut flat = [0u32; 2048];
+    let mut starts = [0u32; 2049];
+    let mut nodes = [0u32; 2048];
+    show(checks::check_slice(
+        d,
+        rule,
+        direction,
+        points,
+        lengths,
+        roles,
+        &mut flat,
+        &mut starts,
+        &mut nodes,
+    ));
 }
 
 // Each choice at its limits and past them.

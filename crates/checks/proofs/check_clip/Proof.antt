@@ -32,17 +32,19 @@ in-order-requires c κs = search needs
 returns : tie.Need-returns
 unfolding clipRun any
 returns c =
-    let t₂ = c .before in
+    let t₂ = c .before .before .before .before in
     let t₁ = t₂ .before in
     let u₃ = t₁ .before in
     let u₂ = u₃ .before in
     let u₁ = u₂ .before in
     let n = u₁ .before in
     let s = n .before in
-    let a = s .args in
-    by-flags (clipRun (a .segments .now) (a .rule) (a .invert) (a .boundary) (a .points) (a .lengths)) (c .in-order .ensures)
-    (simp (u₁ .is-unknown .ensures, u₂ .is-unknown2 .ensures, u₃ .is-unknown3 .ensures, toZ-ofZ (s .fits .rule), toZ-ofZ (s .fits .invert), toZ-ofZ (s .fits .boundary), or-false))
-    (simp (t₁ .is-short .ensures, t₂ .is-short2 .ensures, n .count .ensures, or-false))
+    let a = s .args in (
+      by-flags (clipRun (a .segments .now) (a .rule) (a .invert) (a .boundary) (a .points) (a .lengths)) (c .in-order .ensures .0)
+          (simp (u₁ .is-unknown .ensures, u₂ .is-unknown2 .ensures, u₃ .is-unknown3 .ensures, toZ-ofZ (s .fits .rule), toZ-ofZ (s .fits .invert), toZ-ofZ (s .fits .boundary), or-false))
+          (simp (t₁ .is-short .ensures, t₂ .is-short2 .ensures, n .count .ensures, or-false)),
+      c .in-order .ensures .1,
+    )
 
 pub check-clip-spec : {M : Type 1} → statement M
 check-clip-spec =

@@ -32,17 +32,19 @@ in-order-requires c κs = search needs
 returns : tie.Need-returns
 unfolding sliceRun any
 returns c =
-    let t₃ = c .before in
+    let t₃ = c .before .before .before .before in
     let t₂ = t₃ .before in
     let t₁ = t₂ .before in
     let u₂ = t₁ .before in
     let u₁ = u₂ .before in
     let n = u₁ .before in
     let s = n .before in
-    let a = s .args in
-    by-flags (sliceRun (a .segments .now) (a .rule) (a .direction) (a .points) (a .lengths) (a .roles)) (c .in-order .ensures)
-    (simp (u₁ .is-unknown .ensures, u₂ .is-unknown2 .ensures, toZ-ofZ (s .fits .rule), toZ-ofZ (s .fits .direction), or-false))
-    (simp (t₁ .is-short .ensures, t₂ .is-short2 .ensures, t₃ .is-short3 .ensures, n .count .ensures, or-false))
+    let a = s .args in (
+      by-flags (sliceRun (a .segments .now) (a .rule) (a .direction) (a .points) (a .lengths) (a .roles)) (c .in-order .ensures .0)
+          (simp (u₁ .is-unknown .ensures, u₂ .is-unknown2 .ensures, toZ-ofZ (s .fits .rule), toZ-ofZ (s .fits .direction), or-false))
+          (simp (t₁ .is-short .ensures, t₂ .is-short2 .ensures, t₃ .is-short3 .ensures, n .count .ensures, or-false)),
+      c .in-order .ensures .1,
+    )
 
 pub check-slice-spec : {M : Type 1} → statement M
 check-slice-spec =

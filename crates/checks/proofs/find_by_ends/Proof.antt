@@ -1,20 +1,17 @@
--- The parts of the working memory that the ends need are lent and come back. Assumes nothing.
+-- The parts of the lists that the ends need are looked at. Assumes nothing.
 use borrow.Author.Needs.{needs}
 use mathlib.Core.Path.{_≡_, sym, ap, subst, _∙_}
-use mathlib.Core.List.{List, _++_}
+use mathlib.Core.List.{List}
 use native.Mathlib.Omega.{arith}
 use Prim.Native.Nat.{ℕ, _*_, _≤_}
-use lib.ListN.{length, take, drop, replicate}
-use lib.Seq.{length-take-le, length-front}
+use lib.ListN.{length, take}
+use lib.Seq.{length-take-le}
 use Rattle.segm.specs.Segments.{Drawing, segments}
 use Rattle.segm.proofs.Segments.{length-segments}
-use Rattle.ends.proofs.Parts.{prefix-back, prefix-length}
 use Rattle.balance.specs.Balance.{Numbered}
-use Rattle.balance.proofs.Nodes.{numbered}
 use Rattle.checks.specs.declared.Verdict.{Verdict}
 use Rattle.checks.specs.Drawing.{meetingAt, unbalancedAt}
 use Rattle.checks.specs.Verdict.{first, _then_}
-use Rattle.checks.proofs.Faults.{at, rising-starts}
 use Rattle.checks.proofs.Order.{refused-then}
 use Rattle.checks.proofs.find_by_ends.Statement.{statement}
 use Rattle.checks.proofs.find_by_ends.Tie as tie
@@ -22,12 +19,9 @@ use Rattle.checks.proofs.find_by_ends.Tie as tie
 count-requires : tie.Need-count-requires
 count-requires c κs = search needs
 
-abbrev fresh : List ℕ
-fresh = replicate 2048 0
-
 module _ (k : tie.After-count) where
   abbrev s : tie.Start
-  s = k .before
+  s = k .before .before .before
 
   abbrev d : Drawing
   d = segments (s .args .s .now)
@@ -38,81 +32,28 @@ module _ (k : tie.After-count) where
   n-is : n ≡ length d
   n-is = k .count .ensures ∙ sym (length-segments (s .args .s .now))
 
-  room : 2 * n ≤ length fresh
-  room = omega (arith, n-is, s .pre .few)
+  -- the front of a list
+  front : (l : List ℕ) → take (2 * length d) l ≡ take (2 * n) l
+  front l = ap (λ m. take (2 * m) l) (sym n-is)
 
-  -- the part that the ends need
-  as-many : length (take (2 * n) fresh) ≡ 2 * length d
-  as-many = length-take-le (2 * n) fresh room ∙ ap (2 *_) n-is
+  front-length : (l : List ℕ) → 2 * length d ≤ length l → 2 * n ≡ length (take (2 * n) l)
+  front-length l room = sym (length-take-le (2 * n) l (omega (arith, n-is)))
 
-  -- it was lent, and `back` came in its place
-  module _ (back : List ℕ) (kept : length back ≡ length (take (2 * n) fresh)) where
-    abbrev after : List ℕ
-    after = back ++ drop (2 * n) fresh
+  -- what 8 and 9 find
+  abbrev eight : Verdict
+  eight = first (meetingAt d) d
 
-    part-is : take (2 * n) after ≡ back
-    part-is = prefix-back (2 * n) fresh back room kept
-
-    part-length : 2 * n ≡ length (take (2 * n) after)
-    part-length = sym (prefix-length (2 * n) fresh back room kept)
-
-    part-room : 2 * n ≤ length after
-    part-room = omega (arith, room, length-front fresh back (2 * n) kept)
+  abbrev nine : Verdict
+  nine = first (unbalancedAt d) d
 
 mul-e : tie.Need-mul-e
-mul-e c = record { fits = omega (arith, room c) }
-
-array-borrow-prefix-flat : tie.Need-array-borrow-prefix-flat
-array-borrow-prefix-flat c = room c
-
-slice-aggregate-build-nodes : tie.Need-slice-aggregate-build-nodes
-slice-aggregate-build-nodes c = sym (length-take-le _ _ (room (c .before)))
-
-slice-aggregate-build-nodes-2 : tie.Need-slice-aggregate-build-nodes-2
-slice-aggregate-build-nodes-2 c = search needs
-
-array-borrow-prefix-nodes : tie.Need-array-borrow-prefix-nodes
-array-borrow-prefix-nodes c = room (c .before .before)
-
-slice-aggregate-build-nodes-3 : tie.Need-slice-aggregate-build-nodes-3
-slice-aggregate-build-nodes-3 c = sym (length-take-le _ _ (room (c .before .before .before)))
-
-build-nodes-requires : tie.Need-build-nodes-requires
-build-nodes-requires c κs =
-    let k = c .before .before .before in
-    let h = s k .pre in
-    (rising-starts (d k) (at (d k) h), h .few, as-many k, omega (arith, h .few), as-many k)
-
--- the ordered ends and their nodes, which came back
-module _ (b : tie.After-build-nodes) where
-  abbrev k : tie.After-count
-  k = b .before .before .before .before
-
-  abbrev flat : List ℕ
-  flat = b .build-nodes .last .1 .0
-
-  abbrev nodes : List ℕ
-  nodes = b .build-nodes .last .1 .1 .1 .0
-
-  flat-kept : length flat ≡ length (take (2 * n k) fresh)
-  flat-kept = b .build-nodes .kept .1 .0
-
-  nodes-kept : length nodes ≡ length (take (2 * n k) fresh)
-  nodes-kept = b .build-nodes .kept .1 .1 .1 .0
-
-  numbers : Numbered (d k) nodes
-  numbers = numbered (b .build-nodes .ensures) (b .build-nodes .kept .1 .1 .0) (nodes-kept ∙ as-many k)
-
-array-share-prefix-flat : tie.Need-array-share-prefix-flat
-array-share-prefix-flat c = let b = c .before .before .before in part-room (k b) (flat b) (flat-kept b)
+mul-e c = record { fits = omega (arith, n-is c, s c .pre .0 .few) }
 
 slice-aggregate-find-meeting : tie.Need-slice-aggregate-find-meeting
-slice-aggregate-find-meeting c = let b = c .before .before .before .before in part-length (k b) (flat b) (flat-kept b)
+slice-aggregate-find-meeting c = let k = c .before in front-length k (s k .args .flat .now) (s k .pre .1 .all-ends)
 
 find-meeting-requires : tie.Need-find-meeting-requires
-find-meeting-requires c κs =
-    let b = c .before .before .before .before in
-    (s (k b) .pre, part-is (k b) (flat b) (flat-kept b) ∙ b .build-nodes .ensures .order)
+find-meeting-requires c κs = let k = c .before in (s k .pre .0, sym (front k (s k .args .flat .now)) ∙ s k .pre .1 .order)
 
 enum-told : tie.Need-enum-told
 enum-told c = search needs
@@ -122,38 +63,26 @@ enum-told-2 c = search needs
 
 -- the search for 8 was made
 module _ (m : tie.After-find-meeting) where
-  abbrev b : tie.After-build-nodes
-  b = m .before .before .before .before .before
+  abbrev counted : tie.After-count
+  counted = m .before .before
 
-  -- what 8 and 9 find
-  abbrev eight : Verdict
-  eight = first (meetingAt (d (k b))) (d (k b))
-
-  abbrev nine : Verdict
-  nine = first (unbalancedAt (d (k b))) (d (k b))
-
-  found : {v : Verdict} → m .find-meeting .result ≡ v → eight ≡ v
+  found : {v : Verdict} → m .find-meeting .result ≡ v → eight counted ≡ v
   found e = sym (m .find-meeting .ensures) ∙ e
 
 returns : tie.Need-returns
-returns c = let m = c .before .before in m .find-meeting .ensures ∙ sym (refused-then (eight m) (nine m) (found m (c .enum-told2 .given .1)))
-
-array-share-prefix-nodes : tie.Need-array-share-prefix-nodes
-array-share-prefix-nodes c = let e = b (c .before .before) in part-room (k e) (nodes e) (nodes-kept e)
+returns c = let m = c .before .before in m .find-meeting .ensures ∙ sym (refused-then (eight (counted m)) (nine (counted m)) (found m (c .enum-told2 .given .1)))
 
 slice-aggregate-find-unbalanced : tie.Need-slice-aggregate-find-unbalanced
-slice-aggregate-find-unbalanced c = let e = b (c .before .before .before) in part-length (k e) (nodes e) (nodes-kept e)
+slice-aggregate-find-unbalanced c = let k = counted (c .before .before .before) in front-length k (s k .args .nodes .now) (s k .pre .2 .each-end)
 
 find-unbalanced-requires : tie.Need-find-unbalanced-requires
-find-unbalanced-requires c κs =
-    let e = b (c .before .before .before) in
-    (s (k e) .pre, subst (Numbered (d (k e))) (sym (part-is (k e) (nodes e) (nodes-kept e))) (numbers e))
+find-unbalanced-requires c κs = let k = counted (c .before .before .before) in (s k .pre .0, subst (Numbered (d k)) (front k (s k .args .nodes .now)) (s k .pre .2 .numbered))
 
 returns-2 : tie.Need-returns-2
 returns-2 c =
     let t = c .before .before in
     let m = t .before .before in
-    c .find-unbalanced .ensures ∙ sym (ap (λ (v : Verdict). v then nine m) (found m (t .enum-told .given .1)))
+    c .find-unbalanced .ensures ∙ sym (ap (λ (v : Verdict). v then nine (counted m)) (found m (t .enum-told .given .1)))
 
 pub find-by-ends-spec : {M : Type 1} → statement M
 find-by-ends-spec =
@@ -161,19 +90,11 @@ find-by-ends-spec =
     (tie.spec
     count-requires
     mul-e
-    array-borrow-prefix-flat
-    slice-aggregate-build-nodes
-    slice-aggregate-build-nodes-2
-    array-borrow-prefix-nodes
-    slice-aggregate-build-nodes-3
-    build-nodes-requires
-    array-share-prefix-flat
     slice-aggregate-find-meeting
     find-meeting-requires
     enum-told
     enum-told-2
     returns
-    array-share-prefix-nodes
     slice-aggregate-find-unbalanced
     find-unbalanced-requires
     returns-2)

@@ -1,28 +1,40 @@
--- The part of the working memory that the ends need is lent and comes back. Assumes nothing.
+-- The ordered ends stand at the front of their list. Assumes nothing.
 use borrow.Author.Needs.{needs}
 use mathlib.Core.Path.{_≡_, refl, sym, ap, _∙_}
-use mathlib.Core.List.{List, _++_}
+use mathlib.Core.List.{List}
 use native.Mathlib.Omega.{arith}
 use Prim.Native.Nat.{ℕ, _*_, _≤_}
-use lib.ListN.{length, take, drop, replicate}
-use lib.Seq.{length-take-le, length-front}
+use lib.ListN.{length, take}
+use lib.Seq.{length-take-le}
 use Rattle.segm.specs.Segments.{Drawing, segments}
 use Rattle.segm.proofs.Segments.{length-segments, segment-in}
-use Rattle.ends.proofs.Parts.{prefix-back, prefix-length}
+use Rattle.graph.proofs.Fronts.{front-nodes, ends-room}
 use Rattle.neighbours.specs.Neighbours.{Ready}
 use Rattle.checks.proofs.Good.{good-proper}
 use Rattle.measure.proofs.is_swept.Statement.{statement}
 use Rattle.measure.proofs.is_swept.Tie as tie
 
+slice-aggregate-write-nodes : tie.Need-slice-aggregate-write-nodes
+slice-aggregate-write-nodes c = search needs
+
+slice-aggregate-write-nodes-2 : tie.Need-slice-aggregate-write-nodes-2
+slice-aggregate-write-nodes-2 c = search needs
+
+slice-aggregate-write-nodes-3 : tie.Need-slice-aggregate-write-nodes-3
+slice-aggregate-write-nodes-3 c = search needs
+
+write-nodes-requires : tie.Need-write-nodes-requires
+write-nodes-requires c κs = search needs
+
 count-requires : tie.Need-count-requires
 count-requires c κs = search needs
 
-abbrev fresh : List ℕ
-fresh = replicate 2048 0
-
 module _ (k : tie.After-count) where
+  abbrev w : tie.After-write-nodes
+  w = k .before .before .before .before
+
   abbrev s : tie.Start
-  s = k .before
+  s = w .before .before .before .before
 
   abbrev d : Drawing
   d = segments (s .args .s .now)
@@ -30,15 +42,14 @@ module _ (k : tie.After-count) where
   abbrev n : ℕ
   n = k .count .result
 
+  abbrev flat : List ℕ
+  flat = w .write-nodes .last .1 .0
+
   n-is : n ≡ length d
   n-is = k .count .ensures ∙ sym (length-segments (s .args .s .now))
 
-  room : 2 * n ≤ length fresh
-  room = omega (arith, n-is, s .pre .few)
-
-  -- the part that the ends need
-  as-many : length (take (2 * n) fresh) ≡ 2 * length d
-  as-many = length-take-le (2 * n) fresh room ∙ ap (2 *_) n-is
+  room : 2 * n ≤ length flat
+  room = ends-room d flat (w .write-nodes .last .1 .1 .0) (w .write-nodes .last .1 .1 .1 .0) (w .write-nodes .ensures) n n-is
 
   ready : Ready d
   ready = record {
@@ -48,60 +59,18 @@ module _ (k : tie.After-count) where
   }
 
 mul-e : tie.Need-mul-e
-mul-e c = record { fits = omega (arith, room c) }
-
-array-borrow-prefix-flat : tie.Need-array-borrow-prefix-flat
-array-borrow-prefix-flat c = room c
-
-slice-aggregate-build-nodes : tie.Need-slice-aggregate-build-nodes
-slice-aggregate-build-nodes c = sym (length-take-le _ _ (room (c .before)))
-
-slice-aggregate-build-nodes-2 : tie.Need-slice-aggregate-build-nodes-2
-slice-aggregate-build-nodes-2 c = search needs
-
-array-borrow-prefix-nodes : tie.Need-array-borrow-prefix-nodes
-array-borrow-prefix-nodes c = room (c .before .before)
-
-slice-aggregate-build-nodes-3 : tie.Need-slice-aggregate-build-nodes-3
-slice-aggregate-build-nodes-3 c = sym (length-take-le _ _ (room (c .before .before .before)))
-
-build-nodes-requires : tie.Need-build-nodes-requires
-build-nodes-requires c κs =
-    let k = c .before .before .before in
-    let g = s k .pre in
-    (g .rising, g .few, as-many k, omega (arith, g .few), as-many k)
-
--- the ordered ends, which came back
-module _ (b : tie.After-build-nodes) where
-  abbrev k : tie.After-count
-  k = b .before .before .before .before
-
-  abbrev flat : List ℕ
-  flat = b .build-nodes .last .1 .0
-
-  kept : length flat ≡ length (take (2 * n k) fresh)
-  kept = b .build-nodes .kept .1 .0
-
-  abbrev after : List ℕ
-  after = flat ++ drop (2 * n k) fresh
-
-  part-is : take (2 * n k) after ≡ flat
-  part-is = prefix-back (2 * n k) fresh flat (room k) kept
+mul-e c = record { fits = omega (arith, n-is c, s c .pre .few) }
 
 array-share-prefix-flat : tie.Need-array-share-prefix-flat
-array-share-prefix-flat c =
-    let b = c .before .before .before in
-    omega (arith, room (k b), length-front fresh (flat b) (2 * n (k b)) (kept b))
+array-share-prefix-flat c = room c
 
 slice-aggregate-is-clear : tie.Need-slice-aggregate-is-clear
-slice-aggregate-is-clear c =
-    let b = c .before .before .before .before in
-    sym (prefix-length (2 * n (k b)) fresh (flat b) (room (k b)) (kept b))
+slice-aggregate-is-clear c = sym (length-take-le _ _ (room (c .before)))
 
 is-clear-requires : tie.Need-is-clear-requires
 is-clear-requires c κs =
-    let b = c .before .before .before .before in
-    (ready (k b), part-is b ∙ b .build-nodes .ensures .order)
+    let k = c .before in
+    (ready k, front-nodes (d k) (flat k) (w k .write-nodes .last .1 .1 .0) (w k .write-nodes .last .1 .1 .1 .0) (w k .write-nodes .ensures) (n k) (n-is k) .order)
 
 returns : tie.Need-returns
 returns c = search needs
@@ -110,14 +79,12 @@ pub is-swept-spec : {M : Type 1} → statement M
 is-swept-spec =
     tie.close
     (tie.spec
+    slice-aggregate-write-nodes
+    slice-aggregate-write-nodes-2
+    slice-aggregate-write-nodes-3
+    write-nodes-requires
     count-requires
     mul-e
-    array-borrow-prefix-flat
-    slice-aggregate-build-nodes
-    slice-aggregate-build-nodes-2
-    array-borrow-prefix-nodes
-    slice-aggregate-build-nodes-3
-    build-nodes-requires
     array-share-prefix-flat
     slice-aggregate-is-clear
     is-clear-requires

@@ -31,7 +31,7 @@ check-clip-requires c κs = search needs
 -- what the checks told
 module _ (c : tie.After-check-clip) where
   abbrev s : tie.Start
-  s = c .before .before
+  s = c .before .before .before .before .before
 
   abbrev numbers : List ℤ
   numbers = s .args .segments .now
@@ -44,7 +44,7 @@ module _ (c : tie.After-check-clip) where
 
   said : c .check-clip .result ≡ verdict run
   said =
-      c .check-clip .ensures
+      c .check-clip .ensures .0
       ∙ (λ i. verdict (clipRun numbers (toZ-ofZ (s .fits .rule) i) (toZ-ofZ (s .fits .invert) i) (toZ-ofZ (s .fits .boundary) i) (length (s .args .points .now)) (length (s .args .lengths .now))))
 
   -- the outcome, by the verdict
@@ -64,11 +64,12 @@ filter-of-requires c κs = search needs
 clip-accepted-requires : tie.Need-clip-accepted-requires
 unfolding clipRun
 clip-accepted-requires c κs =
-    let t = c .before .before .before .before in
+    let t = c .before .before .before .before .before .before .before in
     let v = t .before .before in
     let accepted : verdict (run v) ≡ Accepted = sym (said v) ∙ t .enum-told .given .1 in
     let n = length-segments (numbers v) in (
       verdict-good (run v) accepted,
+      v .check-clip .ensures .1 (t .enum-told .given .1),
       omega (arith, n, verdict-room (run v) accepted (lent (length (s v .args .points .now)) 8) (inl refl)),
       omega (arith, n, verdict-room (run v) accepted (lent (length (s v .args .lengths .now)) 2) (inr (inl refl))),
     )
@@ -85,7 +86,7 @@ same-length-2 c = search needs
 returns : tie.Need-returns
 returns c =
     let a = c .before .before .before in
-    let f = a .before .before .before in
+    let f = a .before .before .before .before .before .before in
     let o = f .before in
     let t = o .before in
     let v = t .before .before in

@@ -37,7 +37,7 @@ check-slice-requires c κs = search needs
 -- what the checks told
 module _ (c : tie.After-check-slice) where
   abbrev s : tie.Start
-  s = c .before .before .before
+  s = c .before .before .before .before .before .before
 
   abbrev numbers : List ℤ
   numbers = s .args .segments .now
@@ -47,7 +47,7 @@ module _ (c : tie.After-check-slice) where
 
   said : c .check-slice .result ≡ verdict run
   said =
-      c .check-slice .ensures
+      c .check-slice .ensures .0
       ∙ ap₂ (λ (rule direction : ℤ). verdict (sliceRun numbers rule direction (length (s .args .points .now)) (length (s .args .lengths .now)) (length (s .args .roles .now)))) (toZ-ofZ (s .fits .rule)) (toZ-ofZ (s .fits .direction))
 
   abbrev contours : Option (List Contour)
@@ -76,11 +76,12 @@ rule-of-requires c κs = search needs
 slice-accepted-requires : tie.Need-slice-accepted-requires
 unfolding sliceRun
 slice-accepted-requires c κs =
-    let t = c .before .before .before .before in
+    let t = c .before .before .before .before .before .before .before in
     let v = t .before .before in
     let accepted : verdict (run v) ≡ Accepted = sym (said v) ∙ t .enum-told .given .1 in
     let n = length-segments (numbers v) in (
       verdict-good (run v) accepted,
+      v .check-slice .ensures .1 (t .enum-told .given .1),
       omega (arith, n, verdict-room (run v) accepted (lent (length (s v .args .points .now)) 4) (inl refl)),
       omega (arith, n, verdict-room (run v) accepted (lent (length (s v .args .lengths .now)) 2) (inr (inl refl))),
       omega (arith, n, verdict-room (run v) accepted (lent (length (s v .args .roles .now)) 2) (inr (inr (inl refl)))),
@@ -101,7 +102,7 @@ same-length-3 c = search needs
 -- the outcome of an accepted run
 module _ (a : tie.After-slice-accepted) where
   abbrev t : tie.After-enum-told
-  t = a .before .before .before .before .before
+  t = a .before .before .before .before .before .before .before .before
 
   abbrev v : tie.After-check-slice
   v = t .before .before
@@ -113,9 +114,9 @@ module _ (a : tie.After-slice-accepted) where
       ap₂ (λ (q : Rule) b. handedOver (sliceContours q b (s v .args .min-area) (segments (numbers v))) (s v .args .points .now) (s v .args .lengths .now) (s v .args .roles .now)) rule direction
       ∙ by-verdict v (t .enum-told .given .1)
 
-  arrived : outcome (a .slice-accepted .result) (a .slice-accepted .last .1 .1 .1 .1 .0) (a .slice-accepted .last .1 .1 .1 .1 .1 .0) (a .slice-accepted .last .1 .1 .1 .1 .1 .1 .0)
+  arrived : outcome (a .slice-accepted .result) (a .slice-accepted .last .1 .1 .1 .1 .1 .1 .1 .0) (a .slice-accepted .last .1 .1 .1 .1 .1 .1 .1 .1 .0) (a .slice-accepted .last .1 .1 .1 .1 .1 .1 .1 .1 .1 .0)
       ≡ sliceOutcome (numbers v) (s v .args .rule) (s v .args .direction) (s v .args .min-area) (s v .args .points .now) (s v .args .lengths .now) (s v .args .roles .now)
-  arrived = a .slice-accepted .ensures ∙ by-choices (a .before .before .before .before .rule-of .ensures ∙ ap ruleOf (toZ-ofZ (s v .fits .rule))) (is-one (s v .fits .direction))
+  arrived = a .slice-accepted .ensures ∙ by-choices (a .before .before .before .before .before .before .before .rule-of .ensures ∙ ap ruleOf (toZ-ofZ (s v .fits .rule))) (is-one (s v .fits .direction))
 
 returns : tie.Need-returns
 returns c = arrived (c .before .before .before .before .before)

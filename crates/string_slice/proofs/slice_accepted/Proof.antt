@@ -38,19 +38,19 @@ enum-told c = search needs
 -- the drawing, and the three lists with the walks
 module _ (w : tie.After-make-walks) where
   abbrev s : tie.Start
-  s = w .before .before .before .before .before .before
+  s = w .before .before .before .before .before .before .before .before .before
 
   abbrev d : Drawing
   d = segments (s .args .s .now)
 
   abbrev points : List ℤ
-  points = w .make-walks .last .1 .1 .0
+  points = w .make-walks .last .1 .1 .1 .1 .1 .0
 
   abbrev lengths : List ℕ
-  lengths = w .make-walks .last .1 .1 .1 .0
+  lengths = w .make-walks .last .1 .1 .1 .1 .1 .1 .0
 
   abbrev directions : List ℕ
-  directions = w .make-walks .last .1 .1 .1 .1 .0
+  directions = w .make-walks .last .1 .1 .1 .1 .1 .1 .1 .0
 
 returns : tie.Need-returns
 returns c =
@@ -74,10 +74,10 @@ module _ (c : tie.After-made) where
   few = omega (arith, few-found (s w .args .rule) (d w) (s w .pre .0) walks-made, s w .pre .0 .few)
 
   lengths-room : n ≤ length (lengths w)
-  lengths-room = omega (arith, few, w .make-walks .kept .1 .1 .1 .0)
+  lengths-room = omega (arith, few, w .make-walks .kept .1 .1 .1 .1 .1 .1 .0)
 
   directions-room : n ≤ length (directions w)
-  directions-room = omega (arith, few, w .make-walks .kept .1 .1 .1 .1 .0)
+  directions-room = omega (arith, few, w .make-walks .kept .1 .1 .1 .1 .1 .1 .1 .0)
 
 slice-aggregate-cut-walks : tie.Need-slice-aggregate-cut-walks
 slice-aggregate-cut-walks c = search needs
@@ -99,11 +99,11 @@ cut-walks-requires c κs =
     let m = c .before .before .before .before .before .before .before in
     let p = s (w m) .pre in
     let number = few-points (s (w m) .args .rule) (d (w m)) (p .0) (walks-made m) in (
-      stand (s (w m) .args .rule) (d (w m)) (p .0) (walks-made m) (omega (arith, w m .make-walks .kept .1 .1 .0)),
+      stand (s (w m) .args .rule) (d (w m)) (p .0) (walks-made m) (omega (arith, w m .make-walks .kept .1 .1 .1 .1 .1 .0)),
       length-take-le (n m) (directions (w m)) (directions-room m) ∙ sym (length-take-le (n m) (lengths (w m)) (lengths-room m)),
-      omega (arith, number, p .1),
       omega (arith, number, p .2),
       omega (arith, number, p .3),
+      omega (arith, number, p .4),
     )
 
 same-length : tie.Need-same-length

@@ -1,56 +1,41 @@
--- What is written so far are the kept ones of the segments passed. Assumes nothing.
+-- What is written so far are the segments passed. Assumes nothing.
 use borrow.Author.Needs.{needs}
-use mathlib.Core.Path.{_≡_, refl, sym, ap, _∙_}
-use mathlib.Core.List.{List, [], _∷_, _++_, append-nil}
-use mathlib.Core.Logic.{⊎-elim}
-use mathlib.Core.Bool.{true, false}
+use mathlib.Core.Path.{_≡_, refl, sym, ap, ap₂, _∙_}
+use mathlib.Core.List.{List, [], _∷_, _++_}
 use native.Mathlib.Omega.{arith}
-use Prim.Native.Nat.{ℕ, _+_, _*_, _-_, _<_, _≤_}
-use lib.ListN.{length, take, drop, length-append, length-take}
-use lib.Seq.{take-all}
+use Prim.Native.Nat.{ℕ, _-_, _<_, _≤_}
+use lib.ListN.{length, getD, take, length-take}
+use lib.Seq.{take-all, length-take-le}
 use lib.IntN.{ℤ}
 use Rattle.segm.specs.declared.Segment.{Segment}
 use Rattle.segm.specs.Lists.{written}
-use Rattle.segm.specs.Segments.{Drawing, width, segments, numbersOf, laid}
-use Rattle.segm.proofs.Segments.{count-inside, count-past}
+use Rattle.segm.specs.Segments.{Drawing, segments, laid}
+use Rattle.segm.proofs.Segments.{count-inside, count-past, length-segments}
 use Rattle.segm.proofs.Laid.{written-put}
-use Rattle.build.specs.Links.{keptBy}
+use Rattle.build.specs.Links.{keeps, linesIf, maskedBy}
 use Rattle.build.proofs.Kept.{length-by, by-next}
 use Rattle.build.proofs.links.write_links.Statement.{statement}
 use Rattle.build.proofs.links.write_links.Tie as tie
 
--- the segments of d are on the list, and there are m
-record Written (d : Drawing) (old links : List ℤ) (m : ℕ) : Type 0 where
+-- the segments of d are on the list
+record Written (d : Drawing) (old links : List ℤ) : Type 0 where
   room : length links ≡ length old
   list : links ≡ written (laid d) old
-  many : m ≡ length d
-
-same : {d e : Drawing} {old links k : List ℤ} {m n : ℕ} → Written d old links m → k ≡ links → n ≡ m → d ≡ e → Written e old k n
-same {old = old} w p q r = record { room = ap length p ∙ w .room; list = p ∙ w .list ∙ ap (λ (f : Drawing). written (laid f) old) r; many = q ∙ w .many ∙ ap length r }
-
--- one more put
-more : {d : Drawing} {old links k : List ℤ} {m : ℕ} (t : Segment) → Written d old links m → length k ≡ length links
-    → k ≡ take (m * width) links ++ (numbersOf t ++ drop (m * width + width) links) → Written (d ++ (t ∷ [])) old k (m + 1)
-more {d} {old} {links} {k} {m} t w room put = record {
-  room = room ∙ w .room;
-  list = put ∙ written-put d old t links m (w .list) (w .many);
-  many = ap (λ n. n + 1) (w .many) ∙ sym (length-append d (t ∷ []));
-}
 
 abbrev Inv-loop : tie.InvT-loop
-Inv-loop s fills filter links₀ n m₀ i₀ links m i = Written (keptBy filter (take i (segments s)) fills) links₀ links m
+Inv-loop s fills filter links₀ n i₀ links i = (i ≤ n) × Written (maskedBy filter (take i (segments s)) fills) links₀ links
 
 abbrev μ-loop : tie.MeasureT-loop
-μ-loop s fills filter links₀ n m₀ i₀ links m i = n - i
+μ-loop s fills filter links₀ n i₀ links i = n - i
 
 count-requires : tie.Need-count-requires Inv-loop μ-loop
 count-requires c κs = search needs
 
 loop-holds : tie.Need-loop-holds Inv-loop μ-loop
-unfolding written keptBy laid
-loop-holds c = record { room = refl; list = refl; many = refl }
+unfolding written maskedBy laid
+loop-holds c = (omega arith, record { room = refl; list = refl })
 
--- the place looked at, and what is kept so far
+-- the place looked at, and what is written so far
 module _ (c : tie.In-loop Inv-loop μ-loop) where
   abbrev l : tie.At-loop Inv-loop μ-loop
   l = c .before
@@ -61,8 +46,8 @@ module _ (c : tie.In-loop Inv-loop μ-loop) where
   abbrev d : Drawing
   d = segments (s .args .s .now)
 
-  abbrev kept : Drawing
-  kept = keptBy (s .args .filter) (take (l .loop .i) d) (s .args .fills .now)
+  abbrev passed : Drawing
+  passed = maskedBy (s .args .filter) (take (l .loop .i) d) (s .args .fills .now)
 
   inside : l .loop .i < length d
   inside = count-inside (s .args .s .now) (l .before .count .ensures) (c .loop-test .taken)
@@ -70,8 +55,10 @@ module _ (c : tie.In-loop Inv-loop μ-loop) where
   known : l .loop .i < length (s .args .fills .now)
   known = omega (arith, inside, s .pre .0)
 
-  few : l .loop .m ≤ l .loop .i
-  few = omega (arith, l .loop .inv .many, length-by (s .args .filter) (take (l .loop .i) d) (s .args .fills .now), length-take (l .loop .i) d)
+  many : l .loop .i ≡ length passed
+  many =
+      let h : length (take (l .loop .i) d) ≡ l .loop .i = length-take-le (l .loop .i) d (omega (arith, inside)) in
+      sym (length-by (s .args .filter) (take (l .loop .i) d) (s .args .fills .now) (omega (arith, h, known)) ∙ h)
 
 shared-slice-read-keeps : tie.Need-shared-slice-read-keeps Inv-loop μ-loop
 shared-slice-read-keeps c = known (c .before)
@@ -82,15 +69,13 @@ keeps-requires c κs = search needs
 segment-at-requires : tie.Need-segment-at-requires Inv-loop μ-loop
 segment-at-requires c κs = search needs
 
+lines-if-requires : tie.Need-lines-if-requires Inv-loop μ-loop
+lines-if-requires c κs = search needs
+
 put-requires : tie.Need-put-requires Inv-loop μ-loop
 put-requires c κs =
     let t = c .before .before .before .before .before in
-    omega (arith, few t, inside t, l t .loop .inv .room, s t .pre .1)
-
-add-m : tie.Need-add-m Inv-loop μ-loop
-add-m c =
-    let t = c .before .before .before .before .before .before .before in
-    record { fits = omega (arith, few t, t .loop-test .taken) }
+    omega (arith, inside t, l t .loop .inv .1 .room, s t .pre .1)
 
 add-i : tie.Need-add-i Inv-loop μ-loop
 add-i c = search needs
@@ -100,23 +85,27 @@ loop-less c = search needs
 
 loop-again : tie.Need-loop-again Inv-loop μ-loop
 loop-again c =
-    let t = c .before .before .before in
-    let next = by-next (s t .args .filter) (d t) (s t .args .fills .now) (l t .loop .i) (inside t) (known t) in
-    let tested = sym (c .before .keeps .ensures) in
-    ⊎-elim
-    (λ w. same (more (w .2 .result) (l t .loop .inv) (w .3 .kept .0) (w .3 .ensures)) (w .5) (w .6) (ap (λ (u : Segment). kept t ++ (u ∷ [])) (w .2 .ensures) ∙ sym (next true (tested ∙ w .0 .taken))))
-    (λ w. same (l t .loop .inv) (w .1) (w .2) (sym (next false (tested ∙ w .0 .left) ∙ append-nil (kept t))))
-    (c .if1 .came)
+    let p = c .before in
+    let f = p .before in
+    let t = f .before .before .before .before .before in
+    let next = by-next (s t .args .filter) (d t) (s t .args .fills .now) (l t .loop .i) (inside t) (known t) in (
+      omega arith,
+      record {
+        room = p .put .kept .0 ∙ l t .loop .inv .1 .room;
+        list = p .put .ensures ∙ written-put (passed t) (s t .args .links .now) (f .lines-if .result) (l t .loop .links) (l t .loop .i) (l t .loop .inv .1 .list) (many t)
+            ∙ ap (λ (e : Drawing). written (laid e) (s t .args .links .now)) (ap (λ (u : Segment). passed t ++ (u ∷ [])) (f .lines-if .ensures ∙ ap₂ linesIf (f .before .before .before .keeps .ensures) (f .before .segment-at .ensures)) ∙ sym next);
+      },
+    )
 
 same-length : tie.Need-same-length Inv-loop μ-loop
-same-length c = c .before .loop .inv .room
+same-length c = c .before .loop .inv .1 .room
 
 returns : tie.Need-returns Inv-loop μ-loop
 returns c =
     let a = c .before in
     let q = a .before .before .before in
-    let w = same (a .loop .inv) refl refl (ap (λ (e : Drawing). keptBy (q .args .filter) e (q .args .fills .now)) (take-all (a .loop .i) (segments (q .args .s .now)) (count-past (q .args .s .now) (a .before .count .ensures) (c .loop-test .left)))) in
-    (w .list, w .many)
+    a .loop .inv .1 .list
+    ∙ ap (λ (e : Drawing). written (laid (maskedBy (q .args .filter) e (q .args .fills .now))) (q .args .links .now)) (take-all (a .loop .i) (segments (q .args .s .now)) (count-past (q .args .s .now) (a .before .count .ensures) (c .loop-test .left)))
 
 pub write-links-spec : {M : Type 1} → statement M
 write-links-spec =
@@ -129,8 +118,8 @@ write-links-spec =
     shared-slice-read-keeps
     keeps-requires
     segment-at-requires
+    lines-if-requires
     put-requires
-    add-m
     add-i
     loop-less
     loop-again

@@ -22,15 +22,6 @@ slice-aggregate-walk-links c = search needs
 slice-aggregate-walk-links-2 : tie.Need-slice-aggregate-walk-links-2
 slice-aggregate-walk-links-2 c = search needs
 
-slice-aggregate-walk-links-3 : tie.Need-slice-aggregate-walk-links-3
-slice-aggregate-walk-links-3 c = search needs
-
-slice-aggregate-walk-links-4 : tie.Need-slice-aggregate-walk-links-4
-slice-aggregate-walk-links-4 c = search needs
-
-slice-aggregate-walk-links-5 : tie.Need-slice-aggregate-walk-links-5
-slice-aggregate-walk-links-5 c = search needs
-
 walk-links-requires : tie.Need-walk-links-requires
 walk-links-requires c κs = search needs
 
@@ -53,8 +44,8 @@ module _ (n : tie.After-walk-links) where
   steps-are : n .walk-links .result .points - n .walk-links .result .paths ≡ length (stepsOf paths)
   steps-are = omega (arith, paths-are, points-are, found .points)
 
-sub-t24 : tie.Need-sub-t24
-sub-t24 c = let n = c .before .before .before .before .before .before .before .before .before in omega (arith, paths-are n, points-are n, found n .points)
+sub-t18 : tie.Need-sub-t18
+sub-t18 c = let n = c .before .before .before .before .before .before in omega (arith, paths-are n, points-are n, found n .points)
 
 travel-requires : tie.Need-travel-requires
 travel-requires c κs = search needs
@@ -68,7 +59,7 @@ same-length-2 c = search needs
 returns : tie.Need-returns
 unfolding totals
 returns c =
-    let n = c .before .before .before .before .before .before .before .before .before .before in
+    let n = c .before .before .before .before .before .before .before in
     let travel-is : c .travel .result ≡ tally travelOf (stepsOf (paths n)) = c .travel .ensures ∙ sym (found n .travel) in
     (λ i. record { paths = paths-are n i; points = points-are n i; steps = steps-are n i; travel = travel-is i }, n .walk-links .ensures .1)
 
@@ -78,11 +69,8 @@ clip-links-spec =
     (tie.spec
     slice-aggregate-walk-links
     slice-aggregate-walk-links-2
-    slice-aggregate-walk-links-3
-    slice-aggregate-walk-links-4
-    slice-aggregate-walk-links-5
     walk-links-requires
-    sub-t24
+    sub-t18
     travel-requires
     same-length
     same-length-2

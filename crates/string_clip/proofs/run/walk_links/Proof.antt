@@ -10,6 +10,7 @@ use Rattle.segm.specs.Segments.{Drawing, segments}
 use Rattle.segm.proofs.Segments.{length-segments}
 use Rattle.ends.proofs.Parts.{prefix-back, prefix-length}
 use Rattle.graph.specs.Nodes.{Nodes}
+use Rattle.graph.proofs.Fronts.{front-nodes, ends-room, numbers-room}
 use Rattle.clip_walk.specs.Walk.{lineBits}
 use Rattle.string_clip.specs.Writing.{Walking}
 use Rattle.string_clip.proofs.run.walk_links.Statement.{statement}
@@ -34,117 +35,70 @@ module _ (k : tie.After-count) where
   few : m ≤ 1024
   few = omega (arith, m-is, s .pre .0 .few)
 
+  -- the nodes, in the parts of the lists that are theirs
+  nodes-are : Nodes links (take (2 * m) (s .args .flat .now)) (s .args .starts .now) (take (2 * m) (s .args .nodes .now))
+  nodes-are = front-nodes links (s .args .flat .now) (s .args .starts .now) (s .args .nodes .now) (s .pre .1) m m-is
+
   flat-room : 2 * m ≤ length (s .args .flat .now)
-  flat-room = omega (arith, few, s .pre .1)
+  flat-room = ends-room links (s .args .flat .now) (s .args .starts .now) (s .args .nodes .now) (s .pre .1) m m-is
 
   nodes-room : 2 * m ≤ length (s .args .nodes .now)
-  nodes-room = omega (arith, few, s .pre .3)
+  nodes-room = numbers-room links (s .args .flat .now) (s .args .starts .now) (s .args .nodes .now) (s .pre .1) m m-is
 
   bits-room : m ≤ length (s .args .bits .now)
-  bits-room = omega (arith, few, s .pre .4)
+  bits-room = omega (arith, few, s .pre .2)
 
 mul-e : tie.Need-mul-e
 mul-e c = record { fits = omega (arith, few c) }
 
-slice-relend-prefix-build-nodes : tie.Need-slice-relend-prefix-build-nodes
-slice-relend-prefix-build-nodes c = flat-room c
-
-slice-aggregate-build-nodes : tie.Need-slice-aggregate-build-nodes
-slice-aggregate-build-nodes c = sym (length-take-le _ _ (flat-room (c .before)))
-
-slice-relend-prefix-build-nodes-2 : tie.Need-slice-relend-prefix-build-nodes-2
-slice-relend-prefix-build-nodes-2 c = nodes-room (c .before .before)
-
-slice-aggregate-build-nodes-2 : tie.Need-slice-aggregate-build-nodes-2
-slice-aggregate-build-nodes-2 c = sym (length-take-le _ _ (nodes-room (c .before .before .before)))
-
-build-nodes-requires : tie.Need-build-nodes-requires
-build-nodes-requires c κs =
-    let k = c .before .before .before in
-    let p = s k .pre in (
-      p .0 .rising,
-      p .0 .few,
-      length-take-le _ _ (flat-room k) ∙ ap (2 *_) (m-is k),
-      omega (arith, p .0 .few, p .2),
-      length-take-le _ _ (nodes-room k) ∙ ap (2 *_) (m-is k),
-    )
-
--- the nodes, in the parts that came back
-module _ (b : tie.After-build-nodes) where
-  abbrev k : tie.After-count
-  k = b .before .before .before .before
-
-  abbrev flat-after : List ℕ
-  flat-after = b .build-nodes .last .1 .0 ++ drop (2 * m k) (s k .args .flat .now)
-
-  abbrev nodes-after : List ℕ
-  nodes-after = b .build-nodes .last .1 .1 .1 .0 ++ drop (2 * m k) (s k .args .nodes .now)
-
-  flat-back : take (2 * m k) flat-after ≡ b .build-nodes .last .1 .0
-  flat-back = prefix-back (2 * m k) (s k .args .flat .now) (b .build-nodes .last .1 .0) (flat-room k) (b .build-nodes .kept .1 .0)
-
-  nodes-back : take (2 * m k) nodes-after ≡ b .build-nodes .last .1 .1 .1 .0
-  nodes-back = prefix-back (2 * m k) (s k .args .nodes .now) (b .build-nodes .last .1 .1 .1 .0) (nodes-room k) (b .build-nodes .kept .1 .1 .1 .0)
-
-  nodes-are : Nodes (links k) (take (2 * m k) flat-after) (b .build-nodes .last .1 .1 .0) (take (2 * m k) nodes-after)
-  nodes-are =
-      subst (λ (l : List ℕ). Nodes (links k) l (b .build-nodes .last .1 .1 .0) (take (2 * m k) nodes-after)) (sym flat-back)
-      (subst (λ (l : List ℕ). Nodes (links k) (b .build-nodes .last .1 .0) (b .build-nodes .last .1 .1 .0) l) (sym nodes-back) (b .build-nodes .ensures))
-
 slice-relend-prefix-line-bits : tie.Need-slice-relend-prefix-line-bits
-slice-relend-prefix-line-bits c = bits-room (k (c .before .before .before .before .before .before))
+slice-relend-prefix-line-bits c = bits-room c
 
 slice-aggregate-line-bits : tie.Need-slice-aggregate-line-bits
-slice-aggregate-line-bits c = sym (length-take-le _ _ (bits-room (k (c .before .before .before .before .before .before .before))))
+slice-aggregate-line-bits c = sym (length-take-le _ _ (bits-room (c .before)))
 
 line-bits-requires : tie.Need-line-bits-requires
-line-bits-requires c κs = let n = k (c .before .before .before .before .before .before .before) in (s n .pre .0, length-take-le _ _ (bits-room n) ∙ m-is n)
+line-bits-requires c κs = let n = c .before in (s n .pre .0, length-take-le _ _ (bits-room n) ∙ m-is n)
 
 -- the line bits, in the part that came back
 module _ (i : tie.After-line-bits) where
-  abbrev b : tie.After-build-nodes
-  b = i .before .before .before .before .before .before .before .before
+  abbrev k : tie.After-count
+  k = i .before .before
 
   abbrev bits-after : List ℕ
-  bits-after = i .line-bits .last .1 .0 ++ drop (m (k b)) (s (k b) .args .bits .now)
+  bits-after = i .line-bits .last .1 .0 ++ drop (m k) (s k .args .bits .now)
 
-  bits-back : take (m (k b)) bits-after ≡ lineBits (links (k b))
-  bits-back = prefix-back (m (k b)) (s (k b) .args .bits .now) (i .line-bits .last .1 .0) (bits-room (k b)) (i .line-bits .kept .1 .0) ∙ i .line-bits .ensures
+  bits-back : take (m k) bits-after ≡ lineBits (links k)
+  bits-back = prefix-back (m k) (s k .args .bits .now) (i .line-bits .last .1 .0) (bits-room k) (i .line-bits .kept .1 .0) ∙ i .line-bits .ensures
 
-  bits-number : length (take (m (k b)) bits-after) ≡ m (k b)
-  bits-number = prefix-length (m (k b)) (s (k b) .args .bits .now) (i .line-bits .last .1 .0) (bits-room (k b)) (i .line-bits .kept .1 .0)
+  bits-number : length (take (m k) bits-after) ≡ m k
+  bits-number = prefix-length (m k) (s k .args .bits .now) (i .line-bits .last .1 .0) (bits-room k) (i .line-bits .kept .1 .0)
 
-  walking : Walking (links (k b)) (take (2 * m (k b)) (flat-after b)) (b .build-nodes .last .1 .1 .0) (take (2 * m (k b)) (nodes-after b)) (take (m (k b)) bits-after)
-  walking = record { kept = s (k b) .pre .0; nodes-are = nodes-are b; as-many = bits-number ∙ m-is (k b) }
-
-slice-reshare-prefix-write-paths : tie.Need-slice-reshare-prefix-write-paths
-slice-reshare-prefix-write-paths c = let b = c .before .before .before .before .before .before .before .before .before .before in omega (arith, flat-room (k b), length-front (s (k b) .args .flat .now) (b .build-nodes .last .1 .0) (2 * m (k b)) (b .build-nodes .kept .1 .0))
+  walking : Walking (links k) (take (2 * m k) (s k .args .flat .now)) (s k .args .starts .now) (take (2 * m k) (s k .args .nodes .now)) (take (m k) bits-after)
+  walking = record { kept = s k .pre .0; nodes-are = nodes-are k; as-many = bits-number ∙ m-is k }
 
 slice-aggregate-write-paths : tie.Need-slice-aggregate-write-paths
-slice-aggregate-write-paths c = let b = c .before .before .before .before .before .before .before .before .before .before .before in sym (prefix-length (2 * m (k b)) (s (k b) .args .flat .now) (b .build-nodes .last .1 .0) (flat-room (k b)) (b .build-nodes .kept .1 .0))
-
-slice-reshare-prefix-write-paths-2 : tie.Need-slice-reshare-prefix-write-paths-2
-slice-reshare-prefix-write-paths-2 c = let b = c .before .before .before .before .before .before .before .before .before .before .before .before in omega (arith, nodes-room (k b), length-front (s (k b) .args .nodes .now) (b .build-nodes .last .1 .1 .1 .0) (2 * m (k b)) (b .build-nodes .kept .1 .1 .1 .0))
+slice-aggregate-write-paths c = sym (length-take-le _ _ (flat-room (k (c .before .before .before))))
 
 slice-aggregate-write-paths-2 : tie.Need-slice-aggregate-write-paths-2
-slice-aggregate-write-paths-2 c = let b = c .before .before .before .before .before .before .before .before .before .before .before .before .before in sym (prefix-length (2 * m (k b)) (s (k b) .args .nodes .now) (b .build-nodes .last .1 .1 .1 .0) (nodes-room (k b)) (b .build-nodes .kept .1 .1 .1 .0))
+slice-aggregate-write-paths-2 c = sym (length-take-le _ _ (nodes-room (k (c .before .before .before .before))))
 
 slice-relend-prefix-write-paths : tie.Need-slice-relend-prefix-write-paths
-slice-relend-prefix-write-paths c = let i = c .before .before .before .before .before in omega (arith, bits-room (k (b i)), length-front (s (k (b i)) .args .bits .now) (i .line-bits .last .1 .0) (m (k (b i))) (i .line-bits .kept .1 .0))
+slice-relend-prefix-write-paths c = let i = c .before .before .before .before in omega (arith, bits-room (k i), length-front (s (k i) .args .bits .now) (i .line-bits .last .1 .0) (m (k i)) (i .line-bits .kept .1 .0))
 
 slice-aggregate-write-paths-3 : tie.Need-slice-aggregate-write-paths-3
-slice-aggregate-write-paths-3 c = sym (bits-number (c .before .before .before .before .before .before))
+slice-aggregate-write-paths-3 c = sym (bits-number (c .before .before .before .before .before))
 
 write-paths-requires : tie.Need-write-paths-requires
 write-paths-requires c κs =
-    let i = c .before .before .before .before .before .before .before .before .before in
-    let n = k (b i) in
+    let i = c .before .before .before .before .before .before .before .before in
+    let n = k i in
     let p = s n .pre in (
       walking i,
       bits-back i,
-      omega (arith, bits-number i, few n, p .5),
-      omega (arith, bits-number i, m-is n, p .6),
-      omega (arith, bits-number i, m-is n, p .7),
+      omega (arith, bits-number i, few n, p .3),
+      omega (arith, bits-number i, m-is n, p .4),
+      omega (arith, bits-number i, m-is n, p .5),
     )
 
 same-length : tie.Need-same-length
@@ -159,15 +113,6 @@ same-length-3 c = search needs
 same-length-4 : tie.Need-same-length-4
 same-length-4 c = search needs
 
-same-length-5 : tie.Need-same-length-5
-same-length-5 c = search needs
-
-same-length-6 : tie.Need-same-length-6
-same-length-6 c = search needs
-
-same-length-7 : tie.Need-same-length-7
-same-length-7 c = search needs
-
 returns : tie.Need-returns
 returns c = search needs
 
@@ -177,17 +122,10 @@ walk-links-spec =
     (tie.spec
     count-requires
     mul-e
-    slice-relend-prefix-build-nodes
-    slice-aggregate-build-nodes
-    slice-relend-prefix-build-nodes-2
-    slice-aggregate-build-nodes-2
-    build-nodes-requires
     slice-relend-prefix-line-bits
     slice-aggregate-line-bits
     line-bits-requires
-    slice-reshare-prefix-write-paths
     slice-aggregate-write-paths
-    slice-reshare-prefix-write-paths-2
     slice-aggregate-write-paths-2
     slice-relend-prefix-write-paths
     slice-aggregate-write-paths-3
@@ -196,7 +134,4 @@ walk-links-spec =
     same-length-2
     same-length-3
     same-length-4
-    same-length-5
-    same-length-6
-    same-length-7
     returns)

@@ -11,6 +11,7 @@ use Rattle.segm.proofs.Lists.{written-whole}
 use Rattle.segm.proofs.Segments.{length-segments}
 use Rattle.ends.proofs.Parts.{prefix-back, prefix-length}
 use Rattle.graph.specs.Nodes.{Nodes}
+use Rattle.graph.proofs.Fronts.{front-nodes, ends-room, numbers-room}
 use Rattle.ray.specs.Ray.{fills}
 use Rattle.ray.proofs.Fills.{length-fills}
 use Rattle.slice_walk.specs.Walk.{walks}
@@ -42,11 +43,15 @@ module _ (k : tie.After-count) where
   bits-room : m ≤ length (s .args .bits .now)
   bits-room = omega (arith, few, s .pre .1)
 
+  -- the nodes, in the parts of the lists that are theirs
+  nodes-are : Nodes links (take (2 * m) (s .args .flat .now)) (s .args .starts .now) (take (2 * m) (s .args .nodes .now))
+  nodes-are = front-nodes links (s .args .flat .now) (s .args .starts .now) (s .args .nodes .now) (s .pre .2) m m-is
+
   flat-room : 2 * m ≤ length (s .args .flat .now)
-  flat-room = omega (arith, few, s .pre .2)
+  flat-room = ends-room links (s .args .flat .now) (s .args .starts .now) (s .args .nodes .now) (s .pre .2) m m-is
 
   nodes-room : 2 * m ≤ length (s .args .nodes .now)
-  nodes-room = omega (arith, few, s .pre .4)
+  nodes-room = numbers-room links (s .args .flat .now) (s .args .starts .now) (s .args .nodes .now) (s .pre .2) m m-is
 
 mul-e : tie.Need-mul-e
 mul-e c = record { fits = omega (arith, few c) }
@@ -107,83 +112,34 @@ module _ (h : tie.After-keep-sides) where
   sides-room : m (k f) ≤ length bits-after
   sides-room = omega (arith, fills-room f, length-front (fills-after f) (h .keep-sides .last .0) (m (k f)) (h .keep-sides .kept .0))
 
-slice-relend-prefix-build-nodes : tie.Need-slice-relend-prefix-build-nodes
-slice-relend-prefix-build-nodes c = flat-room (k (f (c .before .before)))
-
-slice-aggregate-build-nodes : tie.Need-slice-aggregate-build-nodes
-slice-aggregate-build-nodes c = sym (length-take-le _ _ (flat-room (k (f (c .before .before .before)))))
-
-slice-relend-prefix-build-nodes-2 : tie.Need-slice-relend-prefix-build-nodes-2
-slice-relend-prefix-build-nodes-2 c = nodes-room (k (f (c .before .before .before .before)))
-
-slice-aggregate-build-nodes-2 : tie.Need-slice-aggregate-build-nodes-2
-slice-aggregate-build-nodes-2 c = sym (length-take-le _ _ (nodes-room (k (f (c .before .before .before .before .before)))))
-
-build-nodes-requires : tie.Need-build-nodes-requires
-build-nodes-requires c κs =
-    let n = k (f (c .before .before .before .before .before)) in
-    let p = s n .pre in (
-      p .0 .rising,
-      p .0 .few,
-      length-take-le _ _ (flat-room n) ∙ ap (2 *_) (m-is n),
-      omega (arith, p .0 .few, p .3),
-      length-take-le _ _ (nodes-room n) ∙ ap (2 *_) (m-is n),
-    )
-
--- the nodes, in the parts that came back
-module _ (b : tie.After-build-nodes) where
-  abbrev h : tie.After-keep-sides
-  h = b .before .before .before .before .before .before
-
+-- the walk over the nodes and the side bits
+module _ (h : tie.After-keep-sides) where
   abbrev n : tie.After-count
   n = k (f h)
 
-  abbrev flat-after : List ℕ
-  flat-after = b .build-nodes .last .1 .0 ++ drop (2 * m n) (s n .args .flat .now)
-
-  abbrev nodes-after : List ℕ
-  nodes-after = b .build-nodes .last .1 .1 .1 .0 ++ drop (2 * m n) (s n .args .nodes .now)
-
-  flat-back : take (2 * m n) flat-after ≡ b .build-nodes .last .1 .0
-  flat-back = prefix-back (2 * m n) (s n .args .flat .now) (b .build-nodes .last .1 .0) (flat-room n) (b .build-nodes .kept .1 .0)
-
-  nodes-back : take (2 * m n) nodes-after ≡ b .build-nodes .last .1 .1 .1 .0
-  nodes-back = prefix-back (2 * m n) (s n .args .nodes .now) (b .build-nodes .last .1 .1 .1 .0) (nodes-room n) (b .build-nodes .kept .1 .1 .1 .0)
-
-  nodes-are : Nodes (links n) (take (2 * m n) flat-after) (b .build-nodes .last .1 .1 .0) (take (2 * m n) nodes-after)
-  nodes-are =
-      subst (λ (l : List ℕ). Nodes (links n) l (b .build-nodes .last .1 .1 .0) (take (2 * m n) nodes-after)) (sym flat-back)
-      (subst (λ (l : List ℕ). Nodes (links n) (b .build-nodes .last .1 .0) (b .build-nodes .last .1 .1 .0) l) (sym nodes-back) (b .build-nodes .ensures))
-
-  walking : Walking (links n) (take (2 * m n) flat-after) (b .build-nodes .last .1 .1 .0) (take (2 * m n) nodes-after) (take (m n) (bits-after h))
-  walking = record { proper = proper (links n) (s n .pre .0); nodes-are = nodes-are; as-many = bits-number h ∙ m-is n }
-
-slice-reshare-prefix-write-walks : tie.Need-slice-reshare-prefix-write-walks
-slice-reshare-prefix-write-walks c = let b = c .before .before .before .before .before .before in omega (arith, flat-room (n b), length-front (s (n b) .args .flat .now) (b .build-nodes .last .1 .0) (2 * m (n b)) (b .build-nodes .kept .1 .0))
+  walking : Walking (links n) (take (2 * m n) (s n .args .flat .now)) (s n .args .starts .now) (take (2 * m n) (s n .args .nodes .now)) (take (m n) (bits-after h))
+  walking = record { proper = proper (links n) (s n .pre .0); nodes-are = nodes-are n; as-many = bits-number h ∙ m-is n }
 
 slice-aggregate-write-walks : tie.Need-slice-aggregate-write-walks
-slice-aggregate-write-walks c = let b = c .before .before .before .before .before .before .before in sym (prefix-length (2 * m (n b)) (s (n b) .args .flat .now) (b .build-nodes .last .1 .0) (flat-room (n b)) (b .build-nodes .kept .1 .0))
-
-slice-reshare-prefix-write-walks-2 : tie.Need-slice-reshare-prefix-write-walks-2
-slice-reshare-prefix-write-walks-2 c = let b = c .before .before .before .before .before .before .before .before in omega (arith, nodes-room (n b), length-front (s (n b) .args .nodes .now) (b .build-nodes .last .1 .1 .1 .0) (2 * m (n b)) (b .build-nodes .kept .1 .1 .1 .0))
+slice-aggregate-write-walks c = let k = n (c .before .before .before) in sym (length-take-le _ _ (flat-room k))
 
 slice-aggregate-write-walks-2 : tie.Need-slice-aggregate-write-walks-2
-slice-aggregate-write-walks-2 c = let b = c .before .before .before .before .before .before .before .before .before in sym (prefix-length (2 * m (n b)) (s (n b) .args .nodes .now) (b .build-nodes .last .1 .1 .1 .0) (nodes-room (n b)) (b .build-nodes .kept .1 .1 .1 .0))
+slice-aggregate-write-walks-2 c = let k = n (c .before .before .before .before) in sym (length-take-le _ _ (nodes-room k))
 
 slice-relend-prefix-write-walks : tie.Need-slice-relend-prefix-write-walks
-slice-relend-prefix-write-walks c = sides-room (h (c .before .before .before .before .before .before .before .before .before))
+slice-relend-prefix-write-walks c = sides-room (c .before .before .before .before)
 
 slice-aggregate-write-walks-3 : tie.Need-slice-aggregate-write-walks-3
-slice-aggregate-write-walks-3 c = sym (bits-number (h (c .before .before .before .before .before .before .before .before .before .before)))
+slice-aggregate-write-walks-3 c = sym (bits-number (c .before .before .before .before .before))
 
 write-walks-requires : tie.Need-write-walks-requires
 write-walks-requires c κs =
-    let b = c .before .before .before .before .before .before .before .before .before .before .before .before .before in
+    let b = c .before .before .before .before .before .before .before .before in
     let p = s (n b) .pre in (
       walking b,
-      omega (arith, bits-number (h b), few (n b), p .5),
-      omega (arith, bits-number (h b), few (n b), p .6),
-      omega (arith, bits-number (h b), few (n b), p .7),
+      omega (arith, bits-number b, few (n b), p .3),
+      omega (arith, bits-number b, few (n b), p .4),
+      omega (arith, bits-number b, few (n b), p .5),
     )
 
 same-length : tie.Need-same-length
@@ -198,22 +154,13 @@ same-length-3 c = search needs
 same-length-4 : tie.Need-same-length-4
 same-length-4 c = search needs
 
-same-length-5 : tie.Need-same-length-5
-same-length-5 c = search needs
-
-same-length-6 : tie.Need-same-length-6
-same-length-6 c = search needs
-
-same-length-7 : tie.Need-same-length-7
-same-length-7 c = search needs
-
 returns : tie.Need-returns
 returns c =
     let w = c .before .before .before .before .before .before .before in
-    let b = w .before .before .before .before .before .before .before .before .before .before .before .before .before .before in
+    let b = w .before .before .before .before .before .before .before .before .before in
     let t = s (n b) .args in
     subst (λ (bits : List ℕ). WalksAre (links (n b)) (walks (links (n b)) bits) (t .points .now) (t .lengths .now) (t .directions .now) (w .write-walks .result) (w .write-walks .last .1 .1 .1 .1 .1 .0) (w .write-walks .last .1 .1 .1 .1 .1 .1 .0) (w .write-walks .last .1 .1 .1 .1 .1 .1 .1 .0))
-    (bits-back (h b)) (w .write-walks .ensures)
+    (bits-back b) (w .write-walks .ensures)
 
 pub walk-links-spec : {M : Type 1} → statement M
 walk-links-spec =
@@ -227,14 +174,7 @@ walk-links-spec =
     slice-relend-prefix-keep-sides
     slice-aggregate-keep-sides
     keep-sides-requires
-    slice-relend-prefix-build-nodes
-    slice-aggregate-build-nodes
-    slice-relend-prefix-build-nodes-2
-    slice-aggregate-build-nodes-2
-    build-nodes-requires
-    slice-reshare-prefix-write-walks
     slice-aggregate-write-walks
-    slice-reshare-prefix-write-walks-2
     slice-aggregate-write-walks-2
     slice-relend-prefix-write-walks
     slice-aggregate-write-walks-3
@@ -243,7 +183,4 @@ walk-links-spec =
     same-length-2
     same-length-3
     same-length-4
-    same-length-5
-    same-length-6
-    same-length-7
     returns)

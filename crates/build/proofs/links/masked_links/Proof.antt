@@ -1,13 +1,12 @@
 -- The fills as written tell what is kept. Assumes nothing.
 use borrow.Author.Needs.{needs}
 use mathlib.Core.Path.{ap, _∙_}
-use lib.ListN.{length}
 use Rattle.segm.specs.Lists.{written}
 use Rattle.segm.specs.Segments.{Drawing, segments, laid}
-use Rattle.build.specs.Links.{keptBy}
-use Rattle.build.proofs.Kept.{kept-by}
-use Rattle.build.proofs.links.kept_links.Statement.{statement}
-use Rattle.build.proofs.links.kept_links.Tie as tie
+use Rattle.build.specs.Links.{maskedBy}
+use Rattle.build.proofs.Kept.{masked-by}
+use Rattle.build.proofs.links.masked_links.Statement.{statement}
+use Rattle.build.proofs.links.masked_links.Tie as tie
 
 write-fills-requires : tie.Need-write-fills-requires
 write-fills-requires c κs = search needs
@@ -27,10 +26,10 @@ returns c =
     let f = w .before .before .before .before .before in
     let s = f .before .before .before in
     let d = segments (s .args .s .now) in
-    let kept = ap (keptBy (s .args .filter) d) (f .write-fills .ensures) ∙ kept-by (s .args .filter) (s .args .rule) d (s .args .fills .now) in
-    (w .write-links .ensures .0 ∙ ap (λ (e : Drawing). written (laid e) (s .args .links .now)) kept, w .write-links .ensures .1 ∙ ap length kept)
+    w .write-links .ensures
+    ∙ ap (λ (e : Drawing). written (laid e) (s .args .links .now)) (ap (maskedBy (s .args .filter) d) (f .write-fills .ensures) ∙ masked-by (s .args .filter) (s .args .rule) d (s .args .fills .now))
 
-pub kept-links-spec : {M : Type 1} → statement M
-kept-links-spec =
+pub masked-links-spec : {M : Type 1} → statement M
+masked-links-spec =
     tie.close
     (tie.spec write-fills-requires write-links-requires same-length same-length-2 returns)
