@@ -2,7 +2,7 @@
 use mathlib.Core.Path.{_≡_}
 use mathlib.Core.List.{List, map}
 use mathlib.Core.Bool.{true, false}
-use Prim.Native.Nat.{ℕ, suc, _*_, _%_, _<_, _≤_}
+use Prim.Native.Nat.{ℕ, suc, _+_, _*_, _%_, _<_, _≤_}
 use lib.ListN.{length, getD, take}
 use lib.IntN.{ℤ, pos, natAbs, _+ℤ_, _*ℤ_}
 use Rattle.geom.specs.declared.Point.{Point}
@@ -10,7 +10,7 @@ use Rattle.geom.specs.Points.{eqP}
 use Rattle.segm.specs.Lists.{upFrom}
 use Rattle.contour.specs.Points.{pairUp, origin}
 use Rattle.bin_store.specs.declared.store.BinStore.{BinStore}
-use Rattle.bin_store.specs.Sightings.{Sighting, sighting}
+use Rattle.bin_store.specs.Sightings.{Sighting, sighting, numberOf, sight}
 
 -- `bin_index` of p, of this many bins. The last number keeps the sum from being negative for every point in range
 unfoldable pub binIndex : ℕ → Point → ℕ
@@ -61,10 +61,15 @@ pub record Room (count : ℕ) (nexts : List ℕ) (seen : List ℤ) (numbers : Li
   pub seen-fit : 2 * suc count ≤ length seen
   pub numbers-fit : count < length numbers
 
--- ---- by value
-abbrev pub memoryOf : BinStore → List Sighting
-memoryOf s = memory (s .count) (s .seen) (s .numbers)
+-- the memory and its lists: the bins in use are the first
+pub record Sound (s : BinStore) (heads nexts : List ℕ) (seen : List ℤ) (numbers : List ℕ) : Type 0 where
+  pub bins-fit : s .bins ≤ length heads
+  pub binned : Binned (s .count) (take (s .bins) heads) nexts seen numbers
 
-pub record Sound (s : BinStore) : Type 0 where
-  pub bins-fit : s .bins ≤ 2048
-  pub binned : Binned (s .count) (take (s .bins) (s .heads)) (s .nexts) (s .seen) (s .numbers)
+-- what a sighting of p leaves of a memory s that held m, and the number r that it tells
+pub record Sights (m : List Sighting) (p : Point) (number : ℕ) (s s′ : BinStore) (heads nexts : List ℕ) (seen : List ℤ) (numbers : List ℕ) (r : ℕ) : Type 0 where
+  pub holds : memory (s′ .count) seen numbers ≡ sight m p number
+  pub tells : r ≡ numberOf (memory (s′ .count) seen numbers) p
+  pub same-bins : s′ .bins ≡ s .bins
+  pub one-more : s′ .count ≤ s .count + 1
+  pub sound : Sound s′ heads nexts seen numbers

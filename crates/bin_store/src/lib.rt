@@ -2,10 +2,10 @@
 mod lists;
 mod store;
 
-pub use lists::Seen;
 pub use lists::clear;
-pub use lists::insert_if_not_exist;
 pub use store::BinStore;
 pub use store::Inserted;
-pub use store::empty;
+pub use store::Seen;
 pub use store::insert;
+pub use store::insert_if_not_exist;
+pub use store::sight_point;

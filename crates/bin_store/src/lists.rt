@@ -4,17 +4,11 @@ use geom::Point;
 ghost use mathlib.Core.Path.{_≡_};
 ghost use mathlib.Core.List.{[], _∷_, _++_};
 ghost use mathlib.Core.Bool.{true};
-ghost use Prim.Native.Nat.{suc, _+_, _≤_, _<_};
+ghost use Prim.Native.Nat.{suc, _<_};
 ghost use lib.ListN.{length};
 ghost use Rattle.geom.specs.Points.{inRange};
-ghost use Rattle.bin_store.specs.Sightings.{sighting, numberOf, sight};
+ghost use Rattle.bin_store.specs.Sightings.{sighting};
 ghost use Rattle.bin_store.specs.Bins.{binIndex, memory, Unseen, Linked, Binned, Found, Room};
-
-// How many items there are after a look-up, and the number stored for the point.
-pub struct Seen {
-    pub count: usize,
-    pub number: u32,
-}
 
 // The bin of p, as the Rust has it but for the number of bins.
 fn bin_index(bins: usize, p: Point) -> usize
@@ -38,7 +32,7 @@ pub fn clear(heads: &mut [u32], nexts: &[u32], seen: &[i32], numbers: &[u32])
 }
 
 // The item that holds p, or 0. The count is for the contract.
-fn find(heads: &[u32], nexts: &[u32], seen: &[i32], count: usize, p: Point) -> usize
+pub fn find(heads: &[u32], nexts: &[u32], seen: &[i32], count: usize, p: Point) -> usize
     requires { ⌜ Linked count (now heads) (now nexts) (now seen) × (inRange p ≡ true) ⌝ }
     ensures { λ r. ⌜ Found count (now (seen .entry)) p r ⌝ }
 {
@@ -54,7 +48,7 @@ fn find(heads: &[u32], nexts: &[u32], seen: &[i32], count: usize, p: Point) -> u
 }
 
 // Stores p and its number as the next item.
-fn store(
+pub fn store(
     heads: &mut [u32],
     nexts: &mut [u32],
     seen: &mut [i32],
@@ -73,34 +67,4 @@ fn store(
     heads[b] = (count + 1) as u32;
     contour::put_point(seen, count, p);
     numbers[count] = number;
-}
-
-// The number stored for p, which is this one if p was not sighted before.
-pub fn insert_if_not_exist(
-    heads: &mut [u32],
-    nexts: &mut [u32],
-    seen: &mut [i32],
-    numbers: &mut [u32],
-    count: usize,
-    p: Point,
-    number: u32,
-) -> Seen
-    requires { ⌜ Binned count (now heads) (now nexts) (now seen) (now numbers) × Room count (now nexts) (now seen) (now numbers) × (inRange p ≡ true) ⌝ }
-    ensures { λ r. ⌜ (memory (r .count) (now (seen .exit)) (now (numbers .exit)) ≡ sight (memory count (now (seen .entry)) (now (numbers .entry))) p number)
-        × (r .number ≡ numberOf (memory (r .count) (now (seen .exit)) (now (numbers .exit))) p)
-        × (r .count ≤ count + 1)
-        × Binned (r .count) (now (heads .exit)) (now (nexts .exit)) (now (seen .exit)) (now (numbers .exit)) ⌝ }
-{
-    let j = find(heads, nexts, seen, count, p);
-    if 0 < j {
-        return Seen {
-            count: count,
-            number: numbers[j - 1],
-        };
-    }
-    store(heads, nexts, seen, numbers, count, p, number);
-    Seen {
-        count: count + 1,
-        number: number,
-    }
 }

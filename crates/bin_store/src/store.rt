@@ -1,22 +1,17 @@
-// The memory by value.
-use super::lists::insert_if_not_exist;
+// The memory beside its lists: by value, lent by `&mut`, and by plain parameters.
+use super::lists::find;
 use geom::Point;
 ghost use mathlib.Core.Path.{_≡_};
-ghost use mathlib.Core.List.{[]};
 ghost use mathlib.Core.Bool.{true};
-ghost use Prim.Native.Nat.{_≤_, _<_};
+ghost use Prim.Native.Nat.{_+_, _≤_};
 ghost use Rattle.geom.specs.Points.{inRange};
 ghost use Rattle.bin_store.specs.Sightings.{numberOf, sight};
-ghost use Rattle.bin_store.specs.Bins.{memoryOf, Sound};
+ghost use Rattle.bin_store.specs.Bins.{memory, Binned, Room, Sound, Sights};
 
-// Up to 2,048 points in up to 2,048 bins.
+// How many bins are in use and how many items are stored; the items stand in the lists beside it.
 pub struct BinStore {
     pub bins: usize,
     pub count: usize,
-    pub heads: [u32; 2048],
-    pub nexts: [u32; 2048],
-    pub seen: [i32; 4096],
-    pub numbers: [u32; 2048],
 }
 
 // The memory after a look-up, and the number stored for the point.
@@ -25,50 +20,85 @@ pub struct Inserted {
     pub number: u32,
 }
 
-// A memory of no points.
-pub fn empty(bins: usize) -> BinStore
-    requires { ⌜ (0 < bins) × (bins ≤ 2048) ⌝ }
-    ensures { λ r. ⌜ (memoryOf r ≡ []) × Sound r ⌝ }
-{
-    BinStore {
-        bins: bins,
-        count: 0,
-        heads: [0u32; 2048],
-        nexts: [0u32; 2048],
-        seen: [0i32; 4096],
-        numbers: [0u32; 2048],
-    }
+// How many items there are after a look-up, and the number stored for the point.
+pub struct Seen {
+    pub count: usize,
+    pub number: u32,
 }
 
 // The number stored for p, which is this one if p was not sighted before.
-pub fn insert(s: BinStore, p: Point, number: u32) -> Inserted
-    requires { ⌜ Sound s × (s .count < 2048) × (inRange p ≡ true) ⌝ }
-    ensures { λ r. ⌜ (memoryOf (r .store) ≡ sight (memoryOf s) p number) × (r .number ≡ numberOf (memoryOf (r .store)) p) × Sound (r .store) ⌝ }
+pub fn insert(
+    store: BinStore,
+    heads: &mut [u32],
+    nexts: &mut [u32],
+    seen: &mut [i32],
+    numbers: &mut [u32],
+    p: Point,
+    number: u32,
+) -> Inserted
+    requires { ⌜ Sound store (now heads) (now nexts) (now seen) (now numbers) × Room (store .count) (now nexts) (now seen) (now numbers) × (inRange p ≡ true) ⌝ }
+    ensures { λ r. ⌜ Sights (memory (store .count) (now (seen .entry)) (now (numbers .entry))) p number store (r .store) (now (heads .exit)) (now (nexts .exit)) (now (seen .exit)) (now (numbers .exit)) (r .number) ⌝ }
 {
-    let bins = s.bins;
-    let mut heads = s.heads;
-    let mut nexts = s.nexts;
-    let mut seen = s.seen;
-    let mut numbers = s.numbers;
-    let found = insert_if_not_exist(
-        &mut heads[..bins],
-        &mut nexts,
-        &mut seen,
-        &mut numbers,
-        s.count,
-        p,
-        number,
-    );
-    let store = BinStore {
-        bins: bins,
-        count: found.count,
-        heads: heads,
-        nexts: nexts,
-        seen: seen,
-        numbers: numbers,
-    };
+    let bins = store.bins;
+    let count = store.count;
+    let j = find(&heads[..bins], nexts, seen, count, p);
+    if 0 < j {
+        return Inserted {
+            store: store,
+            number: numbers[j - 1],
+        };
+    }
+    super::lists::store(&mut heads[..bins], nexts, seen, numbers, count, p, number);
     Inserted {
-        store: store,
-        number: found.number,
+        store: BinStore {
+            bins: bins,
+            count: count + 1,
+        },
+        number: number,
+    }
+}
+
+// The same, the memory lent.
+pub fn insert_if_not_exist(
+    store: &mut BinStore,
+    heads: &mut [u32],
+    nexts: &mut [u32],
+    seen: &mut [i32],
+    numbers: &mut [u32],
+    p: Point,
+    number: u32,
+) -> u32
+    requires { ⌜ Sound (now store) (now heads) (now nexts) (now seen) (now numbers) × Room (now store .count) (now nexts) (now seen) (now numbers) × (inRange p ≡ true) ⌝ }
+    ensures { λ r. ⌜ Sights (memory (now (store .entry) .count) (now (seen .entry)) (now (numbers .entry))) p number (now (store .entry)) (now (store .exit)) (now (heads .exit)) (now (nexts .exit)) (now (seen .exit)) (now (numbers .exit)) r ⌝ }
+{
+    let r = insert(*store, heads, nexts, seen, numbers, p, number);
+    *store = r.store;
+    r.number
+}
+
+// The same by plain parameters, with as many bins as there are heads: its callers need no memory of their own.
+pub fn sight_point(
+    count: usize,
+    heads: &mut [u32],
+    nexts: &mut [u32],
+    seen: &mut [i32],
+    numbers: &mut [u32],
+    p: Point,
+    number: u32,
+) -> Seen
+    requires { ⌜ Binned count (now heads) (now nexts) (now seen) (now numbers) × Room count (now nexts) (now seen) (now numbers) × (inRange p ≡ true) ⌝ }
+    ensures { λ r. ⌜ (memory (r .count) (now (seen .exit)) (now (numbers .exit)) ≡ sight (memory count (now (seen .entry)) (now (numbers .entry))) p number)
+        × (r .number ≡ numberOf (memory (r .count) (now (seen .exit)) (now (numbers .exit))) p)
+        × (r .count ≤ count + 1)
+        × Binned (r .count) (now (heads .exit)) (now (nexts .exit)) (now (seen .exit)) (now (numbers .exit)) ⌝ }
+{
+    let mut store = BinStore {
+        bins: heads.len(),
+        count: count,
+    };
+    let told = insert_if_not_exist(&mut store, heads, nexts, seen, numbers, p, number);
+    Seen {
+        count: store.count,
+        number: told,
     }
 }

@@ -137,15 +137,7 @@ fn take_points(
     let mut i: usize = 0;
     while i < n {
         let p = contour::point_at(points, i);
-        let s = bin_store::insert_if_not_exist(
-            heads,
-            nexts,
-            seen,
-            numbers,
-            count,
-            p,
-            (len + 1) as u32,
-        );
+        let s = bin_store::sight_point(count, heads, nexts, seen, numbers, p, (len + 1) as u32);
         let number = s.number;
         found = close(p, number, min_area, buffer, len, out, lengths, found);
         count = s.count;

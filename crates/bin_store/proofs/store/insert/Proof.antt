@@ -1,72 +1,134 @@
--- The arrays are lent, the heads as far as there are bins. Assumes nothing.
+-- A point that was sighted has its number, and another is stored. Of the heads those of the bins in use are lent. Assumes nothing.
 use borrow.Author.Needs.{needs}
-use mathlib.Core.Path.{_≡_, sym, _∙_, subst}
+use mathlib.Core.Path.{_≡_, refl, sym, _∙_, ap, subst}
+use mathlib.Core.List.{List, [], _∷_, _++_}
+use mathlib.Core.Bool.{false}
+use Prim.Native.Nat.{_+_, _-_, _<_}
 use native.Mathlib.Omega.{arith}
-use lib.ListN.{length, take, drop}
+use native.Mathlib.Numerals.{add-one}
+use lib.ListN.{length, take, drop, length-append}
 use lib.Seq.{length-take-le, take-at}
-use Rattle.bin_store.specs.Bins.{Binned}
+use Rattle.bin_store.specs.Sightings.{Sighting, sighting, isSighted, numberOf}
+use Rattle.bin_store.specs.Bins.{memory, Binned}
+use Rattle.bin_store.proofs.Items.{not-there, is-there, its-number}
+use Rattle.bin_store.proofs.Sightings.{again, first, number-first, number-own}
 use Rattle.bin_store.proofs.store.insert.Statement.{statement}
 use Rattle.bin_store.proofs.store.insert.Tie as tie
 
--- how long the arrays are
-lengths : (s : tie.Start) → (length (s .args .s .heads) ≡ 2048) × (length (s .args .s .nexts) ≡ 2048) × (length (s .args .s .seen) ≡ 4096) × (length (s .args .s .numbers) ≡ 2048)
-lengths s = (search needs, search needs, search needs, search needs)
+-- so many heads are lent
+part : (s : tie.Start) → length (take (s .args .store .bins) (s .args .heads .now)) ≡ s .args .store .bins
+part s = length-take-le (s .args .store .bins) (s .args .heads .now) (s .pre .0 .bins-fit)
 
--- so long is the part that is lent
-part : (s : tie.Start) → length (take (s .args .s .bins) (s .args .s .heads)) ≡ s .args .s .bins
-part s = length-take-le (s .args .s .bins) (s .args .s .heads) (omega (arith, s .pre .0 .bins-fit, lengths s .0))
+slice-reshare-prefix-find : tie.Need-slice-reshare-prefix-find
+slice-reshare-prefix-find c = search needs
 
-array-borrow-prefix-heads : tie.Need-array-borrow-prefix-heads
-array-borrow-prefix-heads c = let s = c .before .before .before .before in omega (arith, s .pre .0 .bins-fit, lengths s .0)
+slice-aggregate-find : tie.Need-slice-aggregate-find
+slice-aggregate-find c = sym (part (c .before .before .before .before))
 
-slice-aggregate-insert-if-not-exist : tie.Need-slice-aggregate-insert-if-not-exist
-slice-aggregate-insert-if-not-exist c = sym (part (c .before .before .before .before .before))
+find-requires : tie.Need-find-requires
+find-requires c κs = search needs
 
-slice-aggregate-insert-if-not-exist-2 : tie.Need-slice-aggregate-insert-if-not-exist-2
-slice-aggregate-insert-if-not-exist-2 c = search needs
+sub-t18 : tie.Need-sub-t18
+sub-t18 c = search needs
 
-slice-aggregate-insert-if-not-exist-3 : tie.Need-slice-aggregate-insert-if-not-exist-3
-slice-aggregate-insert-if-not-exist-3 c = search needs
+mul-t19 : tie.Need-mul-t19
+mul-t19 c = search needs
 
-slice-aggregate-insert-if-not-exist-4 : tie.Need-slice-aggregate-insert-if-not-exist-4
-slice-aggregate-insert-if-not-exist-4 c = search needs
+slice-read-t21 : tie.Need-slice-read-t21
+slice-read-t21 c = search needs
 
-insert-if-not-exist-requires : tie.Need-insert-if-not-exist-requires
-insert-if-not-exist-requires c κs =
-    let s = c .before .before .before .before .before .before .before .before in
-    let n = lengths s in (
-      s .pre .0 .binned,
-      record {
-        few = s .pre .1;
-        nexts-fit = omega (arith, s .pre .1, n .1);
-        seen-fit = omega (arith, s .pre .1, n .2);
-        numbers-fit = omega (arith, s .pre .1, n .3);
-      },
-      s .pre .2,
-    )
+same-length : tie.Need-same-length
+same-length c = search needs
+
+same-length-2 : tie.Need-same-length-2
+same-length-2 c = search needs
+
+same-length-3 : tie.Need-same-length-3
+same-length-3 c = search needs
 
 returns : tie.Need-returns
 returns c =
-    let i = c .before .before .before .before in
-    let s = i .before .before .before .before .before .before .before .before .before in
-    let f = i .insert-if-not-exist in
-    let e = take-at (f .last .0) (drop (s .args .s .bins) (s .args .s .heads)) (s .args .s .bins) (f .kept .0 ∙ part s) in (
-      f .ensures .0,
-      f .ensures .1,
-      record {
-        bins-fit = s .pre .0 .bins-fit;
-        binned = subst (λ h. Binned (f .result .count) h (f .last .1 .0) (f .last .1 .1 .0) (f .last .1 .1 .1 .0)) (sym e) (f .ensures .3);
-      },
-    )
+    let f = c .before .before in
+    let s = f .before .before .before .before .before .before .before in
+    let a = s .args in
+    let k : f .find .result - 1 < a .store .count = omega (arith, f .find .ensures .inside, c .before .if1 .taken) in
+    let e = f .find .ensures .holds (f .find .result - 1) (omega (arith, c .before .if1 .taken)) in
+    record {
+      holds = again _ (a .p) (a .number) (is-there (a .store .count) (a .seen .now) (a .numbers .now) (f .find .result - 1) k (a .p) e);
+      tells = sym (its-number (a .store .count) (a .seen .now) (a .numbers .now) (f .find .result - 1) k (a .p) e (s .pre .0 .binned .linked .apart));
+      same-bins = refl;
+      one-more = omega arith;
+      sound = s .pre .0;
+    }
+
+slice-relend-prefix-store : tie.Need-slice-relend-prefix-store
+slice-relend-prefix-store c = search needs
+
+slice-aggregate-store : tie.Need-slice-aggregate-store
+slice-aggregate-store c = sym (part (c .before .before .before .before .before .before .before .before .before))
+
+store-requires : tie.Need-store-requires
+store-requires c κs =
+    let f = c .before .before .before .before .before in
+    let s = f .before .before .before .before .before .before .before in
+    (s .pre .0 .binned, s .pre .1, s .pre .2, f .find .ensures .none (omega (arith, c .before .before .before .before .if1 .left)))
+
+add-t31 : tie.Need-add-t31
+add-t31 c = search needs
+
+same-length-4 : tie.Need-same-length-4
+same-length-4 c = search needs
+
+same-length-5 : tie.Need-same-length-5
+same-length-5 c = search needs
+
+same-length-6 : tie.Need-same-length-6
+same-length-6 c = search needs
+
+same-length-7 : tie.Need-same-length-7
+same-length-7 c = search needs
+
+returns-2 : tie.Need-returns-2
+returns-2 c =
+    let d = c .before .before .before .before .before .before .before in
+    let f = d .before .before .before .before .before .before in
+    let s = f .before .before .before .before .before .before .before in
+    let a = s .args in
+    let m = memory (a .store .count) (a .seen .now) (a .numbers .now) in
+    let new : isSighted m (a .p) ≡ false = not-there (a .store .count) (a .seen .now) (a .numbers .now) (a .p) (f .find .ensures .none (omega (arith, d .before .before .before .before .before .if1 .left))) in
+    let more : memory (a .store .count + 1) (d .store .last .1 .1 .0) (d .store .last .1 .1 .1 .0) ≡ m ++ (sighting (a .p) (a .number) ∷ []) = rw add-one (d .store .ensures .0) in
+    let lent = take-at (d .store .last .0) (drop (a .store .bins) (a .heads .now)) (a .store .bins) (d .store .kept .0 ∙ part s) in
+    record {
+      holds = more ∙ sym (first m (a .p) (a .number) new);
+      tells = sym (ap (λ (l : List Sighting). numberOf l (a .p)) more ∙ number-first m (a .p) (sighting (a .p) (a .number) ∷ []) new ∙ number-own (a .p) (a .number));
+      same-bins = refl;
+      one-more = omega arith;
+      sound = record {
+        bins-fit = omega (arith, d .store .kept .0, part s, length-append (d .store .last .0) (drop (a .store .bins) (a .heads .now)));
+        binned = subst (λ h. Binned (a .store .count + 1) h (d .store .last .1 .0) (d .store .last .1 .1 .0) (d .store .last .1 .1 .1 .0)) (sym lent) (rw add-one (d .store .ensures .1));
+      };
+    }
 
 pub insert-spec : {M : Type 1} → statement M
 insert-spec =
     tie.close
     (tie.spec
-    array-borrow-prefix-heads
-    slice-aggregate-insert-if-not-exist
-    slice-aggregate-insert-if-not-exist-2
-    slice-aggregate-insert-if-not-exist-3
-    slice-aggregate-insert-if-not-exist-4
-    insert-if-not-exist-requires
-    returns)
+    slice-reshare-prefix-find
+    slice-aggregate-find
+    find-requires
+    sub-t18
+    mul-t19
+    slice-read-t21
+    same-length
+    same-length-2
+    same-length-3
+    returns
+    slice-relend-prefix-store
+    slice-aggregate-store
+    store-requires
+    add-t31
+    same-length-4
+    same-length-5
+    same-length-6
+    same-length-7
+    returns-2)

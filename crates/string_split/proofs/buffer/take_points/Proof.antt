@@ -108,14 +108,14 @@ module _ (p : tie.After-point-at Inv-loop μ-loop) where
   in-range : inRange (p .point-at .result) ≡ true
   in-range = ap inRange (sym point-is) ∙ s (p .before) .pre .0 .near _ (in-at (points (p .before)) origin (l (p .before) .loop .i) (inside (p .before)))
 
-add-insert-if-not-exist : tie.Need-add-insert-if-not-exist Inv-loop μ-loop
-add-insert-if-not-exist c = record { fits = omega (arith, short (c .before .before .before .before .before)) }
+add-sight-point : tie.Need-add-sight-point Inv-loop μ-loop
+add-sight-point c = record { fits = omega (arith, short (c .before .before .before .before .before)) }
 
-cast-insert-if-not-exist : tie.Need-cast-insert-if-not-exist Inv-loop μ-loop
-cast-insert-if-not-exist c = record { fits = omega (arith, short (c .before .before .before .before .before)) }
+cast-sight-point : tie.Need-cast-sight-point Inv-loop μ-loop
+cast-sight-point c = record { fits = omega (arith, short (c .before .before .before .before .before)) }
 
-insert-if-not-exist-requires : tie.Need-insert-if-not-exist-requires Inv-loop μ-loop
-insert-if-not-exist-requires c κs =
+sight-point-requires : tie.Need-sight-point-requires Inv-loop μ-loop
+sight-point-requires c κs =
     let p = c .before .before .before .before in
     let i = l (p .before) .loop .inv in
     let q = s (p .before) .pre in
@@ -131,7 +131,7 @@ insert-if-not-exist-requires c κs =
       in-range p,
     )
 
-module _ (e : tie.After-insert-if-not-exist Inv-loop μ-loop) where
+module _ (e : tie.After-sight-point Inv-loop μ-loop) where
   abbrev p : tie.After-point-at Inv-loop μ-loop
   p = e .before .before .before .before .before
 
@@ -139,13 +139,13 @@ module _ (e : tie.After-insert-if-not-exist Inv-loop μ-loop) where
   c = p .before
 
   abbrev after : List Sighting
-  after = memory (e .insert-if-not-exist .result .count) (e .insert-if-not-exist .last .1 .1 .0) (e .insert-if-not-exist .last .1 .1 .1 .0)
+  after = memory (e .sight-point .result .count) (e .sight-point .last .1 .1 .1 .0) (e .sight-point .last .1 .1 .1 .1 .0)
 
   sighted : after ≡ sight (memory (l c .loop .count) (l c .loop .seen) (l c .loop .numbers)) (p .point-at .result) (suc (length (buffer c)))
-  sighted = e .insert-if-not-exist .ensures .0 ∙ ap (sight (memory (l c .loop .count) (l c .loop .seen) (l c .loop .numbers)) (p .point-at .result)) (add-one (l c .loop .len) ∙ ap suc (l c .loop .inv .len-is))
+  sighted = e .sight-point .ensures .0 ∙ ap (sight (memory (l c .loop .count) (l c .loop .seen) (l c .loop .numbers)) (p .point-at .result)) (add-one (l c .loop .len) ∙ ap suc (l c .loop .inv .len-is))
 
-  number-is : e .insert-if-not-exist .result .number ≡ numberOf after (p .point-at .result)
-  number-is = e .insert-if-not-exist .ensures .1
+  number-is : e .sight-point .result .number ≡ numberOf after (p .point-at .result)
+  number-is = e .sight-point .ensures .1
 
 close-requires : tie.Need-close-requires Inv-loop μ-loop
 close-requires k κs =
@@ -168,13 +168,13 @@ close-requires k κs =
     )
 
 module _ (k : tie.After-close Inv-loop μ-loop) where
-  abbrev e : tie.After-insert-if-not-exist Inv-loop μ-loop
+  abbrev e : tie.After-sight-point Inv-loop μ-loop
   e = k .before .before .before .before .before .before .before .before .before .before .before
 
   abbrev one : ℕ → Turn
   one number = turn number (buffer (c e)) (p e .point-at .result)
 
-  turned-is : one (e .insert-if-not-exist .result .number) ≡ one (numberOf (after e) (p e .point-at .result))
+  turned-is : one (e .sight-point .result .number) ≡ one (numberOf (after e) (p e .point-at .result))
   turned-is = ap one (number-is e)
 
   added : Adds (keep (isLarge (s (c e) .args .min-area)) (one (numberOf (after e) (p e .point-at .result)) .loops)) (l (c e) .loop .found) (k .close .result) (l (c e) .loop .out) (l (c e) .loop .lengths) (k .close .last .1 .1 .1 .1 .1 .0) (k .close .last .1 .1 .1 .1 .1 .1 .0)
@@ -193,12 +193,12 @@ module _ (n : tie.After-length-after Inv-loop μ-loop) where
   abbrev put : List ℤ
   put = k .close .last .1 .1 .1 .0
 
-  len-is : n .length-after .result ≡ length (one k (e k .insert-if-not-exist .result .number) .buffer)
+  len-is : n .length-after .result ≡ length (one k (e k .sight-point .result .number) .buffer)
   len-is =
-      n .length-after .ensures ∙ ap (λ (m : ℕ). cond (ltb (e k .insert-if-not-exist .result .number) m) (e k .insert-if-not-exist .result .number) (suc m)) (l (c (e k)) .loop .inv .len-is)
-      ∙ sym (length-turn (e k .insert-if-not-exist .result .number) (buffer (c (e k))) (p (e k) .point-at .result))
+      n .length-after .ensures ∙ ap (λ (m : ℕ). cond (ltb (e k .sight-point .result .number) m) (e k .sight-point .result .number) (suc m)) (l (c (e k)) .loop .inv .len-is)
+      ∙ sym (length-turn (e k .sight-point .result .number) (buffer (c (e k))) (p (e k) .point-at .result))
 
-  front-is : front (n .length-after .result) put ≡ one k (e k .insert-if-not-exist .result .number) .buffer
+  front-is : front (n .length-after .result) put ≡ one k (e k .sight-point .result .number) .buffer
   front-is = ap (λ (m : ℕ). front m put) len-is ∙ k .close .ensures .0
 
 add-i : tie.Need-add-i Inv-loop μ-loop
@@ -218,12 +218,12 @@ loop-again n =
       taking = subst (λ (b : List Point). Taking (a .min-area) (points (c f)) (a .out .now) (a .lengths .now) (after f) b (m .close .last .1 .1 .1 .1 .1 .0) (m .close .last .1 .1 .1 .1 .1 .1 .0) (m .close .result) (l (c f) .loop .i + 1)) (sym (front-is n ∙ ap (λ (t : Turn). t .buffer) (turned-is m))) (more m);
       inside = omega arith;
       len-is = len-is n ∙ sym (ap length (front-is n));
-      binned = f .insert-if-not-exist .ensures .3;
-      few = omega (arith, i .few, f .insert-if-not-exist .ensures .2);
-      heads-room = f .insert-if-not-exist .kept .0 ∙ i .heads-room;
-      nexts-room = f .insert-if-not-exist .kept .1 .0 ∙ i .nexts-room;
-      seen-room = f .insert-if-not-exist .kept .1 .1 .0 ∙ i .seen-room;
-      numbers-room = f .insert-if-not-exist .kept .1 .1 .1 .0 ∙ i .numbers-room;
+      binned = f .sight-point .ensures .3;
+      few = omega (arith, i .few, f .sight-point .ensures .2);
+      heads-room = f .sight-point .kept .1 .0 ∙ i .heads-room;
+      nexts-room = f .sight-point .kept .1 .1 .0 ∙ i .nexts-room;
+      seen-room = f .sight-point .kept .1 .1 .1 .0 ∙ i .seen-room;
+      numbers-room = f .sight-point .kept .1 .1 .1 .1 .0 ∙ i .numbers-room;
       buffer-room = m .close .kept .1 .1 .1 .0 ∙ i .buffer-room;
       out-room = m .close .kept .1 .1 .1 .1 .1 .0 ∙ i .out-room;
       lengths-room = m .close .kept .1 .1 .1 .1 .1 .1 .0 ∙ i .lengths-room;
@@ -270,9 +270,9 @@ take-points-spec =
     μ-loop
     loop-holds
     point-at-requires
-    add-insert-if-not-exist
-    cast-insert-if-not-exist
-    insert-if-not-exist-requires
+    add-sight-point
+    cast-sight-point
+    sight-point-requires
     close-requires
     length-after-requires
     add-i
