@@ -163,6 +163,16 @@ module _ {A : Type 0} where
         go true e = ap (λ z. f x +ℤ z) e
         go false e = e ∙ sym (+ℤ-idl (sum (λ y. only (P y) (f y)) l))
 
+    -- what holds of every two places
+    pub pairs-keep : (R : A → A → Type 0) (l : List A) → Pairs R l → Pairs R (keep P l)
+    unfolding keep
+    pairs-keep R [] h = tt
+    pairs-keep R (x ∷ l) h = go (P x) (pairs-keep R l (h .1))
+      where
+        go : (b : Bool) → Pairs R (keep P l) → Pairs R (cond b (x ∷ keep P l) (keep P l))
+        go true p = (λ y m. h .0 y (keep-in y l m .0), p)
+        go false p = p
+
   -- a test that says the same of every member
   pub keep-cong : (P Q : A → Bool) (l : List A) → ((x : A) → x ∈ l → P x ≡ Q x) → keep P l ≡ keep Q l
   unfolding keep
