@@ -6,13 +6,16 @@ use Rattle.geom.specs.declared.Point.{Point}
 use Rattle.geom.specs.Points.{eqP}
 use Rattle.segm.specs.Lists.{any}
 
+-- a point, and the number that its first sighting stored
 pub record Sighting : Type 0 where
   pub point : Point
   pub number : ℕ
 
+-- the sighting of p with this number
 abbrev pub sighting : Point → ℕ → Sighting
 sighting p number = record { point = p; number = number }
 
+-- p was sighted
 unfoldable pub isSighted : List Sighting → Point → Bool
 isSighted m p = any (λ (s : Sighting). eqP (s .point) p) m
 

@@ -106,10 +106,10 @@ module _ (g : Graph) (out : Bool) where
   unfolding nextEnd
   next-below bits e f s h q = s .at-node (otherEnd (length bits) e) (other-end-below (length bits) e h) .ends f (first-end (length bits) out bits _ f q .0)
 
-  follow-none : (fuel e : ℕ) (bits : List ℕ) → nextEnd g out bits e ≡ Stop → followEnds fuel g out e bits ≡ []
+  follow-none : (turns e : ℕ) (bits : List ℕ) → nextEnd g out bits e ≡ Stop → followEnds turns g out e bits ≡ []
   unfolding followEnds
   follow-none zero e bits q = refl
-  follow-none (suc fuel) e bits q = rw q
+  follow-none (suc turns) e bits q = rw q
 
   follow-some : (e f : ℕ) (bits : List ℕ) → nextEnd g out bits e ≡ Leave f
       → followEnds (bitsLeft bits) g out e bits ≡ f ∷ followEnds (bitsLeft (taken bits (moveOf (length bits) out f))) g out f (taken bits (moveOf (length bits) out f))
@@ -136,23 +136,23 @@ module _ (g : Graph) (out : Bool) where
           ap (λ (l : List ℕ). takenAll bits (map (moveOf (length bits) out) l)) (follow-some e f bits q)
           ∙ ap (λ m. takenAll after (map (moveOf m out) (followEnds (bitsLeft after) g out f after))) (sym (length-taken bits (moveOf (length bits) out f)))
 
-  pub follow-few : (fuel e : ℕ) (bits : List ℕ) → length (followEnds fuel g out e bits) ≤ fuel
+  pub follow-few : (turns e : ℕ) (bits : List ℕ) → length (followEnds turns g out e bits) ≤ turns
   unfolding followEnds
   follow-few zero e bits = omega arith
-  follow-few (suc fuel) e bits = go (nextEnd g out bits e) (λ f. follow-few fuel f (taken bits (moveOf (length bits) out f)))
+  follow-few (suc turns) e bits = go (nextEnd g out bits e) (λ f. follow-few turns f (taken bits (moveOf (length bits) out f)))
     where
-      go : (n : Next) → ((f : ℕ) → length (followEnds fuel g out f (taken bits (moveOf (length bits) out f))) ≤ fuel)
-          → length (onward n (λ f. f ∷ followEnds fuel g out f (taken bits (moveOf (length bits) out f)))) ≤ suc fuel
+      go : (n : Next) → ((f : ℕ) → length (followEnds turns g out f (taken bits (moveOf (length bits) out f))) ≤ turns)
+          → length (onward n (λ f. f ∷ followEnds turns g out f (taken bits (moveOf (length bits) out f)))) ≤ suc turns
       go Stop ih = omega arith
       go (Leave f) ih = omega (arith, ih f)
 
-  pub follow-below : (fuel e : ℕ) (bits : List ℕ) → Sound (length bits) g → e < 2 * length bits → (f : ℕ) → f ∈ followEnds fuel g out e bits → f < 2 * length bits
+  pub follow-below : (turns e : ℕ) (bits : List ℕ) → Sound (length bits) g → e < 2 * length bits → (f : ℕ) → f ∈ followEnds turns g out e bits → f < 2 * length bits
   unfolding followEnds
   follow-below zero e bits s h f i = absurd i
-  follow-below (suc fuel) e bits s h f i = go (nextEnd g out bits e) refl i (λ x. follow-below fuel x (taken bits (moveOf (length bits) out x)))
+  follow-below (suc turns) e bits s h f i = go (nextEnd g out bits e) refl i (λ x. follow-below turns x (taken bits (moveOf (length bits) out x)))
     where
-      go : (n : Next) → nextEnd g out bits e ≡ n → f ∈ onward n (λ x. x ∷ followEnds fuel g out x (taken bits (moveOf (length bits) out x)))
-          → ((x : ℕ) → Sound (length (taken bits (moveOf (length bits) out x))) g → x < 2 * length (taken bits (moveOf (length bits) out x)) → (y : ℕ) → y ∈ followEnds fuel g out x (taken bits (moveOf (length bits) out x)) → y < 2 * length (taken bits (moveOf (length bits) out x)))
+      go : (n : Next) → nextEnd g out bits e ≡ n → f ∈ onward n (λ x. x ∷ followEnds turns g out x (taken bits (moveOf (length bits) out x)))
+          → ((x : ℕ) → Sound (length (taken bits (moveOf (length bits) out x))) g → x < 2 * length (taken bits (moveOf (length bits) out x)) → (y : ℕ) → y ∈ followEnds turns g out x (taken bits (moveOf (length bits) out x)) → y < 2 * length (taken bits (moveOf (length bits) out x)))
           → f < 2 * length bits
       go Stop q i ih = absurd i
       go (Leave x) q (inl r) ih = omega (arith, next-below bits e x s h q)

@@ -154,23 +154,23 @@ module _ (links : Drawing) (proper : Proper links) where
         ∙ first-is out (endPoint links o) bits es (λ k i. n .ends o k b i)
         ∙ sym (ap (λ m. asMove (length links) out (firstEnd m out bits (part flat starts (getD nodes (otherEnd m e) 0)))) q)
 
-    follow-is : (fuel : ℕ) (out : Bool) (e : ℕ) (bits : List ℕ) → length links ≤ 1024 → length bits ≡ length links → e < 2 * length links
-        → map (moveOf (length links) out) (followEnds fuel g out e bits) ≡ follow fuel links out (endPoint links (otherEnd (length links) e)) bits
+    follow-is : (turns : ℕ) (out : Bool) (e : ℕ) (bits : List ℕ) → length links ≤ 1024 → length bits ≡ length links → e < 2 * length links
+        → map (moveOf (length links) out) (followEnds turns g out e bits) ≡ follow turns links out (endPoint links (otherEnd (length links) e)) bits
     unfolding followEnds follow
     follow-is zero out e bits few q h = refl
-    follow-is (suc fuel) out e bits few q h = go (nextEnd g out bits e) refl (follow-is fuel out) ∙ sym (ap (λ (o : Option Move). andThen o (λ k. k ∷ follow fuel links out (over links out k .end) (taken bits k))) (goes-on out e bits q h))
+    follow-is (suc turns) out e bits few q h = go (nextEnd g out bits e) refl (follow-is turns out) ∙ sym (ap (λ (o : Option Move). andThen o (λ k. k ∷ follow turns links out (over links out k .end) (taken bits k))) (goes-on out e bits q h))
       where
         go : (x : Next) → nextEnd g out bits e ≡ x
-            → ((f : ℕ) (rest : List ℕ) → length links ≤ 1024 → length rest ≡ length links → f < 2 * length links → map (moveOf (length links) out) (followEnds fuel g out f rest) ≡ follow fuel links out (endPoint links (otherEnd (length links) f)) rest)
-            → map (moveOf (length links) out) (onward x (λ f. f ∷ followEnds fuel g out f (taken bits (moveOf (length bits) out f))))
-            ≡ andThen (asMove (length links) out x) (λ k. k ∷ follow fuel links out (over links out k .end) (taken bits k))
+            → ((f : ℕ) (rest : List ℕ) → length links ≤ 1024 → length rest ≡ length links → f < 2 * length links → map (moveOf (length links) out) (followEnds turns g out f rest) ≡ follow turns links out (endPoint links (otherEnd (length links) f)) rest)
+            → map (moveOf (length links) out) (onward x (λ f. f ∷ followEnds turns g out f (taken bits (moveOf (length bits) out f))))
+            ≡ andThen (asMove (length links) out x) (λ k. k ∷ follow turns links out (over links out k .end) (taken bits k))
         go Stop r ih = refl
         go (Leave f) r ih =
             let below : f < 2 * length links = omega (arith, next-below g out bits e f (subst (λ k. Sound k g) (sym q) (nodes-sound few)) (omega arith) r, q) in
             ap (moveOf (length links) out f ∷_)
-            (ap (λ k. map (moveOf (length links) out) (followEnds fuel g out f (taken bits (moveOf k out f)))) q
+            (ap (λ k. map (moveOf (length links) out) (followEnds turns g out f (taken bits (moveOf k out f)))) q
             ∙ ih f (taken bits (moveOf (length links) out f)) few (length-taken bits (moveOf (length links) out f) ∙ q) below
-            ∙ ap (λ (p : Point). follow fuel links out p (taken bits (moveOf (length links) out f))) (sym (move-end links out f below)))
+            ∙ ap (λ (p : Point). follow turns links out p (taken bits (moveOf (length links) out f))) (sym (move-end links out f below)))
 
     -- the path that begins with link k
     pub path-is : (out : Bool) (k : ℕ) (bits rest : List ℕ) → length links ≤ 1024 → length bits ≡ length links → k < length links → rest ≡ taken bits (move k out)

@@ -178,16 +178,16 @@ abbrev pub Spends : Drawing → List ℕ → List Move → Type 0
 Spends links bits ms = (f : Step → ℕ) → worth f links bits ≡ tally (λ m. f (drawnBy links m)) ms + worth f links (takenAll bits ms)
 
 module _ (links : Drawing) (proper : Proper links) where
-  follow-does : (fuel : ℕ) (out : Bool) (p : Point) (bits : List ℕ) → Spends links bits (follow fuel links out p bits) × Chain links out p (follow fuel links out p bits)
+  follow-does : (turns : ℕ) (out : Bool) (p : Point) (bits : List ℕ) → Spends links bits (follow turns links out p bits) × Chain links out p (follow turns links out p bits)
   unfolding follow takenAll tally
   follow-does zero out p bits = (λ f. omega arith, tt)
-  follow-does (suc fuel) out p bits = go (goesOn links out p bits) refl (follow-does fuel out)
+  follow-does (suc turns) out p bits = go (goesOn links out p bits) refl (follow-does turns out)
     where
       rest : Move → List Move
-      rest m = follow fuel links out (over links out m .end) (taken bits m)
+      rest m = follow turns links out (over links out m .end) (taken bits m)
 
       go : (o : Option Move) → goesOn links out p bits ≡ o
-          → ((q : Point) (bits′ : List ℕ) → Spends links bits′ (follow fuel links out q bits′) × Chain links out q (follow fuel links out q bits′))
+          → ((q : Point) (bits′ : List ℕ) → Spends links bits′ (follow turns links out q bits′) × Chain links out q (follow turns links out q bits′))
           → Spends links bits (andThen o (λ m. m ∷ rest m)) × Chain links out p (andThen o (λ m. m ∷ rest m))
       go none e ih = (λ f. omega arith, tt)
       go (some m) e ih =

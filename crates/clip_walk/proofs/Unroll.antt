@@ -1,4 +1,4 @@
--- The walk without its fuel: as much fuel as bits are left is always enough, so each loop goes on by one turn. What the program's loops are compared with.
+-- The walk without its turns: as much turns as bits are left is always enough, so each loop goes on by one turn. What the program's loops are compared with.
 use mathlib.Core.Path.{_≡_, refl, sym, _∙_, ap, subst}
 use mathlib.Core.List.{List, [], _∷_, map}
 use mathlib.Core.Option.{Option, none, some}
@@ -41,13 +41,13 @@ module _ (links : Drawing) where
 
   -- what each move keeps true of the bits is true when the path ends
   module _ (P : List ℕ → Type 0) (keeps : (rest : List ℕ) (m : Move) → isLeft rest m ≡ true → P rest → P (taken rest m)) where
-    follow-keeps : (fuel : ℕ) (out : Bool) (p : Point) (bits : List ℕ) → P bits → P (takenAll bits (follow fuel links out p bits))
+    follow-keeps : (turns : ℕ) (out : Bool) (p : Point) (bits : List ℕ) → P bits → P (takenAll bits (follow turns links out p bits))
     unfolding follow takenAll
     follow-keeps zero out p bits h = h
-    follow-keeps (suc fuel) out p bits h = go (goesOn links out p bits) refl (follow-keeps fuel out)
+    follow-keeps (suc turns) out p bits h = go (goesOn links out p bits) refl (follow-keeps turns out)
       where
-        go : (o : Option Move) → goesOn links out p bits ≡ o → ((q : Point) (rest : List ℕ) → P rest → P (takenAll rest (follow fuel links out q rest)))
-            → P (takenAll bits (andThen o (λ m. m ∷ follow fuel links out (over links out m .end) (taken bits m))))
+        go : (o : Option Move) → goesOn links out p bits ≡ o → ((q : Point) (rest : List ℕ) → P rest → P (takenAll rest (follow turns links out q rest)))
+            → P (takenAll bits (andThen o (λ m. m ∷ follow turns links out (over links out m .end) (taken bits m))))
         go none e ih = h
         go (some m) e ih = ih (over links out m .end) (taken bits m) (keeps bits m (goesOn-left out p bits m e) h)
 
@@ -66,23 +66,23 @@ module _ (links : Drawing) where
 
   -- one turn of the loop of paths
   abbrev pub turn : ℕ → List ℕ → Move → List (List Move)
-  turn fuel bits m = pathFrom links bits m ∷ walkFrom fuel links (takenAll bits (pathFrom links bits m))
+  turn turns bits m = pathFrom links bits m ∷ walkFrom turns links (takenAll bits (pathFrom links bits m))
 
-  walk-empty : (fuel : ℕ) (bits : List ℕ) → bitsLeft bits ≤ 0 → [] ≡ walkFrom fuel links bits
+  walk-empty : (turns : ℕ) (bits : List ℕ) → bitsLeft bits ≤ 0 → [] ≡ walkFrom turns links bits
   unfolding walkFrom
   walk-empty zero bits h = refl
-  walk-empty (suc fuel) bits h = go (begins links bits) refl
+  walk-empty (suc turns) bits h = go (begins links bits) refl
     where
-      go : (o : Option Move) → begins links bits ≡ o → [] ≡ andThen o (turn fuel bits)
+      go : (o : Option Move) → begins links bits ≡ o → [] ≡ andThen o (turn turns bits)
       go none e = refl
       go (some m) e = absurd (omega (arith, path-fewer bits m e))
 
-  -- more fuel than bits changes nothing
-  walk-fuel : (j k : ℕ) (bits : List ℕ) → bitsLeft bits ≤ j → bitsLeft bits ≤ k → walkFrom j links bits ≡ walkFrom k links bits
+  -- more turns than bits changes nothing
+  walk-turns : (j k : ℕ) (bits : List ℕ) → bitsLeft bits ≤ j → bitsLeft bits ≤ k → walkFrom j links bits ≡ walkFrom k links bits
   unfolding walkFrom
-  walk-fuel zero k bits h l = walk-empty k bits h
-  walk-fuel (suc j) zero bits h l = sym (walk-empty (suc j) bits l)
-  walk-fuel (suc j) (suc k) bits h l = go (begins links bits) refl (walk-fuel j k)
+  walk-turns zero k bits h l = walk-empty k bits h
+  walk-turns (suc j) zero bits h l = sym (walk-empty (suc j) bits l)
+  walk-turns (suc j) (suc k) bits h l = go (begins links bits) refl (walk-turns j k)
     where
       go : (o : Option Move) → begins links bits ≡ o → ((bits′ : List ℕ) → bitsLeft bits′ ≤ j → bitsLeft bits′ ≤ k → walkFrom j links bits′ ≡ walkFrom k links bits′) → andThen o (turn j bits) ≡ andThen o (turn k bits)
       go none e ih = refl
@@ -92,8 +92,8 @@ module _ (links : Drawing) where
   pub walk-on : (bits : List ℕ) → walkFrom (bitsLeft bits) links bits
       ≡ andThen (begins links bits) (λ m. pathFrom links bits m ∷ walkFrom (bitsLeft (takenAll bits (pathFrom links bits m))) links (takenAll bits (pathFrom links bits m)))
   unfolding walkFrom
-  walk-on bits = walk-fuel (bitsLeft bits) (suc (bitsLeft bits)) bits (omega arith) (omega arith) ∙ go (begins links bits) refl
+  walk-on bits = walk-turns (bitsLeft bits) (suc (bitsLeft bits)) bits (omega arith) (omega arith) ∙ go (begins links bits) refl
     where
       go : (o : Option Move) → begins links bits ≡ o → andThen o (turn (bitsLeft bits) bits) ≡ andThen o (λ m. turn (bitsLeft (takenAll bits (pathFrom links bits m))) bits m)
       go none e = refl
-      go (some m) e = ap (pathFrom links bits m ∷_) (walk-fuel (bitsLeft bits) (bitsLeft (takenAll bits (pathFrom links bits m))) (takenAll bits (pathFrom links bits m)) (omega (arith, path-fewer bits m e)) (omega arith))
+      go (some m) e = ap (pathFrom links bits m ∷_) (walk-turns (bitsLeft bits) (bitsLeft (takenAll bits (pathFrom links bits m))) (takenAll bits (pathFrom links bits m)) (omega (arith, path-fewer bits m e)) (omega arith))

@@ -16,6 +16,7 @@ unfoldable pub moveOf : ℕ → Bool → ℕ → Move
 moveOf m out e = move (linkOf m e) (Bool·beq out (ltb e m))
 
 -- ---- a link by value
+-- link k: the nodes of its ends, and the bits that are left
 unfoldable pub linkAt : List ℕ → List ℕ → ℕ → Link
 linkAt nodes bits k = record { a = getD nodes k 0; b = getD nodes (length bits + k) 0; bits = getD bits k 0 }
 
@@ -43,6 +44,7 @@ pub record Graph : Type 0 where
   pub starts : List ℕ
   pub nodes : List ℕ
 
+-- these lists
 abbrev pub graph : List ℕ → List ℕ → List ℕ → Graph
 graph flat starts nodes = record { flat = flat; starts = starts; nodes = nodes }
 
@@ -55,31 +57,36 @@ abbrev pub takenBy : Bool → List ℕ → Next → List ℕ
 takenBy out bits Stop = bits
 takenBy out bits (Leave e) = taken bits (moveOf (length bits) out e)
 
+-- what follows the end that is left, nothing where the walk stops
 abbrev pub onward : {A : Type 0} → Next → (ℕ → List A) → List A
 onward Stop f = []
 onward (Leave e) f = f e
 
--- ---- the moves on from the end e that was left
+-- ---- the moves on from an end that was left
+-- the ends that the moves leave, till none fits. (Each takes a line bit, so as many turns as bits are left are enough)
 unfoldable pub followEnds : ℕ → Graph → Bool → ℕ → List ℕ → List ℕ
 followEnds zero g out e bits = []
-followEnds (suc fuel) g out e bits = onward (nextEnd g out bits e) (λ f. f ∷ followEnds fuel g out f (taken bits (moveOf (length bits) out f)))
+followEnds (suc turns) g out e bits = onward (nextEnd g out bits e) (λ f. f ∷ followEnds turns g out f (taken bits (moveOf (length bits) out f)))
 
--- from the next move on, and the bits that are left after the last
+-- from the next move on
 unfoldable pub movesOn : Graph → Bool → List ℕ → Next → List ℕ
 movesOn g out bits Stop = []
 movesOn g out bits (Leave e) = e ∷ followEnds (bitsLeft bits) g out e bits
 
+-- the bits that are left after the last of these moves
 unfoldable pub bitsAfter : Graph → Bool → List ℕ → Next → List ℕ
 bitsAfter g out bits Stop = bits
 bitsAfter g out bits (Leave e) = takenAll bits (map (moveOf (length bits) out) (followEnds (bitsLeft bits) g out e bits))
 
 -- ---- what the lists of m links hold: ends, and nodes whose parts are ends
+-- node v: its part of the flat list holds ends
 pub record NodeAt (m : ℕ) (flat starts : List ℕ) (v : ℕ) : Type 0 where
   pub known : suc v < length starts
   pub rising : getD starts v 0 ≤ getD starts (suc v) 0
   pub inside : getD starts (suc v) 0 ≤ length flat
   pub ends : (f : ℕ) → f ∈ part flat starts v → f < 2 * m
 
+-- every end has a node
 pub record Sound (m : ℕ) (g : Graph) : Type 0 where
   pub few : m ≤ 1024
   pub each-end : 2 * m ≤ length (g .nodes)

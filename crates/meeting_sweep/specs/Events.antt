@@ -5,8 +5,8 @@ use Prim.Native.Nat.{ℕ, _<_, _≤_}
 use lib.IntN.{ℤ}
 use Rattle.segm.specs.Segments.{Drawing}
 use Rattle.open_list.specs.OpenList.{Left, Entered}
-use Rattle.uprights.specs.declared.Edge.the-variants.{Ends, Starts}
-use Rattle.uprights.specs.Uprights.{Cuts, Stacked}
+use Rattle.verticals.specs.declared.Edge.the-variants.{Ends, Starts}
+use Rattle.verticals.specs.Verticals.{Cuts, Stacked}
 
 -- of the numbers f 0, f 1, .., `many` of them, r is the place of the first from k on that is not x, or `many` if there is none
 pub record Past (f : ℕ → ℤ) (k many : ℕ) (x : ℤ) (r : ℕ) : Type 0 where

@@ -1,7 +1,7 @@
 // Whether no two segments of a drawing meet wrongly, by a sweep in which only neighbours are compared. It is sound: what it calls clear is clear.
 // Nothing is promised of a drawing that it does not call clear. Every function here is proved, and the crate assumes nothing of its own.
 use open_list::Held;
-use uprights::Edge;
+use verticals::Edge;
 ghost use mathlib.Core.Path.{_≡_};
 ghost use mathlib.Core.Bool.{true, false};
 ghost use Prim.Native.Nat.{ℕ, _*_, _≤_, _<_};
@@ -37,7 +37,7 @@ fn event(
     ensures { λ r. ⌜ (r .clear ≡ true
         → ((r .count ≤ to) × Happened (segments (now (s .entry))) (now (ends .entry)) from to (take count (now (list .entry))) (take (r .count) (now (list .exit))))) ⌝ }
 {
-    if !uprights::are_cut(s, Edge::Ends, from, to, &list[..count], guess) {
+    if !verticals::are_cut(s, Edge::Ends, from, to, &list[..count], guess) {
         return open_list::unclear();
     }
     let left = open_list::leave_all(s, ends, list, count, guess);
@@ -48,17 +48,17 @@ fn event(
     if !entered.clear {
         return open_list::unclear();
     }
-    if !uprights::are_cut(s, Edge::Starts, from, to, &list[..entered.count], left.near) {
+    if !verticals::are_cut(s, Edge::Starts, from, to, &list[..entered.count], left.near) {
         return open_list::unclear();
     }
-    if !uprights::are_stacked(s, from, to) {
+    if !verticals::are_stacked(s, from, to) {
         return open_list::unclear();
     }
     entered
 }
 
 // Whether ends e and f lie at one x.
-fn is_level(s: &[i32], e: usize, f: usize) -> bool
+fn at_one_x(s: &[i32], e: usize, f: usize) -> bool
     ensures { λ r. ⌜ r ≡ eqZ (endPoint (segments (now (s .entry))) e .x) (endPoint (segments (now (s .entry))) f .x) ⌝ }
 {
     let p = ends::end_point(s, e);
@@ -74,7 +74,7 @@ fn ends_past(s: &[i32], flat: &[u32], k: usize) -> usize
     let e = flat[k] as usize;
     let mut j = k;
     while j < flat.len() {
-        if !is_level(s, flat[j] as usize, e) {
+        if !at_one_x(s, flat[j] as usize, e) {
             return j;
         }
         j += 1;
@@ -90,7 +90,7 @@ fn starts_past(s: &[i32], k: usize, e: usize) -> usize
     let n = segm::count(s);
     let mut j = k;
     while j < n {
-        if !is_level(s, j, e) {
+        if !at_one_x(s, j, e) {
             return j;
         }
         j += 1;

@@ -24,6 +24,7 @@ use Rattle.overlay.specs.declared.Split.{Split}
 use Rattle.overlay.specs.declared.Read.{Read}
 
 -- ---- fills
+-- the answer of a fills run in numbers
 abbrev pub filledNumbers : Filled → Fills
 filledNumbers (Done count) = record { number = 0; place = 0; count = count }
 filledNumbers (Refused number place) = record { number = number; place = place; count = 0 }
@@ -36,10 +37,12 @@ pub record Returned : Type 0 where
 abbrev pub returned : Fills → List ℕ → Returned
 returned answer list = record { answer = answer; list = list }
 
+-- what `overlay_fills` promises
 unfoldable pub fillsNumbers : List ℤ → ℤ → List ℕ → Returned
 fillsNumbers numbers rule lent = let o = fillsOutcome numbers rule lent in returned (filledNumbers (o .answer)) (o .list)
 
 -- ---- clip
+-- the answer of a clip run in numbers
 abbrev pub clippedNumbers : Clipped → Clip
 clippedNumbers (clipped-is.Done found) = record { number = 0; place = 0; paths = found .paths; points = found .points; steps = found .steps; travel = found .travel }
 clippedNumbers (clipped-is.Refused number place) = record { number = number; place = place; paths = 0; points = 0; steps = 0; travel = 0 }
@@ -53,11 +56,13 @@ pub record ReturnedClip : Type 0 where
 abbrev pub returnedClip : Clip → List ℤ → List ℕ → ReturnedClip
 returnedClip answer points lengths = record { answer = answer; points = points; lengths = lengths }
 
+-- what `overlay_clip` promises
 unfoldable pub clipNumbers : List ℤ → (rule invert boundary : ℤ) → List ℤ → List ℕ → ReturnedClip
 clipNumbers numbers rule invert boundary points lengths =
     let o = clipOutcome numbers rule invert boundary points lengths in returnedClip (clippedNumbers (o .answer)) (o .points) (o .lengths)
 
 -- ---- slice
+-- the answer of a slice run in numbers
 abbrev pub slicedNumbers : Sliced → Slice
 slicedNumbers (sliced-is.Done found) = record { number = 0; place = 0; contours = found .contours; points = found .points }
 slicedNumbers (sliced-is.Refused number place) = record { number = number; place = place; contours = 0; points = 0 }
@@ -72,11 +77,13 @@ pub record ReturnedSlice : Type 0 where
 abbrev pub returnedSlice : Slice → List ℤ → List ℕ → List ℕ → ReturnedSlice
 returnedSlice answer points lengths roles = record { answer = answer; points = points; lengths = lengths; roles = roles }
 
+-- what `overlay_slice` promises
 unfoldable pub sliceNumbers : List ℤ → (rule direction : ℤ) → ℕ → List ℤ → List ℕ → List ℕ → ReturnedSlice
 sliceNumbers numbers rule direction least points lengths roles =
     let o = sliceOutcome numbers rule direction least points lengths roles in returnedSlice (slicedNumbers (o .answer)) (o .points) (o .lengths) (o .roles)
 
 -- ---- split
+-- the answer of a split run in numbers
 abbrev pub loopsNumbers : Loops → Split
 loopsNumbers (loops-are.Done found) = record { number = 0; place = 0; loops = found .loops; points = found .points }
 loopsNumbers (loops-are.Refused number place) = record { number = number; place = place; loops = 0; points = 0 }
@@ -90,10 +97,12 @@ pub record ReturnedSplit : Type 0 where
 abbrev pub returnedSplit : Split → List ℤ → List ℕ → ReturnedSplit
 returnedSplit answer out lengths = record { answer = answer; out = out; lengths = lengths }
 
+-- what `overlay_split` promises
 unfoldable pub splitNumbers : List ℤ → ℕ → List ℤ → List ℕ → ReturnedSplit
 splitNumbers points least out lengths = let o = splitOutcome points least out lengths in returnedSplit (loopsNumbers (o .answer)) (o .out) (o .lengths)
 
 -- ---- read
+-- the answer of a reader in numbers: refusal 1 where the text is malformed
 abbrev pub readingNumbers : Reading → Read
 readingNumbers (reading-is.Read choices count) = record { number = 0; place = 0; count = count; rule = choices .rule; invert = choices .invert; boundary = choices .boundary }
 readingNumbers (reading-is.Malformed line) = record { number = 1; place = line; count = 0; rule = pos 0; invert = pos 0; boundary = pos 0 }
@@ -106,5 +115,6 @@ pub record ReturnedRead : Type 0 where
 abbrev pub returnedRead : Read → List ℤ → ReturnedRead
 returnedRead answer numbers = record { answer = answer; numbers = numbers }
 
+-- what `overlay_read` promises
 unfoldable pub readNumbers : List ℕ → List ℤ → ReturnedRead
 readNumbers text numbers = let o = readOutcome text numbers in returnedRead (readingNumbers (o .answer)) (o .numbers)

@@ -70,14 +70,14 @@ module _ (links : Drawing) where
   fewer-after : (bits : List ℕ) (m : Move) (walk : List Move) → Begun bits m walk → bitsLeft (takenAll bits walk) < bitsLeft bits
   fewer-after bits m walk b = omega (arith, takes-spent bits walk (b .takes), b .not-empty)
 
-  -- one turn, with so much fuel for the rest
+  -- one turn, with so much turns for the rest
   abbrev turn : (List ℕ → ℕ) → List ℕ → Move → Option (List (List Move))
-  turn fuel bits m = bind (walkFrom links bits m) (λ walk. onto walk (walksFrom (fuel (takenAll bits walk)) links (takenAll bits walk)))
+  turn turns bits m = bind (walkFrom links bits m) (λ walk. onto walk (walksFrom (turns (takenAll bits walk)) links (takenAll bits walk)))
 
-  no-walks : (fuel : List ℕ → ℕ) (bits : List ℕ) → bitsLeft bits ≤ 0 → begun (begins links bits) (turn fuel bits) ≡ some []
-  no-walks fuel bits h = go (begins links bits) refl
+  no-walks : (turns : List ℕ → ℕ) (bits : List ℕ) → bitsLeft bits ≤ 0 → begun (begins links bits) (turn turns bits) ≡ some []
+  no-walks turns bits h = go (begins links bits) refl
     where
-      go : (o : Option Move) → begins links bits ≡ o → begun o (turn fuel bits) ≡ some []
+      go : (o : Option Move) → begins links bits ≡ o → begun o (turn turns bits) ≡ some []
       go none e = refl
       go (some m) e = absurd (omega (arith, left-taken bits m (begins-some links bits m e .left)))
 
@@ -94,28 +94,28 @@ module _ (links : Drawing) where
       go none e = refl
       go (some m) e = by m (walkFrom links bits m) (begin-left bits m e)
 
-  -- more fuel than bits changes nothing
-  walks-fuel : (i j : ℕ) (bits : List ℕ) → bitsLeft bits ≤ i → bitsLeft bits ≤ j → walksFrom i links bits ≡ walksFrom j links bits
+  -- more turns than bits changes nothing
+  walks-turns : (i j : ℕ) (bits : List ℕ) → bitsLeft bits ≤ i → bitsLeft bits ≤ j → walksFrom i links bits ≡ walksFrom j links bits
   unfolding walksFrom
-  walks-fuel zero zero bits h l = refl
-  walks-fuel zero (suc j) bits h l = sym (no-walks (λ b. j) bits h)
-  walks-fuel (suc i) zero bits h l = no-walks (λ b. i) bits l
-  walks-fuel (suc i) (suc j) bits h l = turn-same (λ b. i) (λ b. j) bits (λ rest n. walks-fuel i j rest (omega arith) (omega arith))
+  walks-turns zero zero bits h l = refl
+  walks-turns zero (suc j) bits h l = sym (no-walks (λ b. j) bits h)
+  walks-turns (suc i) zero bits h l = no-walks (λ b. i) bits l
+  walks-turns (suc i) (suc j) bits h l = turn-same (λ b. i) (λ b. j) bits (λ rest n. walks-turns i j rest (omega arith) (omega arith))
 
   pub walks-on : (bits : List ℕ) → walks links bits ≡ begun (begins links bits) (λ m. bind (walkFrom links bits m) (λ walk. onto walk (walks links (takenAll bits walk))))
   unfolding walks walksFrom
   walks-on bits =
-      walks-fuel (bitsLeft bits) (suc (bitsLeft bits)) bits (omega arith) (omega arith)
-      ∙ turn-same (λ b. bitsLeft bits) bitsLeft bits (λ rest n. walks-fuel (bitsLeft bits) (bitsLeft rest) rest (omega arith) (omega arith))
+      walks-turns (bitsLeft bits) (suc (bitsLeft bits)) bits (omega arith) (omega arith)
+      ∙ turn-same (λ b. bitsLeft bits) bitsLeft bits (λ rest n. walks-turns (bitsLeft bits) (bitsLeft rest) rest (omega arith) (omega arith))
 
   -- ---- how many they are: no more than bits were left
   abbrev Few : List ℕ → List (List Move) → Type 0
   Few bits ws = (length (flatten ws) ≤ bitsLeft bits) × (length ws ≤ length (flatten ws))
 
-  few-from : (fuel : ℕ) (bits : List ℕ) → Holds (Few bits) (walksFrom fuel links bits)
+  few-from : (turns : ℕ) (bits : List ℕ) → Holds (Few bits) (walksFrom turns links bits)
   unfolding walksFrom flatten
   few-from zero bits = (omega arith, omega arith)
-  few-from (suc fuel) bits = go (begins links bits) refl (few-from fuel)
+  few-from (suc turns) bits = go (begins links bits) refl (few-from turns)
     where
       more : (m : Move) (walk : List Move) → Begun bits m walk → (o : Option (List (List Move))) → Holds (Few (takenAll bits walk)) o → Holds (Few bits) (onto walk o)
       more m walk b none h = tt
@@ -124,11 +124,11 @@ module _ (links : Drawing) where
           let n = length-append walk (flatten ws) in
           (omega (arith, n, spent, h), omega (arith, n, h, b .not-empty))
 
-      by : (m : Move) (o : Option (List Move)) → Holds (Begun bits m) o → ((rest : List ℕ) → Holds (Few rest) (walksFrom fuel links rest)) → Holds (Few bits) (bind o (λ walk. onto walk (walksFrom fuel links (takenAll bits walk))))
+      by : (m : Move) (o : Option (List Move)) → Holds (Begun bits m) o → ((rest : List ℕ) → Holds (Few rest) (walksFrom turns links rest)) → Holds (Few bits) (bind o (λ walk. onto walk (walksFrom turns links (takenAll bits walk))))
       by m none h ih = tt
-      by m (some walk) h ih = more m walk h (walksFrom fuel links (takenAll bits walk)) (ih (takenAll bits walk))
+      by m (some walk) h ih = more m walk h (walksFrom turns links (takenAll bits walk)) (ih (takenAll bits walk))
 
-      go : (o : Option Move) → begins links bits ≡ o → ((rest : List ℕ) → Holds (Few rest) (walksFrom fuel links rest)) → Holds (Few bits) (begun o (turn (λ b. fuel) bits))
+      go : (o : Option Move) → begins links bits ≡ o → ((rest : List ℕ) → Holds (Few rest) (walksFrom turns links rest)) → Holds (Few bits) (begun o (turn (λ b. turns) bits))
       go none e ih = (omega arith, omega arith)
       go (some m) e ih = by m (walkFrom links bits m) (begin-left bits m e) ih
 

@@ -1,4 +1,4 @@
--- One walk: as much fuel as bits are left is always enough, so it goes on by one turn; and each of its moves takes a bit that is left.
+-- One walk: as much turns as bits are left is always enough, so it goes on by one turn; and each of its moves takes a bit that is left.
 use mathlib.Core.Path.{_≡_, refl, sym, _∙_, ap}
 use mathlib.Core.List.{List, [], _∷_, _++_}
 use mathlib.Core.Option.{Option, none, some}
@@ -54,9 +54,9 @@ takes-spent bits [] t = omega arith
 takes-spent bits (m ∷ ms) t = omega (arith, left-taken bits m (t .0), takes-spent (taken bits m) ms (t .1))
 
 module _ (links : Drawing) (direction : Bool) (home : Point) where
-  -- one turn, with so much fuel for the rest
+  -- one turn, with so much turns for the rest
   abbrev turn : (List ℕ → ℕ) → ℕ → Point → List ℕ → Option (List Move)
-  turn fuel k p bits = bind (findNearest links direction k p bits) (λ m. onto m (till (fuel (taken bits m)) links direction home (m .place) (over links direction m .end) (taken bits m)))
+  turn turns k p bits = bind (findNearest links direction k p bits) (λ m. onto m (till (turns (taken bits m)) links direction home (m .place) (over links direction m .end) (taken bits m)))
 
   -- no bit, no move
   none-left : (k : ℕ) (p : Point) (bits : List ℕ) → bitsLeft bits ≤ 0 → findNearest links direction k p bits ≡ none
@@ -66,16 +66,16 @@ module _ (links : Drawing) (direction : Bool) (home : Point) where
       go none e = e
       go (some m) e = absurd (omega (arith, left-taken bits m (nearest-left links direction k p bits m e)))
 
-  empty : (fuel : List ℕ → ℕ) (k : ℕ) (p : Point) (bits : List ℕ) → bitsLeft bits ≤ 0 → turn fuel k p bits ≡ none
-  empty fuel k p bits h = rw (none-left k p bits h)
+  empty : (turns : List ℕ → ℕ) (k : ℕ) (p : Point) (bits : List ℕ) → bitsLeft bits ≤ 0 → turn turns k p bits ≡ none
+  empty turns k p bits h = rw (none-left k p bits h)
 
-  -- more fuel than bits changes nothing
-  till-fuel : (i j k : ℕ) (p : Point) (bits : List ℕ) → bitsLeft bits ≤ i → bitsLeft bits ≤ j → till i links direction home k p bits ≡ till j links direction home k p bits
+  -- more turns than bits changes nothing
+  till-turns : (i j k : ℕ) (p : Point) (bits : List ℕ) → bitsLeft bits ≤ i → bitsLeft bits ≤ j → till i links direction home k p bits ≡ till j links direction home k p bits
   unfolding till
-  till-fuel zero zero k p bits h l = refl
-  till-fuel zero (suc j) k p bits h l = ap (cond (eqP p home) (some [])) (sym (empty (λ b. j) k p bits h))
-  till-fuel (suc i) zero k p bits h l = ap (cond (eqP p home) (some [])) (empty (λ b. i) k p bits l)
-  till-fuel (suc i) (suc j) k p bits h l = ap (cond (eqP p home) (some [])) (go (findNearest links direction k p bits) refl (till-fuel i j))
+  till-turns zero zero k p bits h l = refl
+  till-turns zero (suc j) k p bits h l = ap (cond (eqP p home) (some [])) (sym (empty (λ b. j) k p bits h))
+  till-turns (suc i) zero k p bits h l = ap (cond (eqP p home) (some [])) (empty (λ b. i) k p bits l)
+  till-turns (suc i) (suc j) k p bits h l = ap (cond (eqP p home) (some [])) (go (findNearest links direction k p bits) refl (till-turns i j))
     where
       go : (o : Option Move) → findNearest links direction k p bits ≡ o
           → ((k′ : ℕ) (q : Point) (rest : List ℕ) → bitsLeft rest ≤ i → bitsLeft rest ≤ j → till i links direction home k′ q rest ≡ till j links direction home k′ q rest)
@@ -90,14 +90,14 @@ module _ (links : Drawing) (direction : Bool) (home : Point) where
   unfolding till
   till-home k p bits e = go (bitsLeft bits)
     where
-      go : (fuel : ℕ) → till fuel links direction home k p bits ≡ some []
+      go : (turns : ℕ) → till turns links direction home k p bits ≡ some []
       go zero = rw e
-      go (suc fuel) = rw e
+      go (suc turns) = rw e
 
   -- elsewhere, the next move
   pub till-on : (k : ℕ) (p : Point) (bits : List ℕ) → eqP p home ≡ false → till (bitsLeft bits) links direction home k p bits ≡ turn bitsLeft k p bits
   unfolding till
-  till-on k p bits n = till-fuel (bitsLeft bits) (suc (bitsLeft bits)) k p bits (omega arith) (omega arith) ∙ rw n (go (findNearest links direction k p bits) refl)
+  till-on k p bits n = till-turns (bitsLeft bits) (suc (bitsLeft bits)) k p bits (omega arith) (omega arith) ∙ rw n (go (findNearest links direction k p bits) refl)
     where
       go : (o : Option Move) → findNearest links direction k p bits ≡ o
           → bind o (λ m. onto m (till (bitsLeft bits) links direction home (m .place) (over links direction m .end) (taken bits m)))
@@ -105,27 +105,27 @@ module _ (links : Drawing) (direction : Bool) (home : Point) where
       go none e = refl
       go (some m) e =
           let fewer = left-taken bits m (nearest-left links direction k p bits m e) in
-          ap (onto m) (till-fuel (bitsLeft bits) (bitsLeft (taken bits m)) (m .place) (over links direction m .end) (taken bits m) (omega (arith, fewer)) (omega arith))
+          ap (onto m) (till-turns (bitsLeft bits) (bitsLeft (taken bits m)) (m .place) (over links direction m .end) (taken bits m) (omega (arith, fewer)) (omega arith))
 
   onto-takes : (bits : List ℕ) (m : Move) (o : Option (List Move)) → isLeft bits m ≡ true → Holds (Takes (taken bits m)) o → Holds (Takes bits) (onto m o)
   onto-takes bits m none e t = tt
   onto-takes bits m (some l) e t = (e, t)
 
-  pub till-takes : (fuel k : ℕ) (p : Point) (bits : List ℕ) → Holds (Takes bits) (till fuel links direction home k p bits)
+  pub till-takes : (turns k : ℕ) (p : Point) (bits : List ℕ) → Holds (Takes bits) (till turns links direction home k p bits)
   unfolding till
   till-takes zero k p bits = go (eqP p home)
     where
       go : (b : Bool) → Holds (Takes bits) (cond b (some []) none)
       go true = tt
       go false = tt
-  till-takes (suc fuel) k p bits = go (eqP p home) (findNearest links direction k p bits) refl (till-takes fuel)
+  till-takes (suc turns) k p bits = go (eqP p home) (findNearest links direction k p bits) refl (till-takes turns)
     where
-      go : (b : Bool) (o : Option Move) → findNearest links direction k p bits ≡ o → ((k′ : ℕ) (q : Point) (rest : List ℕ) → Holds (Takes rest) (till fuel links direction home k′ q rest))
-          → Holds (Takes bits) (cond b (some []) (bind o (λ m. onto m (till fuel links direction home (m .place) (over links direction m .end) (taken bits m)))))
+      go : (b : Bool) (o : Option Move) → findNearest links direction k p bits ≡ o → ((k′ : ℕ) (q : Point) (rest : List ℕ) → Holds (Takes rest) (till turns links direction home k′ q rest))
+          → Holds (Takes bits) (cond b (some []) (bind o (λ m. onto m (till turns links direction home (m .place) (over links direction m .end) (taken bits m)))))
       go true o e ih = tt
       go false none e ih = tt
       go false (some m) e ih =
-          onto-takes bits m (till fuel links direction home (m .place) (over links direction m .end) (taken bits m)) (nearest-left links direction k p bits m e)
+          onto-takes bits m (till turns links direction home (m .place) (over links direction m .end) (taken bits m)) (nearest-left links direction k p bits m e)
           (ih (m .place) (over links direction m .end) (taken bits m))
 
 -- ---- a walk that begins with m

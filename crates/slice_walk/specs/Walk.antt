@@ -72,9 +72,9 @@ bind (some x) f = f x
 -- the moves from p, having come over link k, till home. (Each takes a side bit, so as many turns as bits are left are enough)
 unfoldable pub till : ℕ → Drawing → Bool → (home : Point) → ℕ → Point → List ℕ → Option (List Move)
 till zero links direction home k p bits = cond (eqP p home) (some []) none
-till (suc fuel) links direction home k p bits =
+till (suc turns) links direction home k p bits =
     cond (eqP p home) (some [])
-    (bind (findNearest links direction k p bits) (λ m. onto m (till fuel links direction home (m .place) (over links direction m .end) (taken bits m))))
+    (bind (findNearest links direction k p bits) (λ m. onto m (till turns links direction home (m .place) (over links direction m .end) (taken bits m))))
 
 -- the walk that begins with m: from a to b, with direction true if it takes the top
 unfoldable pub walkFrom : Drawing → List ℕ → Move → Option (List Move)
@@ -91,8 +91,8 @@ begun (some m) f = f m
 -- each walk begins at the lowest link that still has bits: with its top if that is left, otherwise with its bottom
 unfoldable pub walksFrom : ℕ → Drawing → List ℕ → Option (List (List Move))
 walksFrom zero links bits = some []
-walksFrom (suc fuel) links bits =
-    begun (begins links bits) (λ m. bind (walkFrom links bits m) (λ walk. onto walk (walksFrom fuel links (takenAll bits walk))))
+walksFrom (suc turns) links bits =
+    begun (begins links bits) (λ m. bind (walkFrom links bits m) (λ walk. onto walk (walksFrom turns links (takenAll bits walk))))
 
 -- all walks over links with these side bits
 unfoldable pub walks : Drawing → List ℕ → Option (List (List Move))

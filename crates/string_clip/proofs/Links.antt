@@ -27,12 +27,12 @@ lines-are bits = ap₂ _+_ (one-is (bits % 2) (omega arith)) (one-is (bits / 2 %
 
 -- ---- travel, of a link with both ends in range
 module _ (s : Segment) (e : endsInRange s ≡ true) where
-  pub reach-bound : travelOf (asDrawn true s) ≤ 67108864
+  pub step-bound : travelOf (asDrawn true s) ≤ 67108864
   unfolding travelOf asDrawn endsInRange
-  reach-bound =
+  step-bound =
       let a = both-l (inRange (s .a)) (inRange (s .b)) e in
       let b = both-r (inRange (s .a)) (inRange (s .b)) e in
       omega (arith, abs-- (s .b .x) (s .a .x), abs-- (s .b .y) (s .a .y), near-x (s .a) a, near-x (s .b) b, near-y (s .a) a, near-y (s .b) b)
 
   pub link-bound : linesOf s * travelOf (asDrawn true s) ≤ 134217728
-  link-bound = N.mul-le-mul {n₂ = 2} {m₂ = 67108864} (omega (arith, lines-are (natAbs (s .bits)))) reach-bound
+  link-bound = N.mul-le-mul {n₂ = 2} {m₂ = 67108864} (omega (arith, lines-are (natAbs (s .bits)))) step-bound

@@ -267,12 +267,12 @@ module _ (n : ℕ) (s : Segment) (d : Drawing) where
       (passed-fits n out p bits (segmentAt longer)) s d
 
   -- till none fits
-  follow-same : (fuel : ℕ) (out : Bool) (p : Point) (bits : List ℕ) → follow fuel longer out p (more n bits) ≡ map (renamed n) (follow fuel d out p bits)
+  follow-same : (turns : ℕ) (out : Bool) (p : Point) (bits : List ℕ) → follow turns longer out p (more n bits) ≡ map (renamed n) (follow turns d out p bits)
   unfolding follow
   follow-same zero out p bits = refl
-  follow-same (suc fuel) out p bits =
-      then-same n (renamed n) (λ m. m ∷ follow fuel longer out (over longer out m .end) (taken (more n bits) m)) (λ m. m ∷ follow fuel d out (over d out m .end) (taken bits m))
-      (λ m. ap (renamed n m ∷_) (ap₂ (follow fuel longer out) (same-end out m) (taken-renamed n bits m) ∙ follow-same fuel out (over d out m .end) (taken bits m)))
+  follow-same (suc turns) out p bits =
+      then-same n (renamed n) (λ m. m ∷ follow turns longer out (over longer out m .end) (taken (more n bits) m)) (λ m. m ∷ follow turns d out (over d out m .end) (taken bits m))
+      (λ m. ap (renamed n m ∷_) (ap₂ (follow turns longer out) (same-end out m) (taken-renamed n bits m) ∙ follow-same turns out (over d out m .end) (taken bits m)))
       (goesOn d out p bits) (goesOn-same out p bits)
 
   -- the same path
@@ -283,7 +283,7 @@ module _ (n : ℕ) (s : Segment) (d : Drawing) where
       let out = m .forth in
       ap (renamed n m ∷_) (
       ap₂ (λ (p : Point) (b : List ℕ). follow (bitsLeft b) longer out p b) (same-end out m) (taken-renamed n bits m)
-      ∙ ap (λ fuel. follow fuel longer out (over d out m .end) (more n rest)) (bits-more n rest)
+      ∙ ap (λ turns. follow turns longer out (over d out m .end) (more n rest)) (bits-more n rest)
       ∙ follow-same (bitsLeft rest) out (over d out m .end) rest
       )
 
@@ -294,15 +294,15 @@ module _ (n : ℕ) (s : Segment) (d : Drawing) where
   takenAll-same bits (m ∷ l) = ap (λ (b : List ℕ). takenAll b (map (renamed n) l)) (taken-renamed n bits m) ∙ takenAll-same (taken bits m) l
 
   -- so the paths after it are the same
-  walkFrom-same : (fuel : ℕ) (bits : List ℕ) → walkFrom fuel longer (more n bits) ≡ map (map (renamed n)) (walkFrom fuel d bits)
+  walkFrom-same : (turns : ℕ) (bits : List ℕ) → walkFrom turns longer (more n bits) ≡ map (map (renamed n)) (walkFrom turns d bits)
   unfolding walkFrom
   walkFrom-same zero bits = refl
-  walkFrom-same (suc fuel) bits =
-      then-same n (map (renamed n)) (turn longer fuel (more n bits)) (turn d fuel bits)
+  walkFrom-same (suc turns) bits =
+      then-same n (map (renamed n)) (turn longer turns (more n bits)) (turn d turns bits)
       (λ m.
       let path = pathFrom d bits m in
-      ap (λ (l : List Move). l ∷ walkFrom fuel longer (takenAll (more n bits) l)) (path-same bits m)
-      ∙ ap (map (renamed n) path ∷_) (ap (walkFrom fuel longer) (takenAll-same bits path) ∙ walkFrom-same fuel (takenAll bits path)))
+      ap (λ (l : List Move). l ∷ walkFrom turns longer (takenAll (more n bits) l)) (path-same bits m)
+      ∙ ap (map (renamed n) path ∷_) (ap (walkFrom turns longer) (takenAll-same bits path) ∙ walkFrom-same turns (takenAll bits path)))
       (begins d bits) (begins-same bits)
 
   -- s has no line bits
@@ -313,7 +313,7 @@ module _ (n : ℕ) (s : Segment) (d : Drawing) where
     walk-same =
         let bits = lineBits d in
         let as-many : lineBits longer ≡ more n bits = map-putIn (λ (t : Segment). natAbs (t .bits)) s n d ∙ ap (λ b. putIn n b bits) none-on in
-        ap (λ (b : List ℕ). walkFrom (bitsLeft b) longer b) as-many ∙ ap (λ fuel. walkFrom fuel longer (more n bits)) (bits-more n bits) ∙ walkFrom-same (bitsLeft bits) bits
+        ap (λ (b : List ℕ). walkFrom (bitsLeft b) longer b) as-many ∙ ap (λ turns. walkFrom turns longer (more n bits)) (bits-more n bits) ∙ walkFrom-same (bitsLeft bits) bits
 
     -- its paths come through the same points
     points-same : (l : List Move) → pathPoints longer (map (renamed n) l) ≡ pathPoints d l

@@ -91,14 +91,14 @@ all-worth (s ∷ links) = ap (λ z. (one (has true (natAbs (s .bits))) + one (ha
 module _ (links : Drawing) where
   -- from the bits that are left on
   abbrev pathsFrom : ℕ → List ℕ → List (List Point)
-  pathsFrom fuel bits = map (pathPoints links) (walkFrom fuel links bits)
+  pathsFrom turns bits = map (pathPoints links) (walkFrom turns links bits)
 
-  from-long : (fuel : ℕ) (bits : List ℕ) (path : List Point) → path ∈ pathsFrom fuel bits → Long path
+  from-long : (turns : ℕ) (bits : List ℕ) (path : List Point) → path ∈ pathsFrom turns bits → Long path
   unfolding walkFrom
   from-long zero bits path i = absurd i
-  from-long (suc fuel) bits path i = go (begins links bits) i (from-long fuel)
+  from-long (suc turns) bits path i = go (begins links bits) i (from-long turns)
     where
-      go : (o : Option Move) → path ∈ map (pathPoints links) (andThen o (turn links fuel bits)) → ((bits′ : List ℕ) (q : List Point) → q ∈ pathsFrom fuel bits′ → Long q) → Long path
+      go : (o : Option Move) → path ∈ map (pathPoints links) (andThen o (turn links turns bits)) → ((bits′ : List ℕ) (q : List Point) → q ∈ pathsFrom turns bits′ → Long q) → Long path
       go none i ih = absurd i
       go (some m) (inl e) ih = omega (arith, ap length e, path-long links bits m)
       go (some m) (inr i) ih = ih (takenAll bits (pathFrom links bits m)) path i
@@ -108,22 +108,22 @@ module _ (links : Drawing) where
   walk-long path i = from-long (bitsLeft (lineBits links)) (lineBits links) path i
 
   module _ (proper : Proper links) where
-    -- with fuel enough for the bits that are left, the walk takes them all
-    from-steps : (fuel : ℕ) (bits : List ℕ) → worth ones links bits ≤ fuel → (f : Step → ℕ) → tally f (stepsOf (pathsFrom fuel bits)) ≡ worth f links bits
+    -- with turns enough for the bits that are left, the walk takes them all
+    from-steps : (turns : ℕ) (bits : List ℕ) → worth ones links bits ≤ turns → (f : Step → ℕ) → tally f (stepsOf (pathsFrom turns bits)) ≡ worth f links bits
     unfolding walkFrom stepsOf tally
     from-steps zero bits h f = sym (no-worth f links bits (omega arith))
-    from-steps (suc fuel) bits h f = go (begins links bits) refl (from-steps fuel)
+    from-steps (suc turns) bits h f = go (begins links bits) refl (from-steps turns)
       where
         go : (o : Option Move) → begins links bits ≡ o
-            → ((bits′ : List ℕ) → worth ones links bits′ ≤ fuel → (g : Step → ℕ) → tally g (stepsOf (pathsFrom fuel bits′)) ≡ worth g links bits′)
-            → tally f (stepsOf (map (pathPoints links) (andThen o (turn links fuel bits)))) ≡ worth f links bits
+            → ((bits′ : List ℕ) → worth ones links bits′ ≤ turns → (g : Step → ℕ) → tally g (stepsOf (pathsFrom turns bits′)) ≡ worth g links bits′)
+            → tally f (stepsOf (map (pathPoints links) (andThen o (turn links turns bits)))) ≡ worth f links bits
         go none e ih = sym (begins-none f links bits e)
         go (some m) e ih =
             let path = pathFrom links bits m in
             let after = takenAll bits path in
             let does = path-does links proper bits m (begins-some links bits m e) in
-            let fewer : worth ones links after ≤ fuel = omega (arith, does .0 ones, path-some links bits m) in
-            omega (arith, tally-++ f (stepsOfPath (pathPoints links path)) (stepsOf (pathsFrom fuel after)), path-steps f links bits m (does .1), ih after fewer f, does .0 f)
+            let fewer : worth ones links after ≤ turns = omega (arith, does .0 ones, path-some links bits m) in
+            omega (arith, tally-++ f (stepsOfPath (pathPoints links path)) (stepsOf (pathsFrom turns after)), path-steps f links bits m (does .1), ih after fewer f, does .0 f)
 
     -- what the steps of the walk come to, for any worth of a step
     pub walk-steps : (f : Step → ℕ) → tally f (stepsOf (map (pathPoints links) (walk links))) ≡ worth f links (lineBits links)

@@ -43,7 +43,7 @@ fn lines(bits: u8) -> u64
 }
 
 // |dx| + |dy| of a link.
-fn reach(s: Segment) -> u64
+fn step_travel(s: Segment) -> u64
     requires { ⌜ endsInRange s ≡ true ⌝ }
     ensures { λ r. ⌜ r ≡ travelOf (asDrawn true s) ⌝ }
 {
@@ -57,7 +57,7 @@ fn link_travel(s: Segment) -> u64
     requires { ⌜ (endsInRange s ≡ true) × (pos 0 ≤ℤ s .bits) × (s .bits ≤ℤ pos 3) ⌝ }
     ensures { λ r. ⌜ r ≡ linesOf s * travelOf (asDrawn true s) ⌝ }
 {
-    lines(to_byte(s.bits)) * reach(s)
+    lines(to_byte(s.bits)) * step_travel(s)
 }
 
 // The travel of all steps over all links.

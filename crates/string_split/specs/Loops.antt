@@ -19,6 +19,7 @@ pub record Turn : Type 0 where
   pub buffer : List Point
   pub loops : List (List Point)
 
+-- this buffer and these loops
 abbrev pub turned : List Point → List (List Point) → Turn
 turned buffer loops = record { buffer = buffer; loops = loops }
 
@@ -41,6 +42,7 @@ turns memory buffer (p ∷ points) =
 unfoldable pub rest : List Point → List (List Point)
 rest buffer = cond (ltb 2 (length buffer)) (buffer ∷ []) []
 
+-- the loops of all points, whatever their area
 unfoldable pub allLoops : List Point → List (List Point)
 allLoops points = let t = turns [] [] points in t .loops ++ rest (t .buffer)
 

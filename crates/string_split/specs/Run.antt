@@ -38,6 +38,7 @@ splitVerdict points out lengths =
     then firstFrom (outAt (pairUp points)) (length (pairUp points)) 0
 
 -- ---- the run
+-- how many loops and points there are
 abbrev pub foundOf : List (List Point) → Found
 foundOf loops = record { loops = length loops; points = length (flatten loops) }
 
@@ -47,6 +48,7 @@ pub record Outcome : Type 0 where
   pub out : List ℤ
   pub lengths : List ℕ
 
+-- this answer, and the lists
 abbrev pub outcome : Loops → List ℤ → List ℕ → Outcome
 outcome answer out lengths = record { answer = answer; out = out; lengths = lengths }
 
@@ -55,5 +57,6 @@ abbrev pub answered : Verdict → List (List Point) → List ℤ → List ℕ �
 answered verdict-is.Accepted loops out lengths = outcome (Done (foundOf loops)) (written (coordinates (flatten loops)) out) (written (map length loops) lengths)
 answered (verdict-is.Refused number place) loops out lengths = outcome (Refused number place) out lengths
 
+-- the outcome of a split run
 unfoldable pub splitOutcome : List ℤ → ℕ → List ℤ → List ℕ → Outcome
 splitOutcome points least out lengths = answered (splitVerdict points (length out) (length lengths)) (splitLoops least (pairUp points)) out lengths

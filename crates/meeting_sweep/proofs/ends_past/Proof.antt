@@ -32,22 +32,22 @@ cast-e c = omega (arith, c .shared-slice-known2 .given (c .before .before .args 
 loop-holds : tie.Need-loop-holds Inv-loop μ-loop
 loop-holds c = let s = c .before .before in runs-none _ (s .args .k) (length (s .args .flat .now)) _ (omega (arith, s .pre))
 
-mul-is-level : tie.Need-mul-is-level Inv-loop μ-loop
-mul-is-level c = search needs
+mul-at-one-x : tie.Need-mul-at-one-x Inv-loop μ-loop
+mul-at-one-x c = search needs
 
-shared-slice-read-is-level : tie.Need-shared-slice-read-is-level Inv-loop μ-loop
-shared-slice-read-is-level c = search needs
+shared-slice-read-at-one-x : tie.Need-shared-slice-read-at-one-x Inv-loop μ-loop
+shared-slice-read-at-one-x c = search needs
 
-cast-is-level : tie.Need-cast-is-level Inv-loop μ-loop
-cast-is-level c = omega (arith, c .shared-slice-known3 .given (c .before .before .loop .j))
+cast-at-one-x : tie.Need-cast-at-one-x Inv-loop μ-loop
+cast-at-one-x c = omega (arith, c .shared-slice-known3 .given (c .before .before .loop .j))
 
-is-level-requires : tie.Need-is-level-requires Inv-loop μ-loop
-is-level-requires c κs = search needs
+at-one-x-requires : tie.Need-at-one-x-requires Inv-loop μ-loop
+at-one-x-requires c κs = search needs
 
 returns : tie.Need-returns Inv-loop μ-loop
 returns c =
     let l = c .before .before .before .before .loop in
-    runs-out (l .inv) (λ h e. clash (c .before .is-level .ensures ∙ eq-eqZ e) (not-true _ (c .if1 .taken)))
+    runs-out (l .inv) (λ h e. clash (c .before .at-one-x .ensures ∙ eq-eqZ e) (not-true _ (c .if1 .taken)))
 
 add-j : tie.Need-add-j Inv-loop μ-loop
 add-j c = search needs
@@ -58,7 +58,7 @@ loop-less c = search needs
 loop-again : tie.Need-loop-again Inv-loop μ-loop
 loop-again c =
     let l = c .before .before .before .before .loop in
-    runs-on (l .j) (l .inv) (omega arith) (eqZ-true (sym (c .before .is-level .ensures) ∙ not-false _ (c .if1 .left)))
+    runs-on (l .j) (l .inv) (omega arith) (eqZ-true (sym (c .before .at-one-x .ensures) ∙ not-false _ (c .if1 .left)))
 
 returns-2 : tie.Need-returns-2 Inv-loop μ-loop
 returns-2 c = runs-out (c .before .loop .inv) (λ h e. absurd (omega arith))
@@ -73,10 +73,10 @@ ends-past-spec =
     shared-slice-read-e
     cast-e
     loop-holds
-    mul-is-level
-    shared-slice-read-is-level
-    cast-is-level
-    is-level-requires
+    mul-at-one-x
+    shared-slice-read-at-one-x
+    cast-at-one-x
+    at-one-x-requires
     returns
     add-j
     loop-less

@@ -26,11 +26,11 @@ count-requires c κs = search needs
 loop-holds : tie.Need-loop-holds Inv-loop μ-loop
 loop-holds c = let s = c .before in runs-none _ (s .args .k) (length (segments (s .args .s .now))) _ (s .pre)
 
-is-level-requires : tie.Need-is-level-requires Inv-loop μ-loop
-is-level-requires c κs = search needs
+at-one-x-requires : tie.Need-at-one-x-requires Inv-loop μ-loop
+at-one-x-requires c κs = search needs
 
 returns : tie.Need-returns Inv-loop μ-loop
-returns c = runs-out (c .before .before .before .loop .inv) (λ h e. clash (c .before .is-level .ensures ∙ eq-eqZ e) (not-true _ (c .if1 .taken)))
+returns c = runs-out (c .before .before .before .loop .inv) (λ h e. clash (c .before .at-one-x .ensures ∙ eq-eqZ e) (not-true _ (c .if1 .taken)))
 
 add-j : tie.Need-add-j Inv-loop μ-loop
 add-j c = search needs
@@ -42,7 +42,7 @@ loop-again : tie.Need-loop-again Inv-loop μ-loop
 loop-again c =
     let l = c .before .before .before .loop in
     let s = c .before .before .before .before .before in
-    runs-on (l .j) (l .inv) (omega (arith, c .before .before .loop-test .taken, c .before .before .before .before .count .ensures, length-segments (s .args .s .now))) (eqZ-true (sym (c .before .is-level .ensures) ∙ not-false _ (c .if1 .left)))
+    runs-on (l .j) (l .inv) (omega (arith, c .before .before .loop-test .taken, c .before .before .before .before .count .ensures, length-segments (s .args .s .now))) (eqZ-true (sym (c .before .at-one-x .ensures) ∙ not-false _ (c .if1 .left)))
 
 returns-2 : tie.Need-returns-2 Inv-loop μ-loop
 returns-2 c =
@@ -57,7 +57,7 @@ starts-past-spec =
     μ-loop
     count-requires
     loop-holds
-    is-level-requires
+    at-one-x-requires
     returns
     add-j
     loop-less

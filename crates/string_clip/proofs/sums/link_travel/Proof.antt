@@ -19,20 +19,20 @@ to-byte-requires c κs = search needs
 lines-requires : tie.Need-lines-requires
 lines-requires c κs = search needs
 
-reach-requires : tie.Need-reach-requires
-reach-requires c κs = search needs
+step-travel-requires : tie.Need-step-travel-requires
+step-travel-requires c κs = search needs
 
-module _ (c : tie.After-reach) where
+module _ (c : tie.After-step-travel) where
   abbrev b : tie.After-to-byte
   b = c .before .before
 
   abbrev s : tie.Start
   s = b .before .before
 
-  product : c .before .lines .result * c .reach .result ≡ linesOf (s .args .s) * travelOf (asDrawn true (s .args .s))
+  product : c .before .lines .result * c .step-travel .result ≡ linesOf (s .args .s) * travelOf (asDrawn true (s .args .s))
   product =
       let bits = b .to-byte .ensures ∙ ap natAbs (read w32 (s .args .s .bits) (omega arith)) in
-      ap₂ _*_ (c .before .lines .ensures ∙ ap (λ n. one (has true n) + one (has false n)) bits) (c .reach .ensures)
+      ap₂ _*_ (c .before .lines .ensures ∙ ap (λ n. one (has true n) + one (has false n)) bits) (c .step-travel .ensures)
 
 mul-result : tie.Need-mul-result
 mul-result c = record { fits = omega (arith, product c, link-bound (s c .args .s) (s c .pre .0)) }
@@ -42,4 +42,4 @@ returns c = product c
 
 pub link-travel-spec : {M : Type 1} → statement M
 link-travel-spec =
-    tie.close (tie.spec to-byte-requires lines-requires reach-requires mul-result returns)
+    tie.close (tie.spec to-byte-requires lines-requires step-travel-requires mul-result returns)

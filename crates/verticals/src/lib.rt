@@ -11,7 +11,7 @@ ghost use Rattle.geom.specs.Points.{inRange};
 ghost use Rattle.segm.specs.Segments.{segments, segmentAt};
 ghost use Rattle.meetings.specs.Meetings.{Proper};
 ghost use Rattle.neighbours.specs.Neighbours.{Ready, Known};
-ghost use Rattle.uprights.specs.Uprights.{endOf, liesUnder, liesAbove, CutIn, Cuts, Stacked};
+ghost use Rattle.verticals.specs.Verticals.{endOf, liesUnder, liesAbove, CutIn, Cuts, Stacked};
 
 // Which ends of the list's segments may touch a vertical one: before those that end there have left, their ends b; after those that start there have come, their starts a.
 pub enum Edge {

@@ -21,8 +21,8 @@ use Rattle.meetings.specs.Meetings.{side}
 use Rattle.strip.specs.Strip.{above}
 use Rattle.strip.proofs.Above.{above-yes}
 use Rattle.neighbours.specs.Neighbours.{Under, Above}
-use Rattle.uprights.specs.declared.Edge.{Edge}
-use Rattle.uprights.specs.Uprights.{endOf, liesUnder, liesAbove, CutIn}
+use Rattle.verticals.specs.declared.Edge.{Edge}
+use Rattle.verticals.specs.Verticals.{endOf, liesUnder, liesAbove, CutIn}
 
 -- ---- the tests
 module _ (edge : Edge) (p : Point) (t : Segment) where

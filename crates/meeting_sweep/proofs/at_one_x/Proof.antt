@@ -6,8 +6,8 @@ use mir.Syntax.{w32}
 use Rattle.geom.specs.declared.Point.{Point}
 use Rattle.geom.specs.Points.{eqZ}
 use Rattle.geom.proofs.Points.{bits-eqZ}
-use Rattle.meeting_sweep.proofs.is_level.Statement.{statement}
-use Rattle.meeting_sweep.proofs.is_level.Tie as tie
+use Rattle.meeting_sweep.proofs.at_one_x.Statement.{statement}
+use Rattle.meeting_sweep.proofs.at_one_x.Tie as tie
 
 end-point-requires : tie.Need-end-point-requires
 end-point-requires c κs = search needs
@@ -22,5 +22,5 @@ returns c =
     bits-eqZ w32 (first .end-point .result .x) (second .end-point2 .result .x) (omega arith) (omega arith)
     ∙ ap₂ (λ (p q : Point). eqZ (p .x) (q .x)) (first .end-point .ensures) (second .end-point2 .ensures)
 
-pub is-level-spec : {M : Type 1} → statement M
-is-level-spec = tie.close (tie.spec end-point-requires end-point-requires-2 returns)
+pub at-one-x-spec : {M : Type 1} → statement M
+at-one-x-spec = tie.close (tie.spec end-point-requires end-point-requires-2 returns)

@@ -11,10 +11,10 @@ use lib.ListN.{length, getD}
 use Rattle.segm.specs.Segments.{Drawing, segments, segmentAt}
 use Rattle.segm.proofs.Lists.{in-at}
 use Rattle.meetings.specs.Meetings.{Proper}
-use Rattle.uprights.specs.Uprights.{liesUnder}
-use Rattle.uprights.proofs.Gaps.{cut-at}
-use Rattle.uprights.proofs.is_cut.Statement.{statement}
-use Rattle.uprights.proofs.is_cut.Tie as tie
+use Rattle.verticals.specs.Verticals.{liesUnder}
+use Rattle.verticals.proofs.Gaps.{cut-at}
+use Rattle.verticals.proofs.is_cut.Statement.{statement}
+use Rattle.verticals.proofs.is_cut.Tie as tie
 
 module _ (c : tie.Start) where
   abbrev d : Drawing

@@ -1,4 +1,4 @@
--- What is tested of vertical segments. The contracts of `uprights` cite these. Assumes nothing.
+-- What is tested of vertical segments. The contracts of `verticals` cite these. Assumes nothing.
 use mathlib.Core.Path.{_≡_}
 use mathlib.Core.List.{List}
 use mathlib.Core.Bool.{Bool, true, _||_}
@@ -12,8 +12,8 @@ use Rattle.segm.specs.Segments.{Drawing, segmentAt}
 use Rattle.meetings.specs.Meetings.{side}
 use Rattle.strip.specs.Strip.{isVertical, above}
 use Rattle.neighbours.specs.Neighbours.{Cut}
-use Rattle.uprights.specs.declared.Edge.{Edge}
-use Rattle.uprights.specs.declared.Edge.the-variants.{Ends, Starts}
+use Rattle.verticals.specs.declared.Edge.{Edge}
+use Rattle.verticals.specs.declared.Edge.the-variants.{Ends, Starts}
 
 -- the end of a segment that may touch a vertical one
 abbrev pub endOf : Edge → Segment → Point

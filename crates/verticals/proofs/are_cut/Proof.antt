@@ -12,10 +12,10 @@ use Rattle.segm.specs.declared.Segment.{Segment}
 use Rattle.segm.specs.Segments.{Drawing, segments, segmentAt}
 use Rattle.meetings.specs.Meetings.{Proper}
 use Rattle.strip.specs.Strip.{isVertical}
-use Rattle.uprights.specs.Uprights.{CutIn, Cuts}
-use Rattle.uprights.proofs.Gaps.{one-more}
-use Rattle.uprights.proofs.are_cut.Statement.{statement}
-use Rattle.uprights.proofs.are_cut.Tie as tie
+use Rattle.verticals.specs.Verticals.{CutIn, Cuts}
+use Rattle.verticals.proofs.Gaps.{one-more}
+use Rattle.verticals.proofs.are_cut.Statement.{statement}
+use Rattle.verticals.proofs.are_cut.Tie as tie
 
 abbrev Inv-loop : tie.InvT-loop
 Inv-loop s edge from to list guess near₀ i₀ near i = Cuts (segments s) edge from i list

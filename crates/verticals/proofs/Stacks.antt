@@ -13,8 +13,8 @@ use Rattle.segm.specs.declared.Segment.{Segment}
 use Rattle.segm.specs.Segments.{Drawing, segmentAt}
 use Rattle.meetings.specs.Meetings.{Proper}
 use Rattle.strip.specs.Strip.{isVertical}
-use Rattle.uprights.specs.Uprights.{Stacked}
-use Rattle.uprights.proofs.Gaps.{one-more}
+use Rattle.verticals.specs.Verticals.{Stacked}
+use Rattle.verticals.proofs.Gaps.{one-more}
 
 -- a vertical segment goes up
 upward : (s : Segment) → Proper s → isVertical s ≡ true → s .a .y ≤ℤ s .b .y

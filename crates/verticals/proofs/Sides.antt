@@ -11,8 +11,8 @@ use Rattle.geom.specs.declared.Point.{Point}
 use Rattle.geom.specs.Points.{eqP, cross}
 use Rattle.segm.specs.declared.Segment.{Segment}
 use Rattle.meetings.specs.Meetings.{side}
-use Rattle.uprights.specs.declared.Edge.{Edge}
-use Rattle.uprights.specs.Uprights.{endOf}
+use Rattle.verticals.specs.declared.Edge.{Edge}
+use Rattle.verticals.specs.Verticals.{endOf}
 
 module _ {s t : Segment} (q : s ≡ t) (p : Point) where
   -- the cross product is the side

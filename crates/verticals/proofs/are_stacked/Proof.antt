@@ -15,9 +15,9 @@ use Rattle.integers.proofs.Order.{ltZ-false}
 use Rattle.segm.specs.declared.Segment.{Segment}
 use Rattle.segm.specs.Segments.{Drawing, segments, segmentAt}
 use Rattle.strip.specs.Strip.{isVertical}
-use Rattle.uprights.proofs.Stacks.{Stack, stack-on, stack-by}
-use Rattle.uprights.proofs.are_stacked.Statement.{statement}
-use Rattle.uprights.proofs.are_stacked.Tie as tie
+use Rattle.verticals.proofs.Stacks.{Stack, stack-on, stack-by}
+use Rattle.verticals.proofs.are_stacked.Statement.{statement}
+use Rattle.verticals.proofs.are_stacked.Tie as tie
 
 abbrev Inv-loop : tie.InvT-loop
 Inv-loop s from to top₀ i₀ top i = Stack (segments s) from i (toZ w32 top)

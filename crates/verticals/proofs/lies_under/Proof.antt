@@ -11,10 +11,10 @@ use Rattle.segm.specs.declared.Segment.{Segment}
 use Rattle.segm.specs.Segments.{segments, segmentAt}
 use Rattle.meetings.specs.Meetings.{Proper}
 use Rattle.strip.specs.Strip.{above}
-use Rattle.uprights.specs.Uprights.{liesUnder}
-use Rattle.uprights.proofs.Sides.{side-got, end-got}
-use Rattle.uprights.proofs.lies_under.Statement.{statement}
-use Rattle.uprights.proofs.lies_under.Tie as tie
+use Rattle.verticals.specs.Verticals.{liesUnder}
+use Rattle.verticals.proofs.Sides.{side-got, end-got}
+use Rattle.verticals.proofs.lies_under.Statement.{statement}
+use Rattle.verticals.proofs.lies_under.Tie as tie
 
 segment-at-requires : tie.Need-segment-at-requires
 segment-at-requires c κs = search needs

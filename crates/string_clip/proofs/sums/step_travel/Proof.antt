@@ -11,9 +11,9 @@ use mir.Val.{toZ, ofZ}
 use Rattle.integers.proofs.Machine.{read}
 use Rattle.clip_walk.specs.Walk.{asDrawn}
 use Rattle.string_clip.specs.Paths.{travelOf}
-use Rattle.string_clip.proofs.Links.{reach-bound}
-use Rattle.string_clip.proofs.sums.reach.Statement.{statement}
-use Rattle.string_clip.proofs.sums.reach.Tie as tie
+use Rattle.string_clip.proofs.Links.{step-bound}
+use Rattle.string_clip.proofs.sums.step_travel.Statement.{statement}
+use Rattle.string_clip.proofs.sums.step_travel.Tie as tie
 
 distance-requires : tie.Need-distance-requires
 distance-requires c κs = search needs
@@ -39,10 +39,10 @@ module _ (c : tie.After-distance2) where
       (leg _ (s .args .s .b .y) (s .args .s .a .y) (c .distance2 .ensures) (omega arith) (omega arith))
 
 add-result : tie.Need-add-result
-add-result c = record { fits = omega (arith, together c, reach-bound (s c .args .s) (s c .pre)) }
+add-result c = record { fits = omega (arith, together c, step-bound (s c .args .s) (s c .pre)) }
 
 returns : tie.Need-returns
 returns c = together c
 
-pub reach-spec : {M : Type 1} → statement M
-reach-spec = tie.close (tie.spec distance-requires distance-requires-2 add-result returns)
+pub step-travel-spec : {M : Type 1} → statement M
+step-travel-spec = tie.close (tie.spec distance-requires distance-requires-2 add-result returns)

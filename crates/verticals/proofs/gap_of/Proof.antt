@@ -1,7 +1,7 @@
 -- The place of v's head is tried. Assumes nothing.
 use borrow.Author.Needs.{needs}
-use Rattle.uprights.proofs.gap_of.Statement.{statement}
-use Rattle.uprights.proofs.gap_of.Tie as tie
+use Rattle.verticals.proofs.gap_of.Statement.{statement}
+use Rattle.verticals.proofs.gap_of.Tie as tie
 
 place-near-requires : tie.Need-place-near-requires
 place-near-requires c κs = let p = c .before .before .pre in (λ i m. p .0 .proper i (p .2 i m), p .1 .near-b)

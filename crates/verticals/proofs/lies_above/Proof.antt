@@ -10,10 +10,10 @@ use Rattle.integers.proofs.Booleans.{or-l}
 use Rattle.segm.specs.declared.Segment.{Segment}
 use Rattle.segm.specs.Segments.{segments, segmentAt}
 use Rattle.meetings.specs.Meetings.{Proper, side}
-use Rattle.uprights.specs.Uprights.{liesAbove}
-use Rattle.uprights.proofs.Sides.{side-got, end-got}
-use Rattle.uprights.proofs.lies_above.Statement.{statement}
-use Rattle.uprights.proofs.lies_above.Tie as tie
+use Rattle.verticals.specs.Verticals.{liesAbove}
+use Rattle.verticals.proofs.Sides.{side-got, end-got}
+use Rattle.verticals.proofs.lies_above.Statement.{statement}
+use Rattle.verticals.proofs.lies_above.Tie as tie
 
 segment-at-requires : tie.Need-segment-at-requires
 segment-at-requires c κs = search needs
