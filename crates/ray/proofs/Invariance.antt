@@ -1,4 +1,4 @@
--- Theorem A: the count under a segment does not change along it.
+-- The count under a segment does not change along it.
 use mathlib.Core.Path.{_≡_, refl, sym, _∙_, ap, subst}
 use mathlib.Core.Logic.{_⊎_, inl, inr}
 use mathlib.Core.Bool.{Bool, false, _&&_}
@@ -146,7 +146,7 @@ module _ {d : Drawing} (g : Good d) (h : Segment) (m : h ∈ d) where
       ∙ step (h .a .x +ℤ pos n) (omega (ints, of-+ (h .a .x) (pos n), of-pos n)) (subst (λ z. z <ℤ h .b .x) (sym e) l)
       ∙ climb n (omega (ints, of-+ (h .a .x) (pos n), of-+ (h .a .x) (pos (suc n)), of-pos n, of-pos (suc n)))
 
-  -- Theorem A
+  -- the count under h is the same all along it
   pub invariance : (x : ℤ) → Over x h → beneath d h x ≡ beneath d h (h .a .x)
   invariance x o = ap (beneath d h) (sym e) ∙ climb (natAbs (x -ℤ h .a .x)) (subst (λ z. z <ℤ h .b .x) (sym e) (o .to))
     where

@@ -1,4 +1,4 @@
--- Theorem C: at every point a rule changes as much over the segments that start there as over those that end there.
+-- At every point a rule changes as much over the segments that start there as over those that end there.
 use mathlib.Core.Path.{_≡_, refl, sym, _∙_, ap, ap₂}
 use mathlib.Core.Bool.{Bool, true, false, cond}
 use Prim.Native.Nat.{ℕ, _+_}
@@ -19,7 +19,7 @@ use Rattle.ray.proofs.Starts.{starts}
 use Rattle.ray.proofs.Flow.{as-many}
 use Rattle.ray.proofs.Telescope.{change}
 
--- THEOREM C
+-- f of a count, as a rule is: what it changes over the segments that start at p is what it changes over those that end there
 pub ways : {d : Drawing} → Good d → (f : ℤ → ℤ) (p : Point)
     → sum (λ s. only (eqP (s .a) p) (f (top d s) -ℤ f (bottom d s))) d ≡ sum (λ s. only (eqP (s .b) p) (f (top d s) -ℤ f (bottom d s))) d
 unfolding change top
