@@ -10,12 +10,12 @@ use borrow.Author.Tests.{ltb-true, ltb-false}
 use lib.Dec.{ltb}
 use lib.ListN.{length, getD, take, drop, length-set}
 use lib.Seq.{drop-cons}
-use Rattle.segm.specs.Lists.{_∈_, tally}
+use Rattle.segm.specs.Lists.{_∈_, tally, one}
 use Rattle.graph.specs.Nodes.{linkOf, otherEnd, part}
 use Rattle.graph.proofs.Node.{other-end-below}
 use Rattle.clip_walk.specs.declared.Next.{Next}
 use Rattle.clip_walk.specs.declared.Next.the-variants.{Stop, Leave}
-use Rattle.clip_walk.specs.Walk.{has, one, Move, isLeft, taken, takenAll, bitsLeft}
+use Rattle.clip_walk.specs.Walk.{has, Move, isLeft, taken, takenAll, bitsLeft}
 use Rattle.clip_walk.specs.Flat.{moveOf, linkAt, farNode, firstEnd, Graph, nextEnd, takenBy, onward, followEnds, movesOn, bitsAfter, NodeAt, Sound}
 use Rattle.clip_walk.proofs.Unroll.{left-taken}
 

@@ -9,7 +9,7 @@ use lib.IntN.{natAbs}
 use Rattle.geom.specs.declared.Point.{Point}
 use Rattle.geom.specs.Points.{ltP, eqP}
 use Rattle.segm.specs.declared.Segment.{Segment}
-use Rattle.segm.specs.Lists.{tally, upFrom}
+use Rattle.segm.specs.Lists.{tally, upFrom, one}
 use Rattle.segm.specs.Segments.{Drawing, segmentAt}
 use Rattle.graph.specs.Nodes.{node}
 
@@ -64,10 +64,6 @@ taken bits m = set bits (m .place) (clear (m .forth) (getD bits (m .place) 0))
 unfoldable pub takenAll : List ℕ → List Move → List ℕ
 takenAll bits [] = bits
 takenAll bits (m ∷ l) = takenAll (taken bits m) l
-
--- 1 where a test holds, 0 where not
-abbrev pub one : Bool → ℕ
-one b = cond b 1 0
 
 -- how many line bits are set
 abbrev pub linesIn : ℕ → ℕ

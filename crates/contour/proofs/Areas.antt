@@ -18,7 +18,7 @@ use Rattle.geom.specs.Points.{inRange, coordinate, within, cross}
 use Rattle.geom.proofs.Points.{near-x, near-y}
 use Rattle.segm.specs.Lists.{_∈_}
 use Rattle.segm.proofs.Tallies.{cases, in-++}
-use Rattle.contour.specs.Points.{origin, Near}
+use Rattle.contour.specs.Points.{origin, AllInRange}
 use Rattle.contour.specs.Area.{crossProduct, around, shoelace}
 
 -- as `geom` computes it
@@ -31,12 +31,12 @@ unfolding inRange coordinate within
 origin-near = refl
 
 -- a near list's points are near, and what is past them too
-pub near-at : (l : List Point) → Near l → (i : ℕ) → inRange (getD l i origin) ≡ true
+pub near-at : (l : List Point) → AllInRange l → (i : ℕ) → inRange (getD l i origin) ≡ true
 near-at [] h i = origin-near
 near-at (p ∷ l) h zero = h p (inl refl)
 near-at (p ∷ l) h (suc i) = near-at l (λ q m. h q (inr m)) i
 
-pub near-all : (ls : List (List Point)) → ((l : List Point) → l ∈ ls → Near l) → Near (flatten ls)
+pub near-all : (ls : List (List Point)) → ((l : List Point) → l ∈ ls → AllInRange l) → AllInRange (flatten ls)
 unfolding flatten
 near-all [] h p i = absurd i
 near-all (l ∷ ls) h p i = cases (h l (inl refl) p) (near-all ls (λ m j. h m (inr j)) p) (in-++ p l (flatten ls) i)
@@ -53,14 +53,14 @@ unfolding crossProduct
 cross-bound p q h k =
     omega (arith, abs-- (p .x *ℤ q .y) (q .x *ℤ p .y), product-bound (p .x) (q .y) (near-x p h) (near-y q k), product-bound (q .x) (p .y) (near-x q k) (near-y p h))
 
-around-bound : (first p : Point) (l : List Point) → inRange first ≡ true → inRange p ≡ true → Near l → natAbs (around first p l) ≤ suc (length l) * most
+around-bound : (first p : Point) (l : List Point) → inRange first ≡ true → inRange p ≡ true → AllInRange l → natAbs (around first p l) ≤ suc (length l) * most
 unfolding around
 around-bound first p [] f h n = omega (arith, cross-bound p first h f)
 around-bound first p (q ∷ l) f h n =
     let k = n q (inl refl) in
     omega (arith, abs-+ (crossProduct p q) (around first q l), cross-bound p q h k, around-bound first q l f k (λ r m. n r (inr m)))
 
-pub shoelace-bound : (l : List Point) → Near l → natAbs (shoelace l) ≤ length l * most
+pub shoelace-bound : (l : List Point) → AllInRange l → natAbs (shoelace l) ≤ length l * most
 unfolding shoelace
 shoelace-bound [] n = omega arith
 shoelace-bound (p ∷ l) n = let h = n p (inl refl) in around-bound p p l h h (λ q m. n q (inr m))

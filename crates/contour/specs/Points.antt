@@ -29,8 +29,8 @@ abbrev pub origin : Point
 origin = record { x = pos 0; y = pos 0 }
 
 -- every coordinate is in range
-abbrev pub Near : List Point → Type 0
-Near l = (p : Point) → p ∈ l → inRange p ≡ true
+abbrev pub AllInRange : List Point → Type 0
+AllInRange l = (p : Point) → p ∈ l → inRange p ≡ true
 
 -- these paths stand at the front of the lent lists, x, y pairs and one length a path; past them the lists are as they were
 pub record Writes (paths : List (List Point)) (points₀ : List ℤ) (lengths₀ : List ℕ) (points : List ℤ) (lengths : List ℕ) : Type 0 where

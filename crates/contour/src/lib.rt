@@ -7,7 +7,7 @@ ghost use Prim.Native.Nat.{suc, _+_, _*_, _%_, _≤_};
 ghost use lib.ListN.{length, getD, set};
 ghost use Rattle.geom.specs.Points.{inRange};
 ghost use Rattle.segm.specs.Lists.{written};
-ghost use Rattle.contour.specs.Points.{coordinates, pairUp, turnedRound, origin, Near};
+ghost use Rattle.contour.specs.Points.{coordinates, pairUp, turnedRound, origin, AllInRange};
 ghost use Rattle.contour.specs.Area.{crossProduct, shoelace, isClockwise, isLarge};
 ghost use Rattle.contour.specs.Contour.{contourOf};
 
@@ -76,7 +76,7 @@ fn cross_product(p: Point, q: Point) -> i64
 
 // The sum of the cross products of neighbouring points, the last to the first included.
 fn shoelace(points: &[i32]) -> i64
-    requires { ⌜ (length (now points) ≤ 4096) × Near (pairUp (now points)) ⌝ }
+    requires { ⌜ (length (now points) ≤ 4096) × AllInRange (pairUp (now points)) ⌝ }
     ensures { λ r. ⌜ r ≡ shoelace (pairUp (now (points .entry))) ⌝ }
 {
     let n = points.len() / 2;
@@ -94,7 +94,7 @@ fn shoelace(points: &[i32]) -> i64
 
 // Whether a contour goes clockwise.
 pub fn is_clockwise(points: &[i32]) -> bool
-    requires { ⌜ (length (now points) ≤ 4096) × Near (pairUp (now points)) ⌝ }
+    requires { ⌜ (length (now points) ≤ 4096) × AllInRange (pairUp (now points)) ⌝ }
     ensures { λ r. ⌜ r ≡ isClockwise (pairUp (now (points .entry))) ⌝ }
 {
     shoelace(points) < 0
@@ -102,7 +102,7 @@ pub fn is_clockwise(points: &[i32]) -> bool
 
 // Whether the area of a contour reaches the least one; 0 takes all.
 pub fn is_large(points: &[i32], least: u64) -> bool
-    requires { ⌜ (length (now points) ≤ 4096) × Near (pairUp (now points)) ⌝ }
+    requires { ⌜ (length (now points) ≤ 4096) × AllInRange (pairUp (now points)) ⌝ }
     ensures { λ r. ⌜ r ≡ isLarge least (pairUp (now (points .entry))) ⌝ }
 {
     if least == 0 {
@@ -113,7 +113,7 @@ pub fn is_large(points: &[i32], least: u64) -> bool
 
 // Makes a loop a contour: turns it round where it must be, and returns its role.
 pub fn finish(points: &mut [i32], direction: bool, clockwise: bool) -> u8
-    requires { ⌜ (length (now points) % 2 ≡ 0) × (length (now points) ≤ 4096) × Near (pairUp (now points)) ⌝ }
+    requires { ⌜ (length (now points) % 2 ≡ 0) × (length (now points) ≤ 4096) × AllInRange (pairUp (now points)) ⌝ }
     ensures { λ r. ⌜ (r ≡ contourOf clockwise direction (pairUp (now (points .entry))) .role)
         × (now (points .exit) ≡ coordinates (contourOf clockwise direction (pairUp (now (points .entry))) .points)) ⌝ }
 {

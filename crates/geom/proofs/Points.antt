@@ -129,6 +129,14 @@ not-less-trans p q r h k = is-false (ltP r p) (λ e. go (compare p q) (ltP-true 
     go (inr (inl b)) e = clash (before b) h
     go (inr (inr b)) e = clash (before (subst (λ (i : Point). Before r i) b e)) k
 
+-- of two points the one that is not less has the greater x, or the same
+pub not-less-x : (p q : Point) → ltP q p ≡ false → p .x ≤ℤ q .x
+not-less-x p q e = go (order (q .x) (p .x))
+  where
+    go : (q .x <ℤ p .x) ⊎ (p .x ≤ℤ q .x) → p .x ≤ℤ q .x
+    go (inl h) = absurd (clash (before (inl h)) e)
+    go (inr h) = h
+
 -- as the code compares
 pub ltP-left : (p q : Point) → ltZ (p .x) (q .x) ≡ true → ltP p q ≡ true
 ltP-left p q h = before {p = p} {q = q} (inl (ltZ-true h))

@@ -3,7 +3,7 @@ use mathlib.Core.Path.{_≡_, sym, _∙_, ap, subst}
 use mathlib.Core.List.{List, []}
 use mathlib.Core.Logic.{_⊎_, inl, inr, ⊎-elim}
 use mathlib.Core.Bool.{true, false}
-use Prim.Native.Nat.{ℕ, zero, suc, _+_, _-_, _*_, _≤_, _<_}
+use Prim.Native.Nat.{ℕ, suc, _+_, _-_, _*_, _≤_, _<_}
 use native.Mathlib.Omega.{arith}
 use native.Mathlib.Decide.{decLt}
 use lib.ListN.{length, getD, take, drop, length-drop}
@@ -12,10 +12,10 @@ use lib.IntN.{ℤ, pos, negℤ}
 use lib.Signed.{_≤ℤ_, _<ℤ_, ≤ℤ-refl}
 use Rattle.integers.proofs.Booleans.{clash}
 use Rattle.integers.proofs.Linear.{ints, of-pos, of-neg, of-abs}
-use Rattle.integers.proofs.Order.{order, lt-le}
+use Rattle.integers.proofs.Order.{order}
 use Rattle.geom.specs.declared.Point.{Point}
 use Rattle.geom.specs.Points.{ltP, inRange}
-use Rattle.geom.proofs.Points.{eq-eqZ, ne-eqZ, near-x, Before, before, before-le, ltP-true}
+use Rattle.geom.proofs.Points.{eq-eqZ, ne-eqZ, near-x, Before, before, before-le, ltP-true, not-less-x}
 use Rattle.segm.specs.declared.Segment.{Segment}
 use Rattle.segm.specs.Lists.{_∈_, Pairs, upFrom}
 use Rattle.segm.specs.Segments.{Drawing, segmentAt, nowhere}
@@ -24,23 +24,14 @@ use Rattle.segm.proofs.Tallies.{cases, in-upFrom}
 use Rattle.ends.specs.Ends.{endPoint}
 use Rattle.ends.proofs.Ends.{end-a, end-b}
 use Rattle.graph.proofs.Flat.{Ordered}
-use Rattle.meetings.specs.Meetings.{Proper, meetsWrongly}
+use Rattle.meetings.specs.Meetings.{meetsWrongly}
 use Rattle.strip.specs.Strip.{isVertical}
-use Rattle.strip.proofs.Apart.{Over, over-wide}
+use Rattle.strip.proofs.Apart.{Over}
 use Rattle.neighbours.specs.Neighbours.{Ready, Known, Distinct}
 use Rattle.neighbours.proofs.Lists.{Holds, holds-distinct}
 use Rattle.neighbours.proofs.Event.{Swept}
 use Rattle.neighbours.proofs.Turn.{Coming, Tested, first-turn, turn-holds, turn, last-turn}
-use Rattle.open_list.specs.OpenList.{Left, Entered}
 use Rattle.meeting_sweep.specs.Events.{Past, Happened}
-
--- of two points the one that is not less has the greater x, or the same
-not-less-x : (p q : Point) → ltP q p ≡ false → p .x ≤ℤ q .x
-not-less-x p q e = go (order (q .x) (p .x))
-  where
-    go : (q .x <ℤ p .x) ⊎ (p .x ≤ℤ q .x) → p .x ≤ℤ q .x
-    go (inl h) = absurd (clash (before (inl h)) e)
-    go (inr h) = h
 
 -- ---- vertical or not
 module _ (s : Segment) where

@@ -6,16 +6,12 @@ use Prim.Native.Nat.{ℕ, _+_}
 use Rattle.geom.specs.declared.Point.{Point}
 use Rattle.geom.specs.Points.{eqP}
 use Rattle.segm.specs.declared.Segment.{Segment}
-use Rattle.segm.specs.Lists.{tally}
+use Rattle.segm.specs.Lists.{tally, one}
 
 -- a way from a point to a point
 pub record Way : Type 0 where
   pub start : Point
   pub stop : Point
-
--- 1 if b, else 0
-abbrev pub one : Bool → ℕ
-one b = cond b 1 0
 
 -- how many ways lead out of p
 unfoldable pub leaving : List Way → Point → ℕ

@@ -58,6 +58,6 @@ abbrev pub AllProper : Drawing → List ℕ → Type 0
 AllProper d l = (i : ℕ) → i ∈ l → Proper (segmentAt d i)
 
 -- what is sought is in range
-abbrev pub Near : Sought → Type 0
-Near (At p) = inRange p ≡ true
-Near (Along t) = Proper t
+abbrev pub SoughtInRange : Sought → Type 0
+SoughtInRange (At p) = inRange p ≡ true
+SoughtInRange (Along t) = Proper t

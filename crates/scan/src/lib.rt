@@ -11,7 +11,7 @@ ghost use Rattle.segm.specs.Lists.{written};
 ghost use Rattle.segm.specs.Segments.{segments, segmentAt};
 ghost use Rattle.meetings.specs.Meetings.{Proper};
 ghost use Rattle.strip.specs.Strip.{isVertical, underBySide};
-ghost use Rattle.scan.specs.Scan.{stillOpen, bisect, isBelow, placeBy, putAt, outAt, EndFrom, AllProper, Near};
+ghost use Rattle.scan.specs.Scan.{stillOpen, bisect, isBelow, placeBy, putAt, outAt, EndFrom, AllProper, SoughtInRange};
 
 // How many are open, and an x that none of them ends before.
 pub struct Open {
@@ -62,7 +62,7 @@ pub enum Sought {
 
 // Whether the segment at place i is below what is sought.
 fn is_below(s: &[i32], i: usize, sought: Sought) -> bool
-    requires { ⌜ Proper (segmentAt (segments (now s)) i) × Near sought ⌝ }
+    requires { ⌜ Proper (segmentAt (segments (now s)) i) × SoughtInRange sought ⌝ }
     ensures { λ r. ⌜ r ≡ isBelow (segments (now (s .entry))) sought i ⌝ }
 {
     let t = segm::segment_at(s, i);
@@ -123,7 +123,7 @@ pub fn leave(s: &[i32], x: i32, list: &mut [u32], held: Open) -> Open
 
 // The place of what is sought from one place of the list up to another, by bisection.
 fn place_between(s: &[i32], list: &[u32], from: usize, to: usize, sought: Sought) -> usize
-    requires { ⌜ AllProper (segments (now s)) (now list) × Near sought × (from ≤ to) × (to ≤ length (now list)) ⌝ }
+    requires { ⌜ AllProper (segments (now s)) (now list) × SoughtInRange sought × (from ≤ to) × (to ≤ length (now list)) ⌝ }
     ensures { λ r. ⌜ r ≡ bisect (λ k. isBelow (segments (now (s .entry))) sought (getD (now (list .entry)) k 0)) (to - from) from to ⌝ }
 {
     let mut low = from;
@@ -141,7 +141,7 @@ fn place_between(s: &[i32], list: &[u32], from: usize, to: usize, sought: Sought
 
 // The place in the list of what is sought.
 pub fn place_of(s: &[i32], list: &[u32], sought: Sought) -> usize
-    requires { ⌜ AllProper (segments (now s)) (now list) × Near sought ⌝ }
+    requires { ⌜ AllProper (segments (now s)) (now list) × SoughtInRange sought ⌝ }
     ensures { λ r. ⌜ r ≡ placeBy (isBelow (segments (now (s .entry))) sought) (now (list .entry)) ⌝ }
 {
     place_between(s, list, 0, list.len(), sought)
@@ -155,7 +155,7 @@ struct Stretch {
 
 // A stretch from a place on that holds the place of what is sought, if that is not before it: found by steps that double.
 fn stretch_from(s: &[i32], list: &[u32], from: usize, sought: Sought) -> Stretch
-    requires { ⌜ AllProper (segments (now s)) (now list) × Near sought × (from ≤ length (now list)) ⌝ }
+    requires { ⌜ AllProper (segments (now s)) (now list) × SoughtInRange sought × (from ≤ length (now list)) ⌝ }
     ensures { λ r. ⌜ (r .from ≤ r .to) × (r .to ≤ length (now (list .entry))) ⌝ }
 {
     let mut low = from;
@@ -178,7 +178,7 @@ fn stretch_from(s: &[i32], list: &[u32], from: usize, sought: Sought) -> Stretch
 
 // A stretch up to a place that holds the place of what is sought, if that is not after it: found by steps that double.
 fn stretch_before(s: &[i32], list: &[u32], to: usize, sought: Sought) -> Stretch
-    requires { ⌜ AllProper (segments (now s)) (now list) × Near sought × (to ≤ length (now list)) ⌝ }
+    requires { ⌜ AllProper (segments (now s)) (now list) × SoughtInRange sought × (to ≤ length (now list)) ⌝ }
     ensures { λ r. ⌜ (r .from ≤ r .to) × (r .to ≤ length (now (list .entry))) ⌝ }
 {
     let mut high = to;
@@ -198,7 +198,7 @@ fn stretch_before(s: &[i32], list: &[u32], to: usize, sought: Sought) -> Stretch
 
 // The stretch that holds the place of what is sought, from a guess on or up to it.
 fn stretch_near(s: &[i32], list: &[u32], guess: usize, sought: Sought) -> Stretch
-    requires { ⌜ AllProper (segments (now s)) (now list) × Near sought × (guess ≤ length (now list)) ⌝ }
+    requires { ⌜ AllProper (segments (now s)) (now list) × SoughtInRange sought × (guess ≤ length (now list)) ⌝ }
     ensures { λ r. ⌜ (r .from ≤ r .to) × (r .to ≤ length (now (list .entry))) ⌝ }
 {
     if 0 < guess {
@@ -211,7 +211,7 @@ fn stretch_near(s: &[i32], list: &[u32], guess: usize, sought: Sought) -> Stretc
 
 // The place of what is sought, with a guess: the nearer the guess, the fewer are looked at. Nothing is promised but that it is in the list or at its end.
 pub fn place_near(s: &[i32], list: &[u32], guess: usize, sought: Sought) -> usize
-    requires { ⌜ AllProper (segments (now s)) (now list) × Near sought ⌝ }
+    requires { ⌜ AllProper (segments (now s)) (now list) × SoughtInRange sought ⌝ }
     ensures { λ r. ⌜ r ≤ length (now (list .entry)) ⌝ }
 {
     if list.len() < guess {

@@ -48,6 +48,10 @@ unfoldable pub upFrom : ℕ → ℕ → List ℕ
 upFrom k zero = []
 upFrom k (suc n) = k ∷ upFrom (suc k) n
 
+-- 1 if b, else 0
+abbrev pub one : Bool → ℕ
+one b = cond b 1 0
+
 -- w if b, else 0
 abbrev pub only : Bool → ℤ → ℤ
 only b w = cond b w (pos 0)

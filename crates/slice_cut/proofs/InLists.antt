@@ -9,7 +9,7 @@ use lib.IntN.{ℤ}
 use Rattle.geom.specs.declared.Point.{Point}
 use Rattle.segm.specs.Lists.{tally}
 use Rattle.segm.proofs.Tallies.{in-left, in-right, tally-take, tally-part}
-use Rattle.contour.specs.Points.{pairUp, cut, Near}
+use Rattle.contour.specs.Points.{pairUp, cut, AllInRange}
 use Rattle.contour.proofs.Coordinates.{pairs-take, pairs-drop, length-pairs}
 use Rattle.string_split.specs.Splitting.{Splittable}
 use Rattle.slice_cut.specs.Cutting.{pathsIn, Stand}
@@ -42,7 +42,7 @@ length-firsts (n ∷ ns) ps (suc k) h =
       length-firsts ns (drop n ps) k (omega (arith, length-drop n ps)),
     )
 
-near-at : (paths : List (List Point)) (k : ℕ) → k < length paths → Near (flatten paths) → Near (getD paths k [])
+near-at : (paths : List (List Point)) (k : ℕ) → k < length paths → AllInRange (flatten paths) → AllInRange (getD paths k [])
 unfolding flatten
 near-at [] k h near = absurd (omega arith)
 near-at (path ∷ paths) zero h near = λ p i. near p (in-left p path (flatten paths) i)
@@ -88,5 +88,5 @@ module _ {points : List ℤ} {lengths : List ℕ} (s : Stand points lengths) whe
     splittable = record {
       whole = omega (arith, length-path);
       few = omega (arith, length-path, path-few, s .few);
-      near = subst Near (sym path-is) (near-at (pathsIn points lengths) k (omega (arith, length-cut lengths (pairUp points))) (s .near));
+      near = subst AllInRange (sym path-is) (near-at (pathsIn points lengths) k (omega (arith, length-cut lengths (pairUp points))) (s .near));
     }

@@ -9,7 +9,7 @@ use lib.IntN.{ℤ}
 use Rattle.geom.specs.declared.Point.{Point}
 use Rattle.segm.specs.Lists.{tally, written}
 use Rattle.segm.proofs.Lists.{take-written, length-written, written-over}
-use Rattle.contour.specs.Points.{coordinates, pairUp, Near, Writes}
+use Rattle.contour.specs.Points.{coordinates, pairUp, AllInRange, Writes}
 use Rattle.contour.proofs.Coordinates.{length-coordinates, pair-coordinates}
 use Rattle.contour.proofs.CutWritten.{cut-written, tally-lengths}
 use Rattle.contour.specs.Contour.{contourOf}
@@ -26,13 +26,13 @@ module _ {loops : List (List Point)} {points₀ : List ℤ} {lengths₀ : List �
       rw (lengths-read, length-map loops length, w .points-are, pair-coordinates (flatten loops) (drop (length (coordinates (flatten loops))) points₀), ← append-nil (map length loops))
       (cut-written loops [] (pairUp (drop (length (coordinates (flatten loops))) points₀)))
 
-  pub loops-stand : length (flatten loops) ≤ 2048 → 2 * length (flatten loops) ≤ length points₀ → Near (flatten loops) → Stand points (take n lengths)
+  pub loops-stand : length (flatten loops) ≤ 2048 → 2 * length (flatten loops) ≤ length points₀ → AllInRange (flatten loops) → Stand points (take n lengths)
   loops-stand few room near =
       let all : tally (λ m. m) (take n lengths) ≡ length (flatten loops) = ap (tally (λ m. m)) lengths-read ∙ tally-lengths loops in
       record {
         inside = omega (arith, all, ap length (w .points-are), length-written (coordinates (flatten loops)) points₀ (omega (arith, length-coordinates (flatten loops))));
         few = omega (arith, all);
-        near = subst (λ (l : List (List Point)). Near (flatten l)) (sym loops-read) near;
+        near = subst (λ (l : List (List Point)). AllInRange (flatten l)) (sym loops-read) near;
       }
 
   -- the contours, over the loops that they are made of

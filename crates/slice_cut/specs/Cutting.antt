@@ -8,7 +8,7 @@ use lib.ListN.{length}
 use lib.IntN.{ℤ}
 use Rattle.geom.specs.declared.Point.{Point}
 use Rattle.segm.specs.Lists.{tally, written}
-use Rattle.contour.specs.Points.{coordinates, pairUp, Near, cut}
+use Rattle.contour.specs.Points.{coordinates, pairUp, AllInRange, cut}
 use Rattle.contour.specs.Contour.{Contour, contourOf}
 use Rattle.string_split.specs.Loops.{splitLoops}
 use Rattle.slice_cut.specs.declared.Contours.{Contours}
@@ -51,4 +51,4 @@ cutWalks clockwise least (walk ∷ walks) (direction ∷ directions) = walkConto
 pub record Stand (points : List ℤ) (lengths : List ℕ) : Type 0 where
   pub inside : 2 * tally (λ n. n) lengths ≤ length points
   pub few : tally (λ n. n) lengths ≤ 2048
-  pub near : Near (flatten (pathsIn points lengths))
+  pub near : AllInRange (flatten (pathsIn points lengths))

@@ -13,12 +13,12 @@ use Rattle.segm.specs.declared.Segment.{Segment}
 use Rattle.segm.specs.Segments.{Drawing, segmentAt}
 use Rattle.segm.proofs.Segments.{segment-in, past}
 use Rattle.segm.proofs.Tallies.{in-map}
-use Rattle.contour.specs.Points.{Near}
+use Rattle.contour.specs.Points.{AllInRange}
 use Rattle.clip_walk.specs.Walk.{Move, asDrawn, way, over, takenAll, bitsLeft, begins}
 use Rattle.clip_walk.proofs.Moves.{begins-some}
 use Rattle.clip_walk.proofs.Unroll.{left-taken}
 use Rattle.slice_walk.specs.Walk.{onto, bind, walkFrom, begun, walksFrom, walks, directionOf, walkPoints}
-use Rattle.slice_walk.specs.Writing.{Proper, allPoints}
+use Rattle.slice_walk.specs.Writing.{ProperLinks, allPoints}
 use Rattle.slice_walk.proofs.Till.{Holds, Begun, walk-begun, takes-spent}
 
 -- ---- points
@@ -38,7 +38,7 @@ length-all links (w ∷ ws) = omega (
 )
 
 -- the points of proper links are in range
-near-at : (links : Drawing) → Proper links → (k : ℕ) → (inRange (segmentAt links k .a) ≡ true) × (inRange (segmentAt links k .b) ≡ true)
+near-at : (links : Drawing) → ProperLinks links → (k : ℕ) → (inRange (segmentAt links k .a) ≡ true) × (inRange (segmentAt links k .b) ≡ true)
 unfolding inRange coordinate within
 near-at links p k = go (decLe (length links) k)
   where
@@ -53,7 +53,7 @@ start-near true false s a b = b
 start-near false true s a b = b
 start-near false false s a b = a
 
-pub walk-near : (links : Drawing) → Proper links → (walk : List Move) → Near (walkPoints links walk)
+pub walk-near : (links : Drawing) → ProperLinks links → (walk : List Move) → AllInRange (walkPoints links walk)
 unfolding walkPoints over
 walk-near links p walk q i =
     let f : Move → Point = λ m. over links (directionOf walk) m .start in

@@ -33,7 +33,7 @@ use Rattle.clip_walk.specs.Flat.{moveOf}
 use Rattle.clip_walk.proofs.FlatIsWalk.{at-place, fits}
 use Rattle.slice_walk.specs.Walk.{isNearer, moveFrom, nearest, ifLeft, orElse, findNearest}
 use Rattle.slice_walk.specs.Ends.{farPoint, addEnd, isOther, nearestEnd, Leaving}
-use Rattle.slice_walk.specs.Writing.{Proper, NextIs}
+use Rattle.slice_walk.specs.Writing.{ProperLinks, NextIs}
 
 -- ---- a comparison with 0, turned round
 pub le-turned : (z : ℤ) → leZ z (pos 0) ≡ leZ (pos 0) (negℤ z)
@@ -92,7 +92,7 @@ module _ (links : Drawing) (direction : Bool) (k : ℕ) (p : Point) (bits : List
           subst (λ (n : Move). isLeft bits n ≡ true) r (both-r (not (eqb j k)) (isLeft bits (from j)) (h .1))
 
 -- ---- ends of proper links
-module _ (links : Drawing) (proper : Proper links) where
+module _ (links : Drawing) (proper : ProperLinks links) where
   abbrev m : ℕ
   m = length links
 
@@ -169,7 +169,7 @@ module _ (links : Drawing) (direction : Bool) (f : ℕ) where
       go false q = b
 
 -- over ends at the point of f, as over their links
-module _ (links : Drawing) (proper : Proper links) (direction : Bool) (f : ℕ) (below : f < 2 * length links) (bits : List ℕ) where
+module _ (links : Drawing) (proper : ProperLinks links) (direction : Bool) (f : ℕ) (below : f < 2 * length links) (bits : List ℕ) where
   abbrev p : Point
   p = endPoint links f
 

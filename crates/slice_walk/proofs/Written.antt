@@ -11,12 +11,12 @@ use lib.Dec.{eqb}
 use lib.ListN.{length, getD, take, drop, set, length-append, length-map}
 use lib.IntN.{ℤ}
 use Rattle.geom.specs.declared.Point.{Point}
-use Rattle.segm.specs.Lists.{written}
+use Rattle.segm.specs.Lists.{written, one}
 use Rattle.segm.specs.Segments.{Drawing}
 use Rattle.segm.proofs.Lists.{written-more, flatten-one}
 use Rattle.contour.specs.Points.{coordinates, Writes}
 use Rattle.contour.proofs.Written.{writes-one}
-use Rattle.clip_walk.specs.Walk.{has, one, Move, move, isLeft, taken, takenAll, bitsLeft}
+use Rattle.clip_walk.specs.Walk.{has, Move, move, isLeft, taken, takenAll, bitsLeft}
 use Rattle.clip_walk.proofs.Unroll.{left-taken, taken-other}
 use Rattle.clip_walk.proofs.Flat.{length-taken}
 use Rattle.clip_walk.proofs.Begins.{first-left, begins-at, begins-nowhere}

@@ -9,14 +9,14 @@ use lib.IntN.{ℤ}
 use Rattle.geom.specs.declared.Point.{Point}
 use Rattle.geom.specs.Points.{ltP, inRange}
 use Rattle.segm.specs.declared.Segment.{Segment}
-use Rattle.segm.specs.Lists.{_∈_, written}
+use Rattle.segm.specs.Lists.{_∈_, written, one}
 use Rattle.segm.specs.Segments.{Drawing}
 use Rattle.contour.specs.Points.{coordinates, Writes}
 use Rattle.ends.specs.Ends.{endPoint}
 use Rattle.graph.specs.Nodes.{linkOf, Nodes}
 use Rattle.clip_walk.specs.declared.Next.{Next}
 use Rattle.clip_walk.specs.declared.Next.the-variants.{Stop, Leave}
-use Rattle.clip_walk.specs.Walk.{has, one, Move, move, isLeft, takenAll}
+use Rattle.clip_walk.specs.Walk.{has, Move, move, isLeft, takenAll}
 use Rattle.clip_walk.specs.Flat.{moveOf}
 use Rattle.slice_walk.specs.declared.Walked.{Walked}
 use Rattle.slice_walk.specs.declared.Walked.the-variants.{Closed, Stuck}
@@ -25,14 +25,14 @@ use Rattle.slice_walk.specs.declared.Walks.the-variants as walks-are
 use Rattle.slice_walk.specs.Walk.{findNearest, walkFrom, directionOf, walkPoints}
 
 -- what the links of an accepted drawing have
-pub record Proper (links : Drawing) : Type 0 where
+pub record ProperLinks (links : Drawing) : Type 0 where
   pub few : length links ≤ 1024
   pub near : (s : Segment) → s ∈ links → (inRange (s .a) ≡ true) × (inRange (s .b) ≡ true)
   pub rises : (s : Segment) → s ∈ links → ltP (s .a) (s .b) ≡ true
 
 -- what a walk over links needs of its lists
 pub record Walking (links : Drawing) (flat starts nodes bits : List ℕ) : Type 0 where
-  pub proper : Proper links
+  pub proper : ProperLinks links
   pub nodes-are : Nodes links flat starts nodes
   pub as-many : length bits ≡ length links
 

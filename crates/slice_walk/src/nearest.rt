@@ -13,7 +13,7 @@ ghost use Rattle.clip_walk.specs.declared.Next.the-variants.{Stop};
 ghost use Rattle.clip_walk.specs.Flat.{NodeAt};
 ghost use Rattle.slice_walk.specs.Walk.{isWide, isNearer};
 ghost use Rattle.slice_walk.specs.Ends.{farPoint, addEnd, nearestEnd, Leaving};
-ghost use Rattle.slice_walk.specs.Writing.{Proper, Walking, NextIs};
+ghost use Rattle.slice_walk.specs.Writing.{ProperLinks, Walking, NextIs};
 
 // Whether the angle from a to p about c is 180 degrees or more, or none.
 fn is_wide(clockwise: bool, c: Point, a: Point, p: Point) -> bool
@@ -48,7 +48,7 @@ fn far_point(links: &[i32], e: usize) -> Point
 
 // The nearer of the best end so far and e, of the ends at the point of f, whose link is the current one.
 fn add(links: &[i32], direction: bool, f: usize, best: Next, e: usize) -> Next
-    requires { ⌜ Proper (segments (now links))
+    requires { ⌜ ProperLinks (segments (now links))
         × (f < 2 * length (segments (now links)))
         × Leaving (λ b. b < 2 * length (segments (now links))) best
         × (e < 2 * length (segments (now links))) ⌝ }
@@ -75,7 +75,7 @@ fn find_other(
     f: usize,
     direction: bool,
 ) -> Next
-    requires { ⌜ Proper (segments (now links))
+    requires { ⌜ ProperLinks (segments (now links))
         × (length (now bits) ≡ length (segments (now links)))
         × NodeAt (length (now bits)) (now flat) (now starts) v
         × (f < 2 * length (now bits)) ⌝ }

@@ -10,7 +10,7 @@ use lib.IntN.{ℤ, natAbs, _-ℤ_}
 use Rattle.integers.proofs.Linear.{ints, of--, of-abs, of-side}
 use Rattle.geom.specs.declared.Point.{Point}
 use Rattle.segm.specs.declared.Segment.{Segment}
-use Rattle.segm.specs.Lists.{_∈_, tally}
+use Rattle.segm.specs.Lists.{_∈_, tally, one}
 use Rattle.segm.specs.Segments.{Drawing}
 use Rattle.segm.proofs.Tallies.{tally-cong, tally-one, tally-map, length-keep}
 use Rattle.checks.specs.Accepted.{Good}
@@ -18,7 +18,7 @@ use Rattle.fill_rule.specs.declared.Rule.{Rule}
 use Rattle.build.specs.declared.links.Filter.{Filter}
 use Rattle.ray.specs.Ray.{fill}
 use Rattle.build.specs.Links.{keeps, keptLinks}
-use Rattle.clip_walk.specs.Walk.{has, lineBits, Step, asDrawn, one, linesIn, bitsLeft, walk}
+use Rattle.clip_walk.specs.Walk.{has, lineBits, Step, asDrawn, linesIn, bitsLeft, walk}
 use Rattle.string_clip.specs.Paths.{linesOf, pathPoints, clipPaths, stepsFrom, stepsOfPath, stepsOf, travelOf}
 use Rattle.clip_walk.proofs.Moves.{Proper, value, worth, ones}
 use Rattle.clip_walk.proofs.Flat.{bits-few}

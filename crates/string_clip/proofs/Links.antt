@@ -11,8 +11,9 @@ use Rattle.integers.proofs.Order.{abs--}
 use Rattle.geom.specs.Points.{inRange}
 use Rattle.geom.proofs.Points.{near-x, near-y}
 use Rattle.segm.specs.declared.Segment.{Segment}
+use Rattle.segm.specs.Lists.{one}
 use Rattle.checks.specs.Drawing.{endsInRange}
-use Rattle.clip_walk.specs.Walk.{has, asDrawn, one}
+use Rattle.clip_walk.specs.Walk.{has, asDrawn}
 use Rattle.string_clip.specs.Paths.{travelOf, linesOf}
 
 -- ---- line bits that are set

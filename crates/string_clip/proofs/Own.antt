@@ -12,7 +12,7 @@ use Rattle.integers.proofs.Booleans.{both, both-l, both-r, clash, is-false}
 use Rattle.geom.specs.Points.{eqZ, ltP, eqP}
 use Rattle.geom.proofs.Points.{eqP-true, eq-eqP}
 use Rattle.segm.specs.declared.Segment.{Segment}
-use Rattle.segm.specs.Lists.{_∈_, Pairs, tally, keep}
+use Rattle.segm.specs.Lists.{_∈_, Pairs, tally, keep, one}
 use Rattle.segm.specs.Segments.{Drawing}
 use Rattle.segm.proofs.Tallies.{cases, tally-nil, keep-in}
 use Rattle.meetings.specs.Meetings.{sameEnds}
@@ -23,7 +23,7 @@ use Rattle.fill_rule.specs.FillRule.{filled}
 use Rattle.ray.specs.Ray.{bottom, top, fill}
 use Rattle.build.specs.Links.{sidesSet, keepsSides, keeps, filterOf, keptLinks}
 use Rattle.ray.proofs.Fills.{fill-top, fill-bottom, fill-lines}
-use Rattle.clip_walk.specs.Walk.{has, lineBits, Step, asDrawn, one}
+use Rattle.clip_walk.specs.Walk.{has, lineBits, Step, asDrawn}
 use Rattle.string_clip.specs.Paths.{clipPaths, stepsOf}
 use Rattle.string_clip.specs.Claim.{Direction, along, putIf, drawn, travelled, same, enough, rayKeeps}
 use Rattle.clip_walk.proofs.Moves.{Proper, none-set, worth, not-both}

@@ -9,10 +9,10 @@ use native.Mathlib.Omega.{arith}
 use lib.ListN.{length, length-map, length-reverse}
 use lib.IntN.{natAbs}
 use Rattle.geom.specs.declared.Point.{Point}
-use Rattle.segm.specs.Lists.{_∈_, tally}
+use Rattle.segm.specs.Lists.{_∈_, tally, one}
 use Rattle.segm.specs.Segments.{Drawing}
 use Rattle.segm.proofs.Tallies.{tally-++}
-use Rattle.clip_walk.specs.Walk.{has, lineBits, Step, step, asDrawn, Move, takenAll, one, bitsLeft, begins, way, over, andThen, pathFrom, walkFrom, walk}
+use Rattle.clip_walk.specs.Walk.{has, lineBits, Step, step, asDrawn, Move, takenAll, bitsLeft, begins, way, over, andThen, pathFrom, walkFrom, walk}
 use Rattle.string_clip.specs.Paths.{through, finished, pathPoints, stepsFrom, stepsOfPath, stepsOf}
 use Rattle.clip_walk.proofs.Moves.{Proper, worth, ones, begins-some, begins-none, Chain, drawnBy, path-does}
 use Rattle.clip_walk.proofs.Unroll.{turn}

@@ -10,7 +10,7 @@ use lib.IntN.{ℤ, pos}
 use borrow.Author.Tests.{le-ltb}
 use Rattle.integers.proofs.Booleans.{neither, nor-l, nor-r}
 use Rattle.geom.specs.Points.{within}
-use Rattle.segm.specs.Lists.{_∈_, any, tally}
+use Rattle.segm.specs.Lists.{_∈_, any, tally, one}
 use Rattle.segm.specs.Segments.{Drawing, count, segments}
 use Rattle.segm.proofs.Lists.{length-written, written-past}
 use Rattle.segm.proofs.Tallies.{cases, tally-cong, tally-+, tally-one, tally-in, tally-some}
@@ -26,7 +26,7 @@ use Rattle.build.specs.declared.links.Filter.{Filter}
 use Rattle.fill_rule.specs.FillRule.{ruleOf}
 use Rattle.ray.specs.Ray.{fill}
 use Rattle.build.specs.Links.{keeps, filterOf}
-use Rattle.clip_walk.specs.Walk.{Step, one}
+use Rattle.clip_walk.specs.Walk.{Step}
 use Rattle.string_clip.specs.Paths.{clipPaths, stepsOf, travelOf}
 use Rattle.contour.specs.Points.{coordinates}
 use Rattle.contour.proofs.Coordinates.{length-coordinates}

@@ -8,13 +8,13 @@ use lib.ListN.{length, drop}
 use lib.IntN.{ℤ, pos, natAbs}
 use Rattle.geom.specs.Points.{eqZ, eqP}
 use Rattle.segm.specs.declared.Segment.{Segment}
-use Rattle.segm.specs.Lists.{_∈_, tally}
+use Rattle.segm.specs.Lists.{_∈_, tally, one}
 use Rattle.segm.specs.Segments.{Drawing, segments}
 use Rattle.checks.specs.Accepted.{accepts}
 use Rattle.fill_rule.specs.declared.Rule.{Rule}
 use Rattle.fill_rule.specs.FillRule.{filled, ruleOf}
 use Rattle.ray.specs.Ray.{bottom, top}
-use Rattle.clip_walk.specs.Walk.{has, Step, asDrawn, one}
+use Rattle.clip_walk.specs.Walk.{has, Step, asDrawn}
 use Rattle.string_clip.specs.Paths.{stepsOf, travelOf}
 use Rattle.string_clip.specs.Run.{Outcome, clipOutcome, told, output}
 

@@ -25,7 +25,7 @@ use Rattle.ray.specs.Ray.{met, bottom, top, fill, fills}
 use Rattle.graph.specs.Nodes.{node}
 use Rattle.clip_walk.specs.Walk.{has, clear, asDrawn, isLeft, taken, takenAll, bitsLeft, firstLeft, bothMoves, begins, way, over, other, fitting}
 use Rattle.bin_store.specs.Sightings.{isSighted, numberOf, sight}
-use Rattle.string_split.specs.Loops.{closed, turn, turns, rest, allLoops, splitLoops}
+use Rattle.string_split.specs.Loops.{closed, bufferPoint, bufferPoints, rest, allLoops, splitLoops}
 use Rattle.slice_walk.specs.Walk.{rotated, isWide, isNearer, moveFrom, nearest, findNearest, till, walkFrom, walksFrom, walks, directionOf, walkPoints}
 use Rattle.string_slice.specs.declared.Sliced.the-variants.{Done, Refused}
 use Rattle.contour.specs.Contour.{contour, contourOf}
@@ -76,7 +76,7 @@ pub record Cases : Type 0 where
   pub all-dropped : sliceContours NonZero true 82 (segments holed) ≡ some []
 
 pub cases : Cases
-unfolding any sum tally keep written upFrom front segmentsOf count whole segments segmentAt total eqZ within ltP eqP coordinate inRange cross between endsInRange rises windingInRange bitsInRange fault faultAt meetingAt balance balances unbalancedAt meetsWrongly parts inside sameEnds side wrongLength unknownChoice tooShort firstFrom first inOrder verdict sliceRun spans above clockwise met bottom top filled ruleOf fillOf fill fills coordinates crossProduct around shoelace isClockwise isLarge node has clear asDrawn isLeft taken takenAll bitsLeft firstLeft bothMoves begins way over other fitting isSighted numberOf sight closed turn turns rest allLoops splitLoops rotated isWide isNearer moveFrom nearest findNearest till walkFrom walksFrom walks directionOf walkPoints sideBits contourOf walkContours allContours sliceContours sliceOutcome flatten
+unfolding any sum tally keep written upFrom front segmentsOf count whole segments segmentAt total eqZ within ltP eqP coordinate inRange cross between endsInRange rises windingInRange bitsInRange fault faultAt meetingAt balance balances unbalancedAt meetsWrongly parts inside sameEnds side wrongLength unknownChoice tooShort firstFrom first inOrder verdict sliceRun spans above clockwise met bottom top filled ruleOf fillOf fill fills coordinates crossProduct around shoelace isClockwise isLarge node has clear asDrawn isLeft taken takenAll bitsLeft firstLeft bothMoves begins way over other fitting isSighted numberOf sight closed bufferPoint bufferPoints rest allLoops splitLoops rotated isWide isNearer moveFrom nearest findNearest till walkFrom walksFrom walks directionOf walkPoints sideBits contourOf walkContours allContours sliceContours sliceOutcome flatten
 cases = record {
   case-A = refl;
   roles-short = refl;

@@ -9,17 +9,17 @@ use lib.Dec.{eqb}
 use lib.ListN.{length, take, drop, length-map}
 use lib.IntN.{ℤ}
 use Rattle.geom.specs.declared.Point.{Point}
-use Rattle.segm.specs.Lists.{tally, written}
+use Rattle.segm.specs.Lists.{tally, written, one}
 use Rattle.segm.specs.Segments.{Drawing}
 use Rattle.segm.proofs.Lists.{take-written}
 use Rattle.segm.proofs.Tallies.{in-map}
-use Rattle.contour.specs.Points.{coordinates, pairUp, Near, cut}
+use Rattle.contour.specs.Points.{coordinates, pairUp, AllInRange, cut}
 use Rattle.contour.proofs.Coordinates.{pair-coordinates}
 use Rattle.contour.proofs.Areas.{near-all}
 use Rattle.contour.proofs.CutWritten.{cut-written, tally-lengths}
 use Rattle.checks.specs.Accepted.{Good}
 use Rattle.fill_rule.specs.declared.Rule.{Rule}
-use Rattle.clip_walk.specs.Walk.{one, Move, bitsLeft}
+use Rattle.clip_walk.specs.Walk.{Move, bitsLeft}
 use Rattle.clip_walk.proofs.Flat.{bits-few}
 use Rattle.slice_walk.specs.declared.Walks.{Walks}
 use Rattle.slice_walk.specs.declared.Walks.the-variants.{Done, Stuck}
@@ -105,7 +105,7 @@ module _ (rule : Rule) (d : Drawing) (good : Good d) {n : ℕ} {points : List �
       record {
         inside = omega (arith, sum, few-points, good .few, room);
         few = omega (arith, sum, few-points, good .few);
-        near = subst (λ (l : List (List Point)). Near (flatten l)) (sym (m .paths-are)) (near-all (allPoints d (m .found)) (λ l i. let r = in-map (walkPoints d) l (m .found) i in subst Near (sym (r .2)) (walk-near d (proper d good) (r .0))));
+        near = subst (λ (l : List (List Point)). AllInRange (flatten l)) (sym (m .paths-are)) (near-all (allPoints d (m .found)) (λ l i. let r = in-map (walkPoints d) l (m .found) i in subst AllInRange (sym (r .2)) (walk-near d (proper d good) (r .0))));
       }
 
   -- the contours that are cut are those of the slice

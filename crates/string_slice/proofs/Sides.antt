@@ -15,10 +15,10 @@ use Rattle.checks.specs.Accepted.{Good}
 use Rattle.fill_rule.specs.declared.Rule.{Rule}
 use Rattle.ray.specs.Ray.{fills}
 use Rattle.ray.proofs.Fills.{length-fills}
-use Rattle.slice_walk.specs.Writing.{Proper}
+use Rattle.slice_walk.specs.Writing.{ProperLinks}
 use Rattle.string_slice.specs.Contours.{sideBits}
 
-pub proper : (d : Drawing) → Good d → Proper d
+pub proper : (d : Drawing) → Good d → ProperLinks d
 unfolding endsInRange
 proper d g = record {
   few = g .few;

@@ -12,7 +12,7 @@ use Rattle.integers.proofs.Booleans.{nor-l, nor-r}
 use Rattle.geom.specs.declared.Point.{Point}
 use Rattle.geom.specs.Points.{inRange}
 use Rattle.segm.proofs.Lists.{stands}
-use Rattle.contour.specs.Points.{pairUp, origin, Near}
+use Rattle.contour.specs.Points.{pairUp, origin, AllInRange}
 use Rattle.contour.proofs.Coordinates.{length-pairs}
 use Rattle.checks.specs.declared.Verdict.the-variants.{Accepted}
 use Rattle.checks.specs.Verdict.{refuseIf, firstFrom}
@@ -26,7 +26,7 @@ in-range : (b : Bool) → _≡_ {A = ℕ} (cond b 0 3) 0 → b ≡ true
 in-range true e = refl
 in-range false e = absurd (omega arith)
 
-near : (points : List Point) → firstFrom (outAt points) (length points) 0 ≡ Accepted → Near points
+near : (points : List Point) → firstFrom (outAt points) (length points) 0 ≡ Accepted → AllInRange points
 unfolding outAt
 near points e p m =
     let s = stands points origin p m in

@@ -11,7 +11,7 @@ use Rattle.contour.specs.Area.{crossProduct, around, shoelace, isClockwise, isL
 use Rattle.checks.specs.Verdict.{firstFrom}
 use Rattle.bin_store.specs.Sightings.{isSighted, numberOf, sight}
 use Rattle.string_split.specs.declared.Loops.the-variants.{Done, Refused}
-use Rattle.string_split.specs.Loops.{closed, turn, turns, rest, allLoops, splitLoops}
+use Rattle.string_split.specs.Loops.{closed, bufferPoint, bufferPoints, rest, allLoops, splitLoops}
 use Rattle.string_split.specs.Run.{wrongLength, tooShort, outAt, splitVerdict, outcome, splitOutcome}
 
 abbrev A : Point
@@ -56,7 +56,7 @@ pub record Cases : Type 0 where
   pub out-of-range : splitOutcome (pos 16777216 ∷ pos 0 ∷ pos 0 ∷ negsuc 16777216 ∷ []) 0 (pos 11 ∷ pos 12 ∷ pos 13 ∷ pos 14 ∷ []) (21 ∷ 22 ∷ []) ≡ outcome (Refused 3 1) (pos 11 ∷ pos 12 ∷ pos 13 ∷ pos 14 ∷ []) (21 ∷ 22 ∷ [])
 
 pub cases : Cases
-unfolding eqZ within eqP coordinate inRange any keep written coordinates pairUp crossProduct around shoelace isClockwise isLarge firstFrom isSighted numberOf sight closed turn turns rest allLoops splitLoops wrongLength tooShort outAt splitVerdict splitOutcome flatten
+unfolding eqZ within eqP coordinate inRange any keep written coordinates pairUp crossProduct around shoelace isClockwise isLarge firstFrom isSighted numberOf sight closed bufferPoint bufferPoints rest allLoops splitLoops wrongLength tooShort outAt splitVerdict splitOutcome flatten
 cases = record {
   not-forgotten = refl;
   twice = refl;

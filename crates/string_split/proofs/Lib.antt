@@ -1,6 +1,6 @@
 pub mod Fits
 pub mod Adding
-pub mod Turning
+pub mod OnePoint
 pub mod Taking
 pub mod Accepted
 pub mod Cases

@@ -12,22 +12,22 @@ use Rattle.geom.specs.declared.Point.{Point}
 use Rattle.geom.specs.Points.{inRange}
 use Rattle.segm.specs.Lists.{keep, written}
 use Rattle.segm.proofs.Tallies.{keep-++, length-keep}
-use Rattle.contour.specs.Points.{coordinates, origin, Near, Writes}
+use Rattle.contour.specs.Points.{coordinates, origin, AllInRange, Writes}
 use Rattle.contour.specs.Area.{isLarge}
 use Rattle.bin_store.specs.Sightings.{Sighting, numberOf, sight}
 use Rattle.string_split.specs.declared.buffer.Found.{Found}
-use Rattle.string_split.specs.Loops.{Turn, turned, turn, turns}
+use Rattle.string_split.specs.Loops.{Buffered, buffered, bufferPoint, bufferPoints}
 use Rattle.string_split.specs.Run.{foundOf}
 use Rattle.string_split.specs.Splitting.{Adds}
 use Rattle.string_split.proofs.Adding.{found-on, writes-on}
-use Rattle.string_split.proofs.Fits.{Fit, turn-fit, fit-on, turn-near, length-flatten-keep}
+use Rattle.string_split.proofs.Fits.{Fit, buffer-fit, fit-on, buffer-near, length-flatten-keep}
 
 -- after i points the loops of these are done, and the memory and the buffer decide the others
 pub record Taking (least : ℕ) (points : List Point) (out₀ : List ℤ) (lengths₀ : List ℕ) (memory : List Sighting) (buffer : List Point) (out : List ℤ) (lengths : List ℕ) (found : Found) (i : ℕ) : Type 0 where
   pub done : List (List Point)
-  pub all : turns [] [] points ≡ turned (turns memory buffer (drop i points) .buffer) (done ++ turns memory buffer (drop i points) .loops)
-  pub fit : Fit i (turned buffer done)
-  pub near : Near buffer
+  pub all : bufferPoints [] [] points ≡ buffered (bufferPoints memory buffer (drop i points) .buffer) (done ++ bufferPoints memory buffer (drop i points) .loops)
+  pub fit : Fit i (buffered buffer done)
+  pub near : AllInRange buffer
   pub found-is : found ≡ foundOf (keep (isLarge least) done)
   pub writes : Writes (keep (isLarge least) done) out₀ lengths₀ out lengths
 
@@ -53,35 +53,35 @@ module _ {least : ℕ} {points : List Point} {out₀ out : List ℤ} {lengths₀
 
   -- one point more
   module _ (p : Point) (after : List Sighting) where
-    abbrev one : Turn
-    one = turn (numberOf after p) buffer p
+    abbrev one : Buffered
+    one = bufferPoint (numberOf after p) buffer p
 
     next : getD points i origin ≡ p → i < length points → after ≡ sight memory p (suc (length buffer))
-        → turns memory buffer (drop i points) ≡ turned (turns after (one .buffer) (drop (i + 1) points) .buffer) (one .loops ++ turns after (one .buffer) (drop (i + 1) points) .loops)
-    unfolding turns
+        → bufferPoints memory buffer (drop i points) ≡ buffered (bufferPoints after (one .buffer) (drop (i + 1) points) .buffer) (one .loops ++ bufferPoints after (one .buffer) (drop (i + 1) points) .loops)
+    unfolding bufferPoints
     next e h s =
         let r = drop (i + 1) points in
         let d : drop i points ≡ p ∷ r = drop-cons points i origin h ∙ ap (_∷ drop (suc i) points) e ∙ ap (λ n. p ∷ drop n points) (sym (add-one i)) in
-        ap (turns memory buffer) d
-        ∙ ap (λ (m : List Sighting). turned (turns m (turn (numberOf m p) buffer p .buffer) r .buffer) (turn (numberOf m p) buffer p .loops ++ turns m (turn (numberOf m p) buffer p .buffer) r .loops)) (sym s)
+        ap (bufferPoints memory buffer) d
+        ∙ ap (λ (m : List Sighting). buffered (bufferPoints m (bufferPoint (numberOf m p) buffer p .buffer) r .buffer) (bufferPoint (numberOf m p) buffer p .loops ++ bufferPoints m (bufferPoint (numberOf m p) buffer p .buffer) r .loops)) (sym s)
 
     pub taken-more : {out′ : List ℤ} {lengths′ : List ℕ} {found′ : Found} → getD points i origin ≡ p → i < length points → inRange p ≡ true → after ≡ sight memory p (suc (length buffer))
         → Adds (keep (isLarge least) (one .loops)) found found′ out lengths out′ lengths′ → Taking least points out₀ lengths₀ after (one .buffer) out′ lengths′ found′ (i + 1)
     taken-more {out′} {lengths′} e h r s a =
-        let later = turns after (one .buffer) (drop (i + 1) points) in
+        let later = bufferPoints after (one .buffer) (drop (i + 1) points) in
         let n = next e h s in
         let k = keep-++ (isLarge least) (t .done) (one .loops) in
-        let f : Fit (length buffer + 1) one = subst (λ m. Fit m one) (sym (add-one (length buffer))) (turn-fit (numberOf after p) buffer p) in
+        let f : Fit (length buffer + 1) one = subst (λ m. Fit m one) (sym (add-one (length buffer))) (buffer-fit (numberOf after p) buffer p) in
         record {
           done = t .done ++ one .loops;
-          all = t .all ∙ ap (λ (u : Turn). turned (u .buffer) (t .done ++ u .loops)) n ∙ ap (turned (later .buffer)) (sym (append-assoc (t .done) (one .loops) (later .loops)));
+          all = t .all ∙ ap (λ (u : Buffered). buffered (u .buffer) (t .done ++ u .loops)) n ∙ ap (buffered (later .buffer)) (sym (append-assoc (t .done) (one .loops) (later .loops)));
           fit = fit-on 1 {done = t .done} {buffer = buffer} {t = one} (t .fit) f;
-          near = turn-near (numberOf after p) buffer p (t .near) r .buffer;
+          near = buffer-near (numberOf after p) buffer p (t .near) r .buffer;
           found-is = found-on (keep (isLarge least) (t .done)) (keep (isLarge least) (one .loops)) (t .found-is) a ∙ ap foundOf (sym k);
           writes = subst (λ (d : List (List Point)). Writes d out₀ lengths₀ out′ lengths′) (sym k) (writes-on (keep (isLarge least) (t .done)) (keep (isLarge least) (one .loops)) (t .found-is) (t .writes) a);
         }
 
   -- all of them
-  pub all-taken : length points ≤ i → turns [] [] points ≡ turned buffer (t .done)
-  unfolding turns
-  all-taken h = t .all ∙ ap (λ (l : List Point). turned (turns memory buffer l .buffer) (t .done ++ turns memory buffer l .loops)) (drop-of-length-le points h) ∙ ap (turned buffer) (append-nil (t .done))
+  pub all-taken : length points ≤ i → bufferPoints [] [] points ≡ buffered buffer (t .done)
+  unfolding bufferPoints
+  all-taken h = t .all ∙ ap (λ (l : List Point). buffered (bufferPoints memory buffer l .buffer) (t .done ++ bufferPoints memory buffer l .loops)) (drop-of-length-le points h) ∙ ap (buffered buffer) (append-nil (t .done))

@@ -15,28 +15,28 @@ unfoldable pub closed : List Point → Point → List (List Point)
 closed tail p = cond (ltb (length tail) 2) [] ((tail ++ (p ∷ [])) ∷ [])
 
 -- the buffer after a point, and the loops that it closes
-pub record Turn : Type 0 where
+pub record Buffered : Type 0 where
   pub buffer : List Point
   pub loops : List (List Point)
 
 -- this buffer and these loops
-abbrev pub turned : List Point → List (List Point) → Turn
-turned buffer loops = record { buffer = buffer; loops = loops }
+abbrev pub buffered : List Point → List (List Point) → Buffered
+buffered buffer loops = record { buffer = buffer; loops = loops }
 
 -- a stored number below the buffer's length cuts; otherwise the point is appended
-unfoldable pub turn : ℕ → List Point → Point → Turn
-turn number buffer p =
-    cond (ltb number (length buffer)) (turned (take number buffer) (closed (drop number buffer) p)) (turned (buffer ++ (p ∷ [])) [])
+unfoldable pub bufferPoint : ℕ → List Point → Point → Buffered
+bufferPoint number buffer p =
+    cond (ltb number (length buffer)) (buffered (take number buffer) (closed (drop number buffer) p)) (buffered (buffer ++ (p ∷ [])) [])
 
 -- ---- all points
 -- each point's first sighting stores the buffer length after it, and is never forgotten or renewed
-unfoldable pub turns : List Sighting → List Point → List Point → Turn
-turns memory buffer [] = turned buffer []
-turns memory buffer (p ∷ points) =
+unfoldable pub bufferPoints : List Sighting → List Point → List Point → Buffered
+bufferPoints memory buffer [] = buffered buffer []
+bufferPoints memory buffer (p ∷ points) =
     let after = sight memory p (suc (length buffer)) in
-    let t = turn (numberOf after p) buffer p in
-    let later = turns after (t .buffer) points in
-    turned (later .buffer) (t .loops ++ later .loops)
+    let t = bufferPoint (numberOf after p) buffer p in
+    let later = bufferPoints after (t .buffer) points in
+    buffered (later .buffer) (t .loops ++ later .loops)
 
 -- a rest of three or more points is the last loop
 unfoldable pub rest : List Point → List (List Point)
@@ -44,7 +44,7 @@ rest buffer = cond (ltb 2 (length buffer)) (buffer ∷ []) []
 
 -- the loops of all points, whatever their area
 unfoldable pub allLoops : List Point → List (List Point)
-allLoops points = let t = turns [] [] points in t .loops ++ rest (t .buffer)
+allLoops points = let t = bufferPoints [] [] points in t .loops ++ rest (t .buffer)
 
 -- those that reach the minimum area
 unfoldable pub splitLoops : ℕ → List Point → List (List Point)

@@ -6,7 +6,7 @@ use lib.ListN.{length, take, drop}
 use lib.IntN.{ℤ}
 use Rattle.geom.specs.declared.Point.{Point}
 use Rattle.segm.specs.Lists.{written}
-use Rattle.contour.specs.Points.{coordinates, pairUp, Near}
+use Rattle.contour.specs.Points.{coordinates, pairUp, AllInRange}
 use Rattle.string_split.specs.declared.buffer.Found.{Found}
 
 -- the first n points of a list of numbers
@@ -32,4 +32,4 @@ pub record Working (heads nexts : List ℕ) (seen : List ℤ) (numbers : List �
 pub record Splittable (points : List ℤ) : Type 0 where
   pub whole : length points % 2 ≡ 0
   pub few : length points ≤ 4096
-  pub near : Near (pairUp points)
+  pub near : AllInRange (pairUp points)

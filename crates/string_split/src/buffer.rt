@@ -8,10 +8,10 @@ ghost use lib.Dec.{ltb};
 ghost use lib.ListN.{length};
 ghost use Rattle.geom.specs.Points.{inRange};
 ghost use Rattle.segm.specs.Lists.{keep};
-ghost use Rattle.contour.specs.Points.{pairUp, Near, Writes};
+ghost use Rattle.contour.specs.Points.{pairUp, AllInRange, Writes};
 ghost use Rattle.contour.specs.Area.{isLarge};
 ghost use Rattle.bin_store.specs.Bins.{Binned};
-ghost use Rattle.string_split.specs.Loops.{turn, turns, rest, splitLoops};
+ghost use Rattle.string_split.specs.Loops.{bufferPoint, bufferPoints, rest, splitLoops};
 ghost use Rattle.string_split.specs.Run.{foundOf};
 ghost use Rattle.string_split.specs.Splitting.{front, Adds, Working, Splittable};
 
@@ -71,13 +71,13 @@ fn close(
         × (len < 2048)
         × (2 * suc len ≤ length (now buffer))
         × (length (now buffer) ≤ 4096)
-        × Near (front len (now buffer))
+        × AllInRange (front len (now buffer))
         × (2 * (found .points + suc len) ≤ length (now out))
         × (found .loops < length (now lengths))
         × (found .loops ≤ 2048)
         × (found .points ≤ 2048) ⌝ }
-    ensures { λ r. ⌜ (front (length (turn number (front len (now (buffer .entry))) p .buffer)) (now (buffer .exit)) ≡ turn number (front len (now (buffer .entry))) p .buffer)
-        × Adds (keep (isLarge «min_area») (turn number (front len (now (buffer .entry))) p .loops)) found r (now (out .entry)) (now (lengths .entry)) (now (out .exit)) (now (lengths .exit)) ⌝ }
+    ensures { λ r. ⌜ (front (length (bufferPoint number (front len (now (buffer .entry))) p .buffer)) (now (buffer .exit)) ≡ bufferPoint number (front len (now (buffer .entry))) p .buffer)
+        × Adds (keep (isLarge «min_area») (bufferPoint number (front len (now (buffer .entry))) p .loops)) found r (now (out .entry)) (now (lengths .entry)) (now (out .exit)) (now (lengths .exit)) ⌝ }
 {
     let from = number as usize;
     contour::put_point(buffer, len, p);
@@ -122,10 +122,10 @@ fn take_points(
         × (length (now buffer) ≡ 4096)
         × (length (now points) ≤ length (now out))
         × (length (pairUp (now points)) ≤ length (now lengths)) ⌝ }
-    ensures { λ r. ⌜ (r .found ≡ foundOf (keep (isLarge «min_area») (turns [] [] (pairUp (now (points .entry))) .loops)))
-        × (r .len ≡ length (turns [] [] (pairUp (now (points .entry))) .buffer))
-        × (front (r .len) (now (buffer .exit)) ≡ turns [] [] (pairUp (now (points .entry))) .buffer)
-        × Writes (keep (isLarge «min_area») (turns [] [] (pairUp (now (points .entry))) .loops)) (now (out .entry)) (now (lengths .entry)) (now (out .exit)) (now (lengths .exit)) ⌝ }
+    ensures { λ r. ⌜ (r .found ≡ foundOf (keep (isLarge «min_area») (bufferPoints [] [] (pairUp (now (points .entry))) .loops)))
+        × (r .len ≡ length (bufferPoints [] [] (pairUp (now (points .entry))) .buffer))
+        × (front (r .len) (now (buffer .exit)) ≡ bufferPoints [] [] (pairUp (now (points .entry))) .buffer)
+        × Writes (keep (isLarge «min_area») (bufferPoints [] [] (pairUp (now (points .entry))) .loops)) (now (out .entry)) (now (lengths .entry)) (now (out .exit)) (now (lengths .exit)) ⌝ }
 {
     let n = points.len() / 2;
     let mut found = Found {

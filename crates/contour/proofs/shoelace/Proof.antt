@@ -13,7 +13,7 @@ use mir.Val.{toZ, ofZ}
 use Rattle.integers.proofs.Machine.{Val, Is, rd, add, got}
 use Rattle.geom.specs.declared.Point.{Point}
 use Rattle.geom.specs.Points.{inRange}
-use Rattle.contour.specs.Points.{pairUp, origin, Near}
+use Rattle.contour.specs.Points.{pairUp, origin, AllInRange}
 use Rattle.contour.specs.Area.{crossProduct, shoelace}
 use Rattle.contour.proofs.Coordinates.{length-pairs}
 use Rattle.contour.proofs.Areas.{most, near-at, cross-bound, shoelace-none, along, shoelace-along, along-step, along-end}
@@ -40,7 +40,7 @@ point-at-requires-2 : tie.Need-point-at-requires-2 Inv-loop μ-loop
 point-at-requires-2 c κs = search needs
 
 -- a point read is in range
-near : (l : List ℤ) (i : ℕ) (p : Point) → Near (pairUp l) → p ≡ getD (pairUp l) i origin → inRange p ≡ true
+near : (l : List ℤ) (i : ℕ) (p : Point) → AllInRange (pairUp l) → p ≡ getD (pairUp l) i origin → inRange p ≡ true
 near l i p n e = ap inRange e ∙ near-at (pairUp l) n i
 
 cross-product-requires : tie.Need-cross-product-requires Inv-loop μ-loop
@@ -50,7 +50,7 @@ cross-product-requires c κs =
     (near l (length l / 2 - 1) (c .before .point-at .result) (s .pre .1) (c .before .point-at .ensures), near l 0 (c .point-at2 .result) (s .pre .1) (c .point-at2 .ensures))
 
 -- a cross product of two points read
-product : (l : List ℤ) (i j : ℕ) (p q : Point) (r : ℤ) → Near (pairUp l) → mag r < 2 ^ 63 → r ≡ crossProduct p q → p ≡ getD (pairUp l) i origin → q ≡ getD (pairUp l) j origin
+product : (l : List ℤ) (i j : ℕ) (p q : Point) (r : ℤ) → AllInRange (pairUp l) → mag r < 2 ^ 63 → r ≡ crossProduct p q → p ≡ getD (pairUp l) i origin → q ≡ getD (pairUp l) j origin
     → Val most (toZ w64 (ofZ w64 r)) (crossProduct (getD (pairUp l) i origin) (getD (pairUp l) j origin))
 product l i j p q r n h e ep eq =
     record { is = got w64 r h e ∙ ap₂ crossProduct ep eq; bound = cross-bound (getD (pairUp l) i origin) (getD (pairUp l) j origin) (near-at (pairUp l) n i) (near-at (pairUp l) n j) }

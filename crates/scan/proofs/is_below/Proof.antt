@@ -10,7 +10,7 @@ use Rattle.segm.specs.Segments.{segments}
 use Rattle.meetings.specs.Meetings.{Proper, side}
 use Rattle.strip.specs.Strip.{above, underBySide}
 use Rattle.scan.specs.declared.Sought.{Sought}
-use Rattle.scan.specs.Scan.{isBelow, Near}
+use Rattle.scan.specs.Scan.{isBelow, SoughtInRange}
 use Rattle.scan.proofs.is_below.Statement.{statement}
 use Rattle.scan.proofs.is_below.Tie as tie
 
@@ -24,7 +24,7 @@ cross-requires : tie.Need-cross-requires
 cross-requires c κs =
     let f = c .before .before .before in
     let t = subst Proper (sym (f .segment-at .ensures)) (f .before .pre .0) in
-    (t .near-a, t .near-b, subst Near (c .before .sought .given .1) (f .before .pre .1))
+    (t .near-a, t .near-b, subst SoughtInRange (c .before .sought .given .1) (f .before .pre .1))
 
 enum-known-sought-2 : tie.Need-enum-known-sought-2
 enum-known-sought-2 c = search needs
@@ -32,7 +32,7 @@ enum-known-sought-2 c = search needs
 is-lower-requires : tie.Need-is-lower-requires
 is-lower-requires c κs =
     let f = c .before .before .before in
-    (subst Proper (sym (f .segment-at .ensures)) (f .before .pre .0), subst Near (c .before .sought2 .given .1) (f .before .pre .1))
+    (subst Proper (sym (f .segment-at .ensures)) (f .before .pre .0), subst SoughtInRange (c .before .sought2 .given .1) (f .before .pre .1))
 
 returns : tie.Need-returns
 unfolding isBelow above side

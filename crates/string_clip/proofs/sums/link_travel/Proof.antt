@@ -7,7 +7,8 @@ use Prim.Native.Nat.{_+_, _*_}
 use lib.IntN.{natAbs}
 use mir.Syntax.{w32}
 use Rattle.integers.proofs.Machine.{read}
-use Rattle.clip_walk.specs.Walk.{has, asDrawn, one}
+use Rattle.segm.specs.Lists.{one}
+use Rattle.clip_walk.specs.Walk.{has, asDrawn}
 use Rattle.string_clip.specs.Paths.{travelOf, linesOf}
 use Rattle.string_clip.proofs.Links.{link-bound}
 use Rattle.string_clip.proofs.sums.link_travel.Statement.{statement}

@@ -9,13 +9,13 @@ use lib.ListN.{length, take, drop, length-take, length-drop}
 use lib.IntN.{ℤ}
 use Rattle.geom.specs.declared.Point.{Point}
 use Rattle.segm.specs.Lists.{keep}
-use Rattle.contour.specs.Points.{pairUp, Near}
+use Rattle.contour.specs.Points.{pairUp, AllInRange}
 use Rattle.contour.specs.Area.{isLarge}
-use Rattle.string_split.specs.Loops.{turn}
+use Rattle.string_split.specs.Loops.{bufferPoint}
 use Rattle.string_split.specs.Splitting.{front, Adds, Splittable}
 use Rattle.string_split.proofs.Adding.{adds-none}
 use Rattle.string_split.proofs.Fits.{near-more, near-drop}
-use Rattle.string_split.proofs.Turning.{length-front, put-front, part-front, turn-front, none-closed, one-closed}
+use Rattle.string_split.proofs.OnePoint.{length-front, put-front, part-front, buffer-front, none-closed, one-closed}
 use Rattle.string_split.proofs.buffer.close.Statement.{statement}
 use Rattle.string_split.proofs.buffer.close.Tie as tie
 
@@ -48,8 +48,8 @@ module _ (q : tie.After-put-point) where
   put-is : front (suc len) put ≡ buffer ++ (p ∷ [])
   put-is = ap (front (suc len)) (q .put-point .ensures) ∙ put-front (s .args .buffer .now) len p (s .pre .2)
 
-  after : front (length (turn number buffer p .buffer)) put ≡ turn number buffer p .buffer
-  after = turn-front number buffer p (pairUp put) (ap (λ n. front (suc n) put) as-many ∙ put-is)
+  after : front (length (bufferPoint number buffer p .buffer)) put ≡ bufferPoint number buffer p .buffer
+  after = buffer-front number buffer p (pairUp put) (ap (λ n. front (suc n) put) as-many ∙ put-is)
 
   -- the part that the point closes
   abbrev part : List ℤ
@@ -66,10 +66,10 @@ module _ (q : tie.After-put-point) where
     splittable = record {
       whole = omega (arith, part-length);
       few = omega (arith, part-length, s .pre .1);
-      near = subst Near (sym part-is) (near-drop number (buffer ++ (p ∷ [])) (near-more buffer p (s .pre .4) (s .pre .0)));
+      near = subst AllInRange (sym part-is) (near-drop number (buffer ++ (p ∷ [])) (near-more buffer p (s .pre .4) (s .pre .0)));
     }
 
-    loop-is : pairUp part ∷ [] ≡ turn number buffer p .loops
+    loop-is : pairUp part ∷ [] ≡ bufferPoint number buffer p .loops
     loop-is = ap (λ (l : List Point). l ∷ []) part-is ∙ sym (one-closed number buffer p (omega (arith, as-many)))
 
 add-if1 : tie.Need-add-if1

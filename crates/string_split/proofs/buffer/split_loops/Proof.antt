@@ -10,16 +10,16 @@ use lib.IntN.{ℤ}
 use Rattle.geom.specs.declared.Point.{Point}
 use Rattle.segm.specs.Lists.{keep}
 use Rattle.segm.proofs.Tallies.{keep-++, length-keep}
-use Rattle.contour.specs.Points.{pairUp, Near, Writes}
+use Rattle.contour.specs.Points.{pairUp, AllInRange, Writes}
 use Rattle.contour.specs.Area.{isLarge}
 use Rattle.contour.proofs.Coordinates.{length-pairs, pairs-take}
 use Rattle.bin_store.specs.Bins.{Binned}
 use Rattle.string_split.specs.declared.buffer.Found.{Found}
-use Rattle.string_split.specs.Loops.{Turn, turns, rest, allLoops, splitLoops}
+use Rattle.string_split.specs.Loops.{Buffered, bufferPoints, rest, allLoops, splitLoops}
 use Rattle.string_split.specs.Run.{foundOf}
 use Rattle.string_split.specs.Splitting.{Splittable}
 use Rattle.string_split.proofs.Adding.{found-on, writes-on}
-use Rattle.string_split.proofs.Fits.{turns-fit, turns-near, length-flatten-keep}
+use Rattle.string_split.proofs.Fits.{buffers-fit, buffers-near, length-flatten-keep}
 use Rattle.string_split.proofs.buffer.split_loops.Statement.{statement}
 use Rattle.string_split.proofs.buffer.split_loops.Tie as tie
 
@@ -78,8 +78,8 @@ module _ (t : tie.After-take-points) where
   abbrev points : List Point
   points = pairUp (s k .args .points .now)
 
-  abbrev all : Turn
-  all = turns [] [] points
+  abbrev all : Buffered
+  all = bufferPoints [] [] points
 
   abbrev large : List (List Point) → List (List Point)
   large l = keep (isLarge (s k .args .min-area)) l
@@ -105,7 +105,7 @@ module _ (t : tie.After-take-points) where
     ap (λ (f : Found). f .points) found-is,
     t .take-points .ensures .1,
     length-flatten-keep (isLarge (s k .args .min-area)) (all .loops),
-    turns-fit [] [] points .points,
+    buffers-fit [] [] points .points,
   )
 
   loops-fit : found .loops + len ≤ length points
@@ -114,8 +114,8 @@ module _ (t : tie.After-take-points) where
     ap (λ (f : Found). f .loops) found-is,
     t .take-points .ensures .1,
     length-keep (isLarge (s k .args .min-area)) (all .loops),
-    turns-fit [] [] points .loops,
-    turns-fit [] [] points .points,
+    buffers-fit [] [] points .loops,
+    buffers-fit [] [] points .points,
   )
 
   room : 2 * len ≤ length buffer
@@ -135,7 +135,7 @@ module _ (t : tie.After-take-points) where
   splittable = record {
     whole = omega (arith, part-length);
     few = omega (arith, part-length, points-fit, few);
-    near = subst Near (sym part-is) (turns-near [] [] points (λ p m. absurd m) (s k .pre .0 .near) .buffer);
+    near = subst AllInRange (sym part-is) (buffers-near [] [] points (λ p m. absurd m) (s k .pre .0 .near) .buffer);
   }
 
   loops-are : large (all .loops) ++ large (rest (pairUp part)) ≡ splitLoops (s k .args .min-area) points

@@ -20,10 +20,10 @@ use Rattle.bin_store.specs.Sightings.{Sighting, numberOf, sight}
 use Rattle.bin_store.specs.Bins.{memory, Binned}
 use Rattle.bin_store.proofs.Items.{none-sighted}
 use Rattle.string_split.specs.declared.buffer.Found.{Found}
-use Rattle.string_split.specs.Loops.{Turn, turn}
+use Rattle.string_split.specs.Loops.{Buffered, bufferPoint}
 use Rattle.string_split.specs.Run.{foundOf}
 use Rattle.string_split.specs.Splitting.{front, Adds}
-use Rattle.string_split.proofs.Turning.{length-turn}
+use Rattle.string_split.proofs.OnePoint.{length-buffered}
 use Rattle.string_split.proofs.Taking.{Taking, none-taken, few-points, few-loops, taken-more, all-taken}
 use Rattle.string_split.proofs.buffer.take_points.Statement.{statement}
 use Rattle.string_split.proofs.buffer.take_points.Tie as tie
@@ -171,14 +171,14 @@ module _ (k : tie.After-close Inv-loop μ-loop) where
   abbrev e : tie.After-sight-point Inv-loop μ-loop
   e = k .before .before .before .before .before .before .before .before .before .before .before
 
-  abbrev one : ℕ → Turn
-  one number = turn number (buffer (c e)) (p e .point-at .result)
+  abbrev one : ℕ → Buffered
+  one number = bufferPoint number (buffer (c e)) (p e .point-at .result)
 
   turned-is : one (e .sight-point .result .number) ≡ one (numberOf (after e) (p e .point-at .result))
   turned-is = ap one (number-is e)
 
   added : Adds (keep (isLarge (s (c e) .args .min-area)) (one (numberOf (after e) (p e .point-at .result)) .loops)) (l (c e) .loop .found) (k .close .result) (l (c e) .loop .out) (l (c e) .loop .lengths) (k .close .last .1 .1 .1 .1 .1 .0) (k .close .last .1 .1 .1 .1 .1 .1 .0)
-  added = subst (λ (t : Turn). Adds (keep (isLarge (s (c e) .args .min-area)) (t .loops)) (l (c e) .loop .found) (k .close .result) (l (c e) .loop .out) (l (c e) .loop .lengths) (k .close .last .1 .1 .1 .1 .1 .0) (k .close .last .1 .1 .1 .1 .1 .1 .0)) turned-is (k .close .ensures .1)
+  added = subst (λ (t : Buffered). Adds (keep (isLarge (s (c e) .args .min-area)) (t .loops)) (l (c e) .loop .found) (k .close .result) (l (c e) .loop .out) (l (c e) .loop .lengths) (k .close .last .1 .1 .1 .1 .1 .0) (k .close .last .1 .1 .1 .1 .1 .1 .0)) turned-is (k .close .ensures .1)
 
   more : Taking (s (c e) .args .min-area) (points (c e)) (s (c e) .args .out .now) (s (c e) .args .lengths .now) (after e) (one (numberOf (after e) (p e .point-at .result)) .buffer) (k .close .last .1 .1 .1 .1 .1 .0) (k .close .last .1 .1 .1 .1 .1 .1 .0) (k .close .result) (l (c e) .loop .i + 1)
   more = taken-more (l (c e) .loop .inv .taking) (p e .point-at .result) (after e) (point-is (p e)) (inside (c e)) (in-range (p e)) (sighted e) added
@@ -196,7 +196,7 @@ module _ (n : tie.After-length-after Inv-loop μ-loop) where
   len-is : n .length-after .result ≡ length (one k (e k .sight-point .result .number) .buffer)
   len-is =
       n .length-after .ensures ∙ ap (λ (m : ℕ). cond (ltb (e k .sight-point .result .number) m) (e k .sight-point .result .number) (suc m)) (l (c (e k)) .loop .inv .len-is)
-      ∙ sym (length-turn (e k .sight-point .result .number) (buffer (c (e k))) (p (e k) .point-at .result))
+      ∙ sym (length-buffered (e k .sight-point .result .number) (buffer (c (e k))) (p (e k) .point-at .result))
 
   front-is : front (n .length-after .result) put ≡ one k (e k .sight-point .result .number) .buffer
   front-is = ap (λ (m : ℕ). front m put) len-is ∙ k .close .ensures .0
@@ -215,7 +215,7 @@ loop-again n =
     let a = s (c f) .args in
     let h = inside (c f) in
     record {
-      taking = subst (λ (b : List Point). Taking (a .min-area) (points (c f)) (a .out .now) (a .lengths .now) (after f) b (m .close .last .1 .1 .1 .1 .1 .0) (m .close .last .1 .1 .1 .1 .1 .1 .0) (m .close .result) (l (c f) .loop .i + 1)) (sym (front-is n ∙ ap (λ (t : Turn). t .buffer) (turned-is m))) (more m);
+      taking = subst (λ (b : List Point). Taking (a .min-area) (points (c f)) (a .out .now) (a .lengths .now) (after f) b (m .close .last .1 .1 .1 .1 .1 .0) (m .close .last .1 .1 .1 .1 .1 .1 .0) (m .close .result) (l (c f) .loop .i + 1)) (sym (front-is n ∙ ap (λ (t : Buffered). t .buffer) (turned-is m))) (more m);
       inside = omega arith;
       len-is = len-is n ∙ sym (ap length (front-is n));
       binned = f .sight-point .ensures .3;
@@ -256,10 +256,10 @@ returns c =
     let a = l .before .before .before .before .before .args in
     let t = l .loop .inv .taking in
     let all = sym (all-taken t (omega (arith, c .loop-test .left, length-pairs (a .points .now)))) in (
-      t .found-is ∙ ap (λ (u : Turn). foundOf (keep (isLarge (a .min-area)) (u .loops))) all,
-      l .loop .inv .len-is ∙ ap (λ (u : Turn). length (u .buffer)) all,
-      ap (λ (u : Turn). u .buffer) all,
-      subst (λ (u : Turn). Writes (keep (isLarge (a .min-area)) (u .loops)) (a .out .now) (a .lengths .now) (l .loop .out) (l .loop .lengths)) all (t .writes),
+      t .found-is ∙ ap (λ (u : Buffered). foundOf (keep (isLarge (a .min-area)) (u .loops))) all,
+      l .loop .inv .len-is ∙ ap (λ (u : Buffered). length (u .buffer)) all,
+      ap (λ (u : Buffered). u .buffer) all,
+      subst (λ (u : Buffered). Writes (keep (isLarge (a .min-area)) (u .loops)) (a .out .now) (a .lengths .now) (l .loop .out) (l .loop .lengths)) all (t .writes),
     )
 
 pub take-points-spec : {M : Type 1} → statement M

@@ -12,7 +12,7 @@ use borrow.Author.Tests.{ltb-true, lt-ltb, le-ltb}
 use Rattle.geom.specs.declared.Point.{Point}
 use Rattle.contour.specs.Points.{pairUp}
 use Rattle.contour.proofs.Coordinates.{pairs-take, pairs-drop, length-pairs, pairs-set}
-use Rattle.string_split.specs.Loops.{closed, Turn, turned, turn, rest}
+use Rattle.string_split.specs.Loops.{closed, Buffered, buffered, bufferPoint, rest}
 use Rattle.string_split.specs.Splitting.{front}
 
 pub length-front : (len : ℕ) (l : List ℤ) → 2 * len ≤ length l → length (front len l) ≡ len
@@ -36,46 +36,46 @@ part-front l k n h =
 
 module _ (number : ℕ) (buffer : List Point) (p : Point) where
   -- by the test
-  cut : number < length buffer → turn number buffer p ≡ turned (take number buffer) (closed (drop number buffer) p)
-  unfolding turn
+  cut : number < length buffer → bufferPoint number buffer p ≡ buffered (take number buffer) (closed (drop number buffer) p)
+  unfolding bufferPoint
   cut h = simp (lt-ltb number (length buffer) h)
 
-  pub length-turn : length (turn number buffer p .buffer) ≡ cond (ltb number (length buffer)) number (suc (length buffer))
-  unfolding turn
-  length-turn = go (ltb number (length buffer)) refl
+  pub length-buffered : length (bufferPoint number buffer p .buffer) ≡ cond (ltb number (length buffer)) number (suc (length buffer))
+  unfolding bufferPoint
+  length-buffered = go (ltb number (length buffer)) refl
     where
       go : (b : Bool) → ltb number (length buffer) ≡ b
-          → length (cond b (turned (take number buffer) (closed (drop number buffer) p)) (turned (buffer ++ (p ∷ [])) []) .buffer) ≡ cond b number (suc (length buffer))
+          → length (cond b (buffered (take number buffer) (closed (drop number buffer) p)) (buffered (buffer ++ (p ∷ [])) []) .buffer) ≡ cond b number (suc (length buffer))
       go true e = let h = ltb-true number (length buffer) e in length-take-le number buffer (omega arith)
       go false e = length-append buffer (p ∷ []) ∙ omega arith
 
   -- with the point after the buffer, the front is the buffer after it
-  pub turn-front : (l : List Point) → take (suc (length buffer)) l ≡ buffer ++ (p ∷ []) → take (length (turn number buffer p .buffer)) l ≡ turn number buffer p .buffer
-  unfolding turn
-  turn-front l f = go (ltb number (length buffer)) refl
+  pub buffer-front : (l : List Point) → take (suc (length buffer)) l ≡ buffer ++ (p ∷ []) → take (length (bufferPoint number buffer p .buffer)) l ≡ bufferPoint number buffer p .buffer
+  unfolding bufferPoint
+  buffer-front l f = go (ltb number (length buffer)) refl
     where
       go : (b : Bool) → ltb number (length buffer) ≡ b
-          → take (length (cond b (turned (take number buffer) (closed (drop number buffer) p)) (turned (buffer ++ (p ∷ [])) []) .buffer)) l ≡ cond b (turned (take number buffer) (closed (drop number buffer) p)) (turned (buffer ++ (p ∷ [])) []) .buffer
+          → take (length (cond b (buffered (take number buffer) (closed (drop number buffer) p)) (buffered (buffer ++ (p ∷ [])) []) .buffer)) l ≡ cond b (buffered (take number buffer) (closed (drop number buffer) p)) (buffered (buffer ++ (p ∷ [])) []) .buffer
       go true e =
           let h = ltb-true number (length buffer) e in
           ap (λ n. take n l) (length-take-le number buffer (omega arith)) ∙ sym (take-take number (suc (length buffer)) l (omega arith)) ∙ ap (take number) f ∙ take-append-le number buffer (p ∷ []) (omega arith)
       go false e = let n : length (buffer ++ (p ∷ [])) ≡ suc (length buffer) = omega (arith, length-append buffer (p ∷ [])) in ap (λ m. take m l) n ∙ f
 
   -- one point is dropped
-  pub none-closed : length buffer < number + 2 → turn number buffer p .loops ≡ []
-  unfolding turn closed
+  pub none-closed : length buffer < number + 2 → bufferPoint number buffer p .loops ≡ []
+  unfolding bufferPoint closed
   none-closed h = go (ltb number (length buffer)) refl
     where
-      go : (b : Bool) → ltb number (length buffer) ≡ b → cond b (turned (take number buffer) (closed (drop number buffer) p)) (turned (buffer ++ (p ∷ [])) []) .loops ≡ []
+      go : (b : Bool) → ltb number (length buffer) ≡ b → cond b (buffered (take number buffer) (closed (drop number buffer) p)) (buffered (buffer ++ (p ∷ [])) []) .loops ≡ []
       go true e = simp (lt-ltb (length (drop number buffer)) 2 (omega (arith, length-drop number buffer)))
       go false e = refl
 
   -- two or more become a loop
-  pub one-closed : number + 2 ≤ length buffer → turn number buffer p .loops ≡ (drop number (buffer ++ (p ∷ []))) ∷ []
+  pub one-closed : number + 2 ≤ length buffer → bufferPoint number buffer p .loops ≡ (drop number (buffer ++ (p ∷ []))) ∷ []
   unfolding closed
   one-closed h =
       let long : closed (drop number buffer) p ≡ (drop number buffer ++ (p ∷ [])) ∷ [] = simp (le-ltb (length (drop number buffer)) 2 (omega (arith, length-drop number buffer))) in
-      ap (λ (t : Turn). t .loops) (cut (omega arith)) ∙ long ∙ ap (λ (l : List Point). l ∷ []) (sym (drop-append-le number buffer (p ∷ []) (omega arith)))
+      ap (λ (t : Buffered). t .loops) (cut (omega arith)) ∙ long ∙ ap (λ (l : List Point). l ∷ []) (sym (drop-append-le number buffer (p ∷ []) (omega arith)))
 
 -- ---- the rest
 pub no-rest : (buffer : List Point) → length buffer ≤ 2 → rest buffer ≡ []
