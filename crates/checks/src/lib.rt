@@ -224,7 +224,8 @@ pub fn check_fills(segments: &[i32], rule: i32, fills: usize) -> Verdict
     in_order(segments, unknown, short, &mut flat, &mut starts, &mut nodes)
 }
 
-// The verdict on a clip run. An accepted drawing's nodes are left in the lists `flat`, `starts` and `nodes`, for the run that comes.
+// The verdict on a clip run. The lists `flat`, `starts` and `nodes` are working memory of the run that comes: an accepted drawing's nodes are left in them, and
+// after a refusal they hold anything.
 pub fn check_clip(
     segments: &[i32],
     rule: i32,
@@ -245,7 +246,7 @@ pub fn check_clip(
     in_order(segments, unknown, short, flat, starts, nodes)
 }
 
-// The verdict on a slice run. An accepted drawing's nodes are left in the lists `flat`, `starts` and `nodes`, for the run that comes.
+// The verdict on a slice run, with the same lists.
 pub fn check_slice(
     segments: &[i32],
     rule: i32,
