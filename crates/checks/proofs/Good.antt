@@ -27,7 +27,8 @@ use Rattle.checks.specs.Drawing.{endsInRange, rises, bitsInRange, faultA
 use Rattle.checks.specs.Verdict.{Choice, Lent, Run, wrongLength, unknownChoice, tooShort, isAccepted, verdict}
 use Rattle.checks.specs.Runs.{clipRun}
 use Rattle.checks.specs.Accepted.{Good, inputOf, accepts}
-use Rattle.checks.proofs.Faults.{Faultless, faultless-at, rising-starts, proper, meetingless, balanced-at}
+use Rattle.checks.proofs.Faults.{Faultless, faultless-at, rising-starts, proper, balanced-at}
+use Rattle.checks.proofs.Clear.{no-meeting}
 use Rattle.checks.proofs.Balances.{winding-bound}
 use Rattle.checks.proofs.Places.{first-none}
 use Rattle.checks.proofs.Order.{Passed, passed, passes}
@@ -88,7 +89,7 @@ module _ (r : Run) (p : Passed r) where
     winding = everywhere d _ (λ i l. winding-bound (segmentAt d i) (at i l .winding));
     bits = everywhere d _ (λ i l. (within-l (pos 0) (pos 3) (segmentAt d i .bits) (at i l .bits), within-r (pos 0) (pos 3) (segmentAt d i .bits) (at i l .bits)));
     rising = rising-starts d at;
-    apart = pairs-of (λ s t. meetsWrongly s t ≡ false) d nowhere (λ i l y m. any-false (meetsWrongly (segmentAt d i)) (drop (suc i) d) (meetingless d i (first-none (meetingAt d) d (p .apart) i l)) y m);
+    apart = no-meeting d .0 (p .apart);
     balanced = balanced-all d (everywhere d (λ s. (balances d (s .a) ≡ true) × (balances d (s .b) ≡ true)) (λ i l. balanced-at d i (first-none (unbalancedAt d) d (p .balanced) i l)));
   }
 

@@ -11,7 +11,7 @@ use Rattle.geom.specs.Points.{ltP}
 use Rattle.segm.specs.declared.Segment.{Segment}
 use Rattle.segm.specs.Lists.{_∈_, Pairs}
 use Rattle.segm.specs.Segments.{Drawing, count, segments, segmentAt}
-use Rattle.meetings.specs.Meetings.{meetsWrongly}
+use Rattle.meetings.specs.Meetings.{meetsWrongly, NoneMeetWrongly}
 use Rattle.balance.specs.Balance.{balance, balances}
 use Rattle.checks.specs.Drawing.{endsInRange, rises, windingInRange, bitsInRange}
 use Rattle.checks.specs.Verdict.{Choice, Lent, Run, wrongLength, unknownChoice, tooShort, isAccepted, verdict}
@@ -54,5 +54,5 @@ pub record Good (d : Drawing) : Type 0 where
   pub winding : (s : Segment) → s ∈ d → natAbs (s .winding) ≤ 1000
   pub bits : (s : Segment) → s ∈ d → (pos 0 ≤ℤ s .bits) × (s .bits ≤ℤ pos 3)
   pub rising : Pairs (λ s t. ltP (t .a) (s .a) ≡ false) d
-  pub apart : Pairs (λ s t. meetsWrongly s t ≡ false) d
+  pub apart : NoneMeetWrongly d
   pub balanced : (p : Point) → balance d p ≡ pos 0

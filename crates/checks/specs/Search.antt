@@ -12,7 +12,9 @@ use Rattle.graph.specs.Nodes.{NodesIn}
 use Rattle.balance.specs.Balance.{Numbered}
 use Rattle.checks.specs.declared.Search.{Search}
 use Rattle.checks.specs.declared.Search.the-variants.{Faults, Meetings}
+use Rattle.checks.specs.declared.Verdict.the-variants.{Accepted}
 use Rattle.checks.specs.Drawing.{faultAt, meetingAt}
+use Rattle.checks.specs.Verdict.{first}
 
 -- what 2 to 7 leave: enough to look at meetings and balance without overflow
 pub record Sound (d : Drawing) : Type 0 where
@@ -24,10 +26,10 @@ abbrev pub numberAt : Search → Drawing → ℕ → ℕ
 numberAt Faults d = faultAt d
 numberAt Meetings d = meetingAt d
 
--- meetings are looked at only where 3 to 7 found nothing
+-- what a search asks for: meetings are looked for only where 3 to 7 found nothing and 8 fits, so that no accepted drawing is searched
 abbrev pub Ready : Search → Drawing → Type 0
 Ready Faults d = Unit {0}
-Ready Meetings d = Sound d
+Ready Meetings d = Sound d × (first (meetingAt d) d ≡ Accepted → ⊥)
 
 -- the ordered ends, and the numbers of their nodes, at the front of lists
 pub record OrderedIn (d : Drawing) (flat : List ℕ) : Type 0 where

@@ -127,7 +127,7 @@ fn find_first(search: Search, s: &[i32]) -> Verdict
     Verdict::Accepted
 }
 
-// Refusal 8, at the first place of a segment that meets a later one wrongly. Pairs are looked at only where the sweep does not clear the drawing.
+// Refusal 8, at the first place of a segment that meets a later one wrongly. The sweep tells whether there is one, and only then are pairs looked at, to name it.
 fn find_meeting(s: &[i32], flat: &[u32]) -> Verdict
     requires { ⌜ Sound (segments (now s)) × (now flat ≡ ordering (endBefore (segments (now s))) (upFrom 0 (2 * length (segments (now s))))) ⌝ }
     ensures { λ r. ⌜ r ≡ first (meetingAt (segments (now (s .entry)))) (segments (now (s .entry))) ⌝ }

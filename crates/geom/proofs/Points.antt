@@ -81,6 +81,9 @@ unfolding ltP
 before {p} {q} (inl h) = or-l (eqZ (p .x) (q .x) && ltZ (p .y) (q .y)) (lt-ltZ h)
 before {p} {q} (inr h) = or-r (ltZ (p .x) (q .x)) (both (eq-eqZ (h .0)) (lt-ltZ (h .1)))
 
+pub not-before : {p q : Point} → (Before p q → ⊥) → ltP p q ≡ false
+not-before {p} {q} f = is-false (ltP p q) (λ e. f (ltP-true e))
+
 pub before-irrefl : {p : Point} → Before p p → ⊥
 before-irrefl (inl h) = omega ints
 before-irrefl (inr h) = omega ints
@@ -110,7 +113,7 @@ pub ltP-trans : (p q r : Point) → ltP p q ≡ true → ltP q r ≡ true → lt
 ltP-trans p q r h k = before {p = p} {q = r} (before-trans {p = p} {q = q} {r = r} (ltP-true {p = p} {q = q} h) (ltP-true {p = q} {q = r} k))
 
 pub ltP-irrefl : (p : Point) → ltP p p ≡ false
-ltP-irrefl p = is-false (ltP p p) (λ e. before-irrefl (ltP-true e))
+ltP-irrefl p = not-before before-irrefl
 
 pub ltP-antisym : {p q : Point} → ltP p q ≡ false → ltP q p ≡ false → p ≡ q
 ltP-antisym {p} {q} h k = go (compare p q)

@@ -1,7 +1,6 @@
 -- The verdict on a drawing as the numbers that C is handed: number and place of a refusal, or 0 and 0. Assumes nothing.
-use mathlib.Core.Path.{_≡_}
 use mathlib.Core.List.{List}
-use Prim.Native.Nat.{ℕ, _≤_}
+use Prim.Native.Nat.{ℕ}
 use lib.IntN.{ℤ, pos}
 use Rattle.checks.specs.declared.Verdict.{Verdict}
 use Rattle.checks.specs.declared.Verdict.the-variants.{Accepted, Refused}
@@ -18,7 +17,7 @@ abbrev pub checkNumbers : Verdict → Check
 checkNumbers Accepted = record { number = 0; place = 0 }
 checkNumbers (Refused number place) = record { number = number; place = place }
 
--- what is told of the sweep: 2 of a refused drawing, 0 or 1 of an accepted one
-abbrev pub Told : Verdict → ℕ → Type 0
-Told Accepted r = r ≤ 1
-Told (Refused number place) r = r ≡ 2
+-- what is told of the sweep: 1 of an accepted drawing, which it clears, 2 of a refused one
+abbrev pub sweepNumber : Verdict → ℕ
+sweepNumber Accepted = 1
+sweepNumber (Refused number place) = 2

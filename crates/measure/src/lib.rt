@@ -2,9 +2,10 @@
 // proved, and the crate assumes nothing of its own. No exported function has a `requires`.
 use checks::Verdict;
 ghost use mathlib.Core.Path.{_≡_};
+ghost use mathlib.Core.Bool.{true};
 ghost use Rattle.segm.specs.Segments.{segments};
 ghost use Rattle.checks.specs.Accepted.{Good};
-ghost use Rattle.measure.specs.Numbers.{verdictOf, checkNumbers, Told};
+ghost use Rattle.measure.specs.Numbers.{verdictOf, checkNumbers, sweepNumber};
 
 // A refusal's number and place, or 0 and 0.
 #[repr(C)]
@@ -50,9 +51,10 @@ pub extern "C" fn measure_check(segments: &[i32]) -> Check
     }
 }
 
-// Whether the sweep alone clears an accepted drawing.
+// What the sweep says of an accepted drawing.
 fn is_swept(s: &[i32]) -> bool
     requires { ⌜ Good (segments (now s)) ⌝ }
+    ensures { λ r. ⌜ r ≡ true ⌝ }
 {
     let mut flat = [0u32; 2048];
     let mut starts = [0u32; 2049];
@@ -62,10 +64,10 @@ fn is_swept(s: &[i32]) -> bool
     meeting_sweep::is_clear(s, &flat[..e])
 }
 
-// 1 where the sweep alone clears an accepted drawing, 0 where the search over pairs has to; 2 of a refused one.
+// What the sweep said of an accepted drawing: 1, clear, as is proved; compiled, 0 would be seen. 2 of a refused one.
 #[no_mangle]
 pub extern "C" fn measure_sweep(segments: &[i32]) -> u64
-    ensures { λ r. ⌜ Told (verdictOf (now (segments .entry))) r ⌝ }
+    ensures { λ r. ⌜ r ≡ sweepNumber (verdictOf (now (segments .entry))) ⌝ }
 {
     match verdict_of(segments) {
         Verdict::Accepted => is_swept(segments) as u64,

@@ -1,2 +1,3 @@
 pub mod Runs
 pub mod Sweeping
+pub mod ClearEvent

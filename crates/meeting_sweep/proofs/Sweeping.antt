@@ -1,7 +1,7 @@
 -- The sweep from event to event: what the code tests at an x carries what is known of the strips and the vertical segments before it over to the strips after it.
 use mathlib.Core.Path.{_≡_, sym, _∙_, ap, subst}
 use mathlib.Core.List.{List, []}
-use mathlib.Core.Logic.{_⊎_, inl, inr, ⊎-elim}
+use mathlib.Core.Logic.{_⊎_, inl, inr}
 use mathlib.Core.Bool.{true, false}
 use Prim.Native.Nat.{ℕ, suc, _+_, _-_, _*_, _≤_, _<_}
 use native.Mathlib.Omega.{arith}
@@ -15,7 +15,7 @@ use Rattle.integers.proofs.Linear.{ints, of-pos, of-neg, of-abs}
 use Rattle.integers.proofs.Order.{order}
 use Rattle.geom.specs.declared.Point.{Point}
 use Rattle.geom.specs.Points.{ltP, inRange}
-use Rattle.geom.proofs.Points.{eq-eqZ, ne-eqZ, near-x, Before, before, before-le, ltP-true, not-less-x}
+use Rattle.geom.proofs.Points.{near-x, Before, before, before-le, ltP-true, not-less-x}
 use Rattle.segm.specs.declared.Segment.{Segment}
 use Rattle.segm.specs.Lists.{_∈_, Pairs, upFrom}
 use Rattle.segm.specs.Segments.{Drawing, segmentAt, nowhere}
@@ -24,28 +24,16 @@ use Rattle.segm.proofs.Tallies.{cases, in-upFrom}
 use Rattle.ends.specs.Ends.{endPoint}
 use Rattle.ends.proofs.Ends.{end-a, end-b}
 use Rattle.graph.proofs.Flat.{Ordered}
-use Rattle.meetings.specs.Meetings.{meetsWrongly}
+use Rattle.meetings.specs.Meetings.{meetsWrongly, NoneMeetWrongly}
 use Rattle.strip.specs.Strip.{isVertical}
-use Rattle.strip.proofs.Apart.{Over}
+use Rattle.strip.proofs.Apart.{Over, over-wide}
+use Rattle.strip.proofs.Vertical.{vertical-by, slanted-by, slanted-ends, wide-slanted}
 use Rattle.neighbours.specs.Neighbours.{Ready, Known, Distinct}
 use Rattle.neighbours.proofs.Lists.{Holds, holds-distinct}
 use Rattle.neighbours.proofs.Event.{Swept}
 use Rattle.neighbours.proofs.Turn.{Coming, Tested, first-turn, turn-holds, turn, last-turn}
+use Rattle.open_list.specs.OpenList.{Left}
 use Rattle.meeting_sweep.specs.Events.{Past, Happened}
-
--- ---- vertical or not
-module _ (s : Segment) where
-  pub slanted : (s .a .x ≡ s .b .x → ⊥) → isVertical s ≡ false
-  unfolding isVertical
-  slanted h = ne-eqZ h
-
-  pub level-ends : isVertical s ≡ false → s .a .x ≡ s .b .x → ⊥
-  unfolding isVertical
-  level-ends v e = clash (eq-eqZ e) v
-
-  pub upright : s .a .x ≡ s .b .x → isVertical s ≡ true
-  unfolding isVertical
-  upright e = eq-eqZ e
 
 -- ---- a drawing with its ordered ends
 module _ (d : Drawing) (flat : List ℕ) where
@@ -66,7 +54,7 @@ module _ (d : Drawing) (flat : List ℕ) where
     pub ahead : (t : ℕ) → passed ≤ t → t < length flat → x <ℤ at t
 
   module _ (ready : Ready d) (ends : Ordered d flat) where
-    proper : (i : ℕ) → i < length d → Before (seg i .a) (seg i .b)
+    pub proper : (i : ℕ) → i < length d → Before (seg i .a) (seg i .b)
     proper i h = ltP-true (ready .proper i h .rises)
 
     rises : (t u : ℕ) → t ≤ u → u < length flat → at t ≤ℤ at u
@@ -76,12 +64,15 @@ module _ (d : Drawing) (flat : List ℕ) where
         go (yes l) = not-less-x _ _ (pairs-places (λ x y. ltP (endPoint d y) (endPoint d x) ≡ false) flat 0 (ends .rise) t (omega arith) (getD flat u 0) (in-after flat 0 t u l k))
         go (no l) = let e : t ≡ u = omega arith in subst (λ (v : ℕ). at t ≤ℤ at v) e (≤ℤ-refl (at t))
 
-    starts-rise : (i j : ℕ) → i ≤ j → j < length d → seg i .a .x ≤ℤ seg j .a .x
+    pub rising : (i j : ℕ) → i < j → j < length d → ltP (seg j .a) (seg i .a) ≡ false
     unfolding segmentAt
+    rising i j h k = pairs-places (λ s t. ltP (t .a) (s .a) ≡ false) d nowhere (ready .rising) i (omega arith) (seg j) (in-after d nowhere i j h k)
+
+    starts-rise : (i j : ℕ) → i ≤ j → j < length d → seg i .a .x ≤ℤ seg j .a .x
     starts-rise i j h k = go (decLt i j)
       where
         go : Dec (i < j) → seg i .a .x ≤ℤ seg j .a .x
-        go (yes l) = not-less-x _ _ (pairs-places (λ s t. ltP (t .a) (s .a) ≡ false) d nowhere (ready .rising) i (omega arith) (seg j) (in-after d nowhere i j l k))
+        go (yes l) = not-less-x _ _ (rising i j l k)
         go (no l) = let e : i ≡ j = omega arith in subst (λ (m : ℕ). seg i .a .x ≤ℤ seg m .a .x) e (≤ℤ-refl (seg i .a .x))
 
     -- where the ends of a segment stand among the ordered ends
@@ -94,7 +85,7 @@ module _ (d : Drawing) (flat : List ℕ) where
     at-start : (i : ℕ) (h : i < length d) → at (start-stands i h .place) ≡ seg i .a .x
     at-start i h = ap (λ (e : ℕ). endPoint d e .x) (start-stands i h .is) ∙ ap (λ (p : Point). p .x) (end-a d i h)
 
-    end-x : (i : ℕ) → endPoint d (length d + i) .x ≡ seg i .b .x
+    pub end-x : (i : ℕ) → endPoint d (length d + i) .x ≡ seg i .b .x
     end-x i = let e : length d + i - length d ≡ i = omega arith in ap (λ (p : Point). p .x) (end-b d (length d + i) (omega arith)) ∙ ap (λ (k : ℕ). seg k .b .x) e
 
     at-end : (i : ℕ) (h : i < length d) → at (end-stands i h .place) ≡ seg i .b .x
@@ -126,14 +117,12 @@ module _ (d : Drawing) (flat : List ℕ) where
     }
 
     -- ---- one event
-    module _ {passed started passed′ started′ : ℕ} {l l′ : List ℕ} (a : Along passed started l) (more : passed < length flat)
-        (p : Past at passed (length flat) (at passed) passed′) (q : Past (λ i. endPoint d i .x) started (length d) (at passed) started′)
-        (h : Happened d (take (passed′ - passed) (drop passed flat)) started started′ l l′) where
-      y : ℤ
+    module _ {passed started passed′ started′ : ℕ} {l : List ℕ} (a : Along passed started l) (more : passed < length flat)
+        (p : Past at passed (length flat) (at passed) passed′) (q : Past (λ i. endPoint d i .x) started (length d) (at passed) started′) where
+      abbrev y : ℤ
       y = at passed
 
       later : a .x <ℤ y
-      unfolding y
       later = a .ahead passed (omega arith) more
 
       -- an end after x is at y or after it
@@ -145,7 +134,6 @@ module _ (d : Drawing) (flat : List ℕ) where
           go (no m) = omega arith
 
       next : (t : ℕ) → t < length flat → a .x <ℤ at t → y ≤ℤ at t
-      unfolding y
       next t k g = rises passed t (not-behind t k g) k
 
       next-start : (i : ℕ) → i < length d → a .x <ℤ seg i .a .x → y ≤ℤ seg i .a .x
@@ -155,11 +143,9 @@ module _ (d : Drawing) (flat : List ℕ) where
       next-end i k g = let s = end-stands i k in let e = at-end i k in let m = next (s .place) (s .inside) (omega ints) in omega ints
 
       here-starts : (i : ℕ) → started ≤ i → i < started′ → seg i .a .x ≡ y
-      unfolding y
       here-starts i k m = ap (λ (r : Point). r .x) (sym (end-a d i (omega (arith, q .till)))) ∙ q .here i k m
 
       after-starts : (i : ℕ) → started′ ≤ i → i < length d → y <ℤ seg i .a .x
-      unfolding y
       after-starts i k m = go (order y (seg started′ .a .x))
         where
           first : started′ < length d
@@ -173,7 +159,6 @@ module _ (d : Drawing) (flat : List ℕ) where
               absurd (q .past first (ap (λ (r : Point). r .x) (end-a d started′ first) ∙ e))
 
       after-ends : (t : ℕ) → passed′ ≤ t → t < length flat → y <ℤ at t
-      unfolding y
       after-ends t k m = go (order y (at passed′))
         where
           go : (y <ℤ at passed′) ⊎ (at passed′ ≤ℤ y) → y <ℤ at t
@@ -183,7 +168,7 @@ module _ (d : Drawing) (flat : List ℕ) where
       mine : (i : ℕ) → i ∈ l → i < length d
       mine i m = let k = in-upFrom i 0 (length d) (a .swept .holds .mine i m .0) .1 in omega arith
 
-      coming : Coming seg (length d) (a .x) y started started′ l
+      pub coming : Coming seg (length d) (a .x) y started started′ l
       coming = record {
         later = later;
         fits = q .till;
@@ -194,19 +179,16 @@ module _ (d : Drawing) (flat : List ℕ) where
       }
 
       -- the ends at y
-      block : List ℕ
+      abbrev block : List ℕ
       block = take (passed′ - passed) (drop passed flat)
 
       length-block : length block ≡ passed′ - passed
-      unfolding block
       length-block = length-take-le (passed′ - passed) (drop passed flat) (omega (arith, length-drop passed flat, p .till))
 
       block-is : (k : ℕ) → k < passed′ - passed → getD block k 0 ≡ getD flat (passed + k) 0
-      unfolding block
       block-is k g = getD-take (passed′ - passed) (drop passed flat) k 0 g ∙ getD-drop passed flat k 0
 
-      block-at : (e : ℕ) → e ∈ block → endPoint d e .x ≡ y
-      unfolding y
+      pub block-at : (e : ℕ) → e ∈ block → endPoint d e .x ≡ y
       block-at e m =
           let s = stands block 0 e m in
           let k : s .place < passed′ - passed = omega (arith, s .inside, length-block) in
@@ -228,72 +210,69 @@ module _ (d : Drawing) (flat : List ℕ) where
               let u : t - passed < passed′ - passed = omega (arith, from) in
               subst (λ (f : ℕ). f ∈ block) (block-is (t - passed) u ∙ ap (λ (v : ℕ). getD flat v 0) is) (in-at block 0 (t - passed) (omega (arith, length-block)))
 
-      end-in : (i : ℕ) → i < length d → seg i .b .x ≡ y → length d + i ∈ block
+      pub end-in : (i : ℕ) → i < length d → seg i .b .x ≡ y → length d + i ∈ block
       end-in i k e = let s = end-stands i k in subst (λ (f : ℕ). f ∈ block) (s .is) (in-block (s .place) (s .inside) (at-end i k ∙ e))
 
       -- ---- the list after it
-      stays : (i : ℕ) → i ∈ l′ → (y <ℤ seg i .b .x) × ((i ∈ l) ⊎ ((started ≤ i) × (i < started′)))
-      unfolding block
-      stays i m = cases old new (h .entered .mine i m)
+      -- what was open and is left ends later
+      pub left-later : {m : List ℕ} → Left d block l m → (i : ℕ) → i ∈ m → y <ℤ seg i .b .x
+      left-later left i n = go (order y (seg i .b .x))
         where
-          old : i ∈ h .between → (y <ℤ seg i .b .x) × ((i ∈ l) ⊎ ((started ≤ i) × (i < started′)))
-          old n = (go (order y (seg i .b .x)), inl k)
-            where
-              k : i ∈ l
-              k = h .left .kept i n
+          k : i ∈ l
+          k = left .kept i n
 
-              over : Over (a .x) (seg i)
-              over = a .swept .holds .mine i k .1
+          over : Over (a .x) (seg i)
+          over = a .swept .holds .mine i k .1
 
-              go : (y <ℤ seg i .b .x) ⊎ (seg i .b .x ≤ℤ y) → y <ℤ seg i .b .x
-              go (inl g) = g
-              go (inr g) =
-                  let e : seg i .b .x ≡ y = let f = next-end i (mine i k) (over .to) in omega ints in
-                  absurd (h .left .gone i (end-in i (mine i k) e) (slanted (seg i) (λ r. let b = over .from in let c = over .to in omega ints)) n)
+          go : (y <ℤ seg i .b .x) ⊎ (seg i .b .x ≤ℤ y) → y <ℤ seg i .b .x
+          go (inl g) = g
+          go (inr g) =
+              let e : seg i .b .x ≡ y = let f = next-end i (mine i k) (over .to) in omega ints in
+              absurd (left .gone i (end-in i (mine i k) e) (wide-slanted (seg i) (over-wide over)) n)
 
-          new : (started ≤ i) × (i < started′) × (isVertical (seg i) ≡ false) → (y <ℤ seg i .b .x) × ((i ∈ l) ⊎ ((started ≤ i) × (i < started′)))
-          new (f, t, v) = (go (order y (seg i .b .x)), inr (f, t))
-            where
-              s : seg i .a .x ≡ y
-              s = here-starts i f t
-
-              go : (y <ℤ seg i .b .x) ⊎ (seg i .b .x ≤ℤ y) → y <ℤ seg i .b .x
-              go (inl g) = g
-              go (inr g) = absurd (level-ends (seg i) v (let b = before-le (proper i (omega (arith, t, q .till))) in let r = s in omega ints))
-
-      comes : (i : ℕ) → y <ℤ seg i .b .x → (i ∈ l) ⊎ ((started ≤ i) × (i < started′)) → i ∈ l′
-      unfolding block
-      comes i g (inl m) = cases (h .entered .kept i) (λ n. absurd (let e = end-x i in let r = block-at (length d + i) n in omega ints)) (h .left .rest i m)
-      comes i g (inr (f, t)) = h .entered .came i f t (slanted (seg i) (λ e. let r = here-starts i f t in omega ints))
-
-      holds : Holds seg (upFrom 0 (length d)) y l′
-      holds = turn-holds seg (length d) proper coming (a .swept .holds) (h .entered .order) stays comes
-
-      tested : Tested seg y started started′ l l′
-      tested = record {
-        before = λ v f t e. h .before v f t (upright (seg v) (here-starts v f t ∙ sym e));
-        after = λ v f t e. h .after v f t (upright (seg v) (here-starts v f t ∙ sym e));
-        stack = λ v w f k t e g. h .stack v w f k t (upright (seg v) (here-starts v f (omega arith) ∙ sym e)) (upright (seg w) (here-starts w (omega arith) t ∙ sym g));
-      }
-
-      pub along-next : Along passed′ started′ l′
-      unfolding y
-      along-next = record {
-        x = y;
-        swept = turn seg (length d) proper coming (a .swept) holds tested;
-        begun = λ i k. go-begun i k (decLt i started);
-        waiting = after-starts;
-        behind = λ t k. go-behind t k (decLt t passed);
-        ahead = after-ends;
-      }
+      -- so does what starts there and is not vertical
+      pub starts-later : (i : ℕ) → started ≤ i → i < started′ → isVertical (seg i) ≡ false → y <ℤ seg i .b .x
+      starts-later i f t v = go (order y (seg i .b .x))
         where
-          go-begun : (i : ℕ) → i < started′ → Dec (i < started) → seg i .a .x ≤ℤ y
-          go-begun i k (yes g) = let b = a .begun i g in let m = later in omega ints
-          go-begun i k (no g) = let e = here-starts i (omega arith) k in omega ints
+          go : (y <ℤ seg i .b .x) ⊎ (seg i .b .x ≤ℤ y) → y <ℤ seg i .b .x
+          go (inl g) = g
+          go (inr g) = absurd (slanted-ends (seg i) v (let b = before-le (proper i (omega (arith, t, q .till))) in let r = here-starts i f t in omega ints))
 
-          go-behind : (t : ℕ) → t < passed′ → Dec (t < passed) → at t ≤ℤ y
-          go-behind t k (yes g) = let b = a .behind t g in let m = later in omega ints
-          go-behind t k (no g) = let e = p .here t (omega arith) k in omega ints
+      module _ {l′ : List ℕ} (h : Happened d (take (passed′ - passed) (drop passed flat)) started started′ l l′) where
+        stays : (i : ℕ) → i ∈ l′ → (y <ℤ seg i .b .x) × ((i ∈ l) ⊎ ((started ≤ i) × (i < started′)))
+        stays i m = cases (λ n. (left-later (h .left) i n, inl (h .left .kept i n))) (λ o. (starts-later i (o .0) (o .1) (o .2), inr (o .0, o .1))) (h .entered .mine i m)
+
+        comes : (i : ℕ) → y <ℤ seg i .b .x → (i ∈ l) ⊎ ((started ≤ i) × (i < started′)) → i ∈ l′
+        comes i g (inl m) = cases (h .entered .kept i) (λ n. absurd (let e = end-x i in let r = block-at (length d + i) n in omega ints)) (h .left .rest i m)
+        comes i g (inr (f, t)) = h .entered .came i f t (slanted-by (seg i) (λ e. let r = here-starts i f t in omega ints))
+
+        holds : Holds seg (upFrom 0 (length d)) y l′
+        holds = turn-holds seg (length d) proper coming (a .swept .holds) (h .entered .order) stays comes
+
+        tested : Tested seg y started started′ l l′
+        tested = record {
+          before = λ v f t e. h .before v f t (vertical-by (seg v) (here-starts v f t ∙ sym e));
+          after = λ v f t e. h .after v f t (vertical-by (seg v) (here-starts v f t ∙ sym e));
+          stack = λ v w f k t e g. h .stack v w f k t (vertical-by (seg v) (here-starts v f (omega arith) ∙ sym e)) (vertical-by (seg w) (here-starts w (omega arith) t ∙ sym g));
+        }
+
+        pub along-next : Along passed′ started′ l′
+        along-next = record {
+          x = y;
+          swept = turn seg (length d) proper coming (a .swept) holds tested;
+          begun = λ i k. go-begun i k (decLt i started);
+          waiting = after-starts;
+          behind = λ t k. go-behind t k (decLt t passed);
+          ahead = after-ends;
+        }
+          where
+            go-begun : (i : ℕ) → i < started′ → Dec (i < started) → seg i .a .x ≤ℤ y
+            go-begun i k (yes g) = let b = a .begun i g in let m = later in omega ints
+            go-begun i k (no g) = let e = here-starts i (omega arith) k in omega ints
+
+            go-behind : (t : ℕ) → t < passed′ → Dec (t < passed) → at t ≤ℤ y
+            go-behind t k (yes g) = let b = a .behind t g in let m = later in omega ints
+            go-behind t k (no g) = let e = p .here t (omega arith) k in omega ints
 
     -- ---- what is known of the list
     module _ {passed started : ℕ} {l : List ℕ} (a : Along passed started l) where
@@ -304,7 +283,7 @@ module _ (d : Drawing) (flat : List ℕ) where
       along-distinct = holds-distinct seg (upFrom 0 (length d)) (a .swept .holds)
 
       -- all ends were passed
-      pub along-last : length flat ≤ passed → Pairs (λ s t. meetsWrongly s t ≡ false) d
+      pub along-last : length flat ≤ passed → NoneMeetWrongly d
       unfolding segmentAt
       along-last h = pairs-of (λ s t. meetsWrongly s t ≡ false) d nowhere each
         where

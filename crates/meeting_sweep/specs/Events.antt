@@ -4,9 +4,9 @@ use mathlib.Core.List.{List}
 use Prim.Native.Nat.{ℕ, _<_, _≤_}
 use lib.IntN.{ℤ}
 use Rattle.segm.specs.Segments.{Drawing}
-use Rattle.open_list.specs.OpenList.{Left, Entered}
+use Rattle.open_list.specs.OpenList.{Leaving, Entering, Left, Entered}
 use Rattle.verticals.specs.declared.Edge.the-variants.{Ends, Starts}
-use Rattle.verticals.specs.Verticals.{Cuts, Stacked}
+use Rattle.verticals.specs.Verticals.{Cuts, Stacked, Clears}
 
 -- of the numbers f 0, f 1, .., `many` of them, r is the place of the first from k on that is not x, or `many` if there is none
 pub record Past (f : ℕ → ℤ) (k many : ℕ) (x : ℤ) (r : ℕ) : Type 0 where
@@ -22,4 +22,12 @@ pub record Happened (d : Drawing) (ends : List ℕ) (from to : ℕ) (l l′ : Li
   pub left : Left d ends l between
   pub entered : Entered d from to between l′
   pub after : Cuts d Starts from to l′
+  pub stack : Stacked d from to
+
+-- each test of the event finds what it asks for, in the order in which they are made
+pub record ClearEvent (d : Drawing) (ends : List ℕ) (from to : ℕ) (l : List ℕ) : Type 0 where
+  pub before : Clears d Ends from to l
+  pub leaving : Leaving d ends l
+  pub entering : (between : List ℕ) → Left d ends l between → Entering d from to between
+  pub after : (between l′ : List ℕ) → Left d ends l between → Entered d from to between l′ → Clears d Starts from to l′
   pub stack : Stacked d from to

@@ -1,19 +1,33 @@
-// Whether no two segments of a drawing meet wrongly, by a sweep in which only neighbours are compared. It is sound: what it calls clear is clear.
-// Nothing is promised of a drawing that it does not call clear. Every function here is proved, and the crate assumes nothing of its own.
+// Whether no two segments of a drawing meet wrongly, by a sweep from left to right after Shamos and Hoey in which only neighbours are compared: it says clear exactly
+// where none do. Every function here is proved, and the crate assumes nothing of its own.
+//
+// The open segments, those that span the strip just right of x and are not vertical, are a list of their places in the drawing, the lowest first. At each x where
+// something ends or starts, one event:
+// 1. each vertical segment there stands in a gap of the list, whose segments may touch it with their ends b only;
+// 2. what ends there leaves the list, and the two beside it are tested as new neighbours;
+// 3. what starts there and is not vertical enters the list, in order of place, and is tested against both neighbours;
+// 4. each vertical segment there stands in a gap of the new list, whose segments may touch it with their starts a only;
+// 5. the vertical segments there stand on each other, in order of place.
+// The first test that is not passed ends the sweep. So it takes vertical segments, any number of segments at one point, and common ends; on one line two may touch
+// at an end, and to overlap is a wrong meeting, as to cross or to touch between the ends is.
+//
+// `flat` has the ordered ends (end e below n is the a of segment e, end n + i the b of segment i), `list[..count]` the open segments; `passed` ends and `started`
+// segments are behind the sweep, and `near` is a place to look at first.
 use open_list::Held;
 use verticals::Edge;
 ghost use mathlib.Core.Path.{_≡_};
+ghost use mathlib.Core.Logic.{_↔_};
 ghost use mathlib.Core.Bool.{true, false};
 ghost use Prim.Native.Nat.{ℕ, _*_, _≤_, _<_};
 ghost use lib.ListN.{length, getD, take};
 ghost use Rattle.geom.specs.Points.{eqZ};
-ghost use Rattle.segm.specs.Lists.{_∈_, Pairs, upFrom};
+ghost use Rattle.segm.specs.Lists.{_∈_, upFrom};
 ghost use Rattle.segm.specs.Segments.{segments};
 ghost use Rattle.ends.specs.Ends.{endPoint, endBefore};
 ghost use Rattle.ends.specs.Ordering.{ordering};
-ghost use Rattle.meetings.specs.Meetings.{meetsWrongly};
+ghost use Rattle.meetings.specs.Meetings.{NoneMeetWrongly};
 ghost use Rattle.neighbours.specs.Neighbours.{Ready, Known, Ordered, Distinct};
-ghost use Rattle.meeting_sweep.specs.Events.{Past, Happened};
+ghost use Rattle.meeting_sweep.specs.Events.{Past, Happened, ClearEvent};
 
 // All that is at one x: the ends there are passed, then the starts, with the tests of the vertical segments before and after. Places are sought near a guess.
 fn event(
@@ -35,7 +49,8 @@ fn event(
         × Ordered (segments (now s)) (take count (now list))
         × Distinct (take count (now list)) ⌝ }
     ensures { λ r. ⌜ (r .clear ≡ true
-        → ((r .count ≤ to) × Happened (segments (now (s .entry))) (now (ends .entry)) from to (take count (now (list .entry))) (take (r .count) (now (list .exit))))) ⌝ }
+        → ((r .count ≤ to) × Happened (segments (now (s .entry))) (now (ends .entry)) from to (take count (now (list .entry))) (take (r .count) (now (list .exit)))))
+        × (ClearEvent (segments (now (s .entry))) (now (ends .entry)) from to (take count (now (list .entry))) → r .clear ≡ true) ⌝ }
 {
     if !verticals::are_cut(s, Edge::Ends, from, to, &list[..count], guess) {
         return open_list::unclear();
@@ -103,7 +118,7 @@ fn sweep(s: &[i32], flat: &[u32], list: &mut [u32]) -> bool
     requires { ⌜ Ready (segments (now s))
         × (now flat ≡ ordering (endBefore (segments (now s))) (upFrom 0 (2 * length (segments (now s)))))
         × (length (now list) ≡ 1024) ⌝ }
-    ensures { λ r. ⌜ (r ≡ true → Pairs (λ t u. meetsWrongly t u ≡ false) (segments (now (s .entry)))) ⌝ }
+    ensures { λ r. ⌜ (r ≡ true) ↔ NoneMeetWrongly (segments (now (s .entry))) ⌝ }
 {
     let mut passed: usize = 0;
     let mut started: usize = 0;
@@ -124,11 +139,11 @@ fn sweep(s: &[i32], flat: &[u32], list: &mut [u32]) -> bool
     true
 }
 
-// Whether no two segments meet wrongly, where it can tell, of a drawing with its ordered ends.
+// Whether no two segments meet wrongly, of a drawing with its ordered ends.
 pub fn is_clear(s: &[i32], flat: &[u32]) -> bool
     requires { ⌜ Ready (segments (now s))
         × (now flat ≡ ordering (endBefore (segments (now s))) (upFrom 0 (2 * length (segments (now s))))) ⌝ }
-    ensures { λ r. ⌜ (r ≡ true → Pairs (λ t u. meetsWrongly t u ≡ false) (segments (now (s .entry)))) ⌝ }
+    ensures { λ r. ⌜ (r ≡ true) ↔ NoneMeetWrongly (segments (now (s .entry))) ⌝ }
 {
     let mut list = [0u32; 1024];
     sweep(s, flat, &mut list)

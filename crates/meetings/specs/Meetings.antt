@@ -1,11 +1,13 @@
 -- When two segments meet wrongly. The contracts of `meetings` cite this. Assumes nothing.
 use mathlib.Core.Path.{_≡_}
-use mathlib.Core.Bool.{Bool, true, _&&_, _||_}
+use mathlib.Core.Bool.{Bool, true, false, _&&_, _||_}
 use lib.IntN.{ℤ, pos}
 use lib.Signed.{ltZ}
 use Rattle.geom.specs.declared.Point.{Point}
 use Rattle.geom.specs.Points.{eqP, ltP, inRange, cross, between}
 use Rattle.segm.specs.declared.Segment.{Segment}
+use Rattle.segm.specs.Lists.{Pairs}
+use Rattle.segm.specs.Segments.{Drawing}
 
 -- the side of s on which p lies: positive left of a to b (the top side), negative right of it (the bottom side)
 unfoldable pub side : Segment → Point → ℤ
@@ -32,6 +34,10 @@ meetsWrongly s t =
     || ((inside s (t .a) || inside s (t .b))
     || ((inside t (s .a) || inside t (s .b))
     || sameEnds s t))
+
+-- no two segments of a drawing meet wrongly
+abbrev pub NoneMeetWrongly : Drawing → Type 0
+NoneMeetWrongly d = Pairs (λ s t. meetsWrongly s t ≡ false) d
 
 -- a segment whose coordinates are in range and whose a is less than its b: what refusals 3 and 4 leave
 pub record Proper (s : Segment) : Type 0 where

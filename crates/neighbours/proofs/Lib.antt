@@ -1,5 +1,6 @@
 pub mod Chain
 pub mod Lists
 pub mod Upright
+pub mod Passes
 pub mod Event
 pub mod Turn

@@ -1,7 +1,8 @@
 -- Vertical segments: beside, stacked, and in a gap of the ordered list.
 use mathlib.Core.Path.{_≡_, refl, sym, _∙_, ap, subst}
 use mathlib.Core.List.{List, [], _∷_, _++_}
-use mathlib.Core.Logic.{_⊎_, inl, inr}
+use mathlib.Core.Logic.{_⊎_, inl, inr, ⊎-elim}
+use mathlib.Core.Bool.{true}
 use lib.IntN.{ℤ, pos, _-ℤ_, _*ℤ_}
 use lib.ListN.{length, take, drop, take-append-drop}
 use lib.Signed.{_≤ℤ_, _<ℤ_}
@@ -12,10 +13,11 @@ use Rattle.geom.proofs.Points.{Before, before-le, before-irrefl, point}
 use Rattle.segm.specs.declared.Segment.{Segment}
 use Rattle.segm.specs.Lists.{_∈_, Pairs}
 use Rattle.meetings.specs.Meetings.{side}
-use Rattle.strip.specs.Strip.{reach, gap}
+use Rattle.strip.specs.Strip.{isVertical, reach, gap}
 use Rattle.strip.proofs.Signs.{Sign, minus, nil, plus, sign, up-neg, up-nil, down-pos, down-neg, down-nil, diff-nil}
 use Rattle.strip.proofs.Gap.{gap-turn, side-gap, side-vertical, side-at-a, side-at-b, side-own-a, side-own-b}
 use Rattle.strip.proofs.Apart.{Between, Apart, Wide, wide, side-less}
+use Rattle.strip.proofs.Vertical.{vertical-not-wide}
 use Rattle.strip.proofs.Tiers.{At}
 use Rattle.neighbours.specs.Neighbours.{First, Last, Under, Above, Passes, Cut}
 use Rattle.neighbours.proofs.Chain.{last-take, first-drop}
@@ -27,6 +29,9 @@ pub record Upright (v : Segment) : Type 0 where
 pub wide-or-upright : {s : Segment} → Before (s .a) (s .b) → Wide s ⊎ Upright s
 wide-or-upright (inl h) = inl (record { goes = h })
 wide-or-upright (inr h) = inr (record { plumb = sym (h .0); rises = h .1 })
+
+pub vertical-upright : {s : Segment} → Before (s .a) (s .b) → isVertical s ≡ true → Upright s
+vertical-upright {s} b v = ⊎-elim (λ w. absurd (vertical-not-wide s v w)) (λ u. u) (wide-or-upright b)
 
 above-it : {p q : Point} → Before p q → p .x ≡ q .x → p .y <ℤ q .y
 above-it (inl h) e = absurd (omega ints)
@@ -42,7 +47,7 @@ module _ {v : Segment} (u : Upright v) (p : Point) where
   on-it : side v p ≡ pos 0 → p .x ≡ v .a .x
   on-it h = sym (diff-nil (v .a .x) (p .x) (down-nil (sub-pos (u .rises)) (side-vertical v p (u .plumb)) h))
 
-  in-line : p .x ≡ v .a .x → side v p ≡ pos 0
+  pub in-line : p .x ≡ v .a .x → side v p ≡ pos 0
   in-line e = up-nil (sub-pos (u .rises)) (side-vertical v p (u .plumb)) (omega (ints, of-- (v .a .x) (p .x), of-pos 0))
 
 -- t does not reach v's line
@@ -100,7 +105,7 @@ module _ (e : Segment → Point) (is : (s : Segment) → (e s ≡ s .a) ⊎ (e s
       go (inr f) = before-irrefl (subst (λ (r : Point). Before p r) (sym f ∙ q) (h .1))
 
   -- the end straight at p's x, on a line through p, is p
-  end-at : {s : Segment} {p : Point} → Wide s → e s .x ≡ p .x → side s p ≡ pos 0 → e s ≡ p
+  pub end-at : {s : Segment} {p : Point} → Wide s → e s .x ≡ p .x → side s p ≡ pos 0 → e s ≡ p
   end-at {s} {p} w f z = go (is s)
     where
       go : (e s ≡ s .a) ⊎ (e s ≡ s .b) → e s ≡ p

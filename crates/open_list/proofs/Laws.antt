@@ -2,32 +2,24 @@
 use mathlib.Core.Path.{_≡_, refl, sym, _∙_, ap, subst}
 use mathlib.Core.List.{List, [], _∷_, _++_}
 use mathlib.Core.Logic.{_⊎_, inl, inr}
-use mathlib.Core.Bool.{true, false, not, Bool·not-not}
+use mathlib.Core.Bool.{true, false}
 use Prim.Native.Nat.{ℕ, suc, _+_, _-_, _<_, _≤_}
 use native.Mathlib.Omega.{arith}
 use native.Mathlib.Decide.{decLt}
 use lib.ListN.{length, getD, take}
 use lib.Seq.{length-take-le}
-use Rattle.integers.proofs.Booleans.{both-l, both-r, clash}
-use Rattle.segm.specs.declared.Segment.{Segment}
+use Rattle.integers.proofs.Booleans.{clash}
 use Rattle.segm.specs.Lists.{_∈_, written}
 use Rattle.segm.specs.Segments.{Drawing, segmentAt}
 use Rattle.segm.proofs.Lists.{in-at, take-written}
 use Rattle.segm.proofs.Tallies.{cases, in-++, in-left, in-right}
-use Rattle.meetings.specs.Meetings.{Proper, meetsWrongly}
-use Rattle.strip.specs.Strip.{isVertical, underBySide, Next}
+use Rattle.meetings.specs.Meetings.{Proper}
+use Rattle.strip.specs.Strip.{isVertical, Next}
 use Rattle.neighbours.specs.Neighbours.{Ready, Known, Ordered, Distinct}
 use Rattle.neighbours.proofs.Chain.{chain-put, chain-take}
 use Rattle.scan.specs.Scan.{putAt, outAt}
 use Rattle.scan.proofs.Laws.{put-in, in-put, length-put, length-out, out-in, in-out, not-out, pairs-out}
-use Rattle.open_list.specs.OpenList.{follows, FitsAt, ClosesAt, Left, Entered}
-
-pub follows-next : (s t : Segment) → follows s t ≡ true → Next s t
-unfolding follows
-follows-next s t e =
-    let u = underBySide s t in
-    let w = meetsWrongly s t in
-    record { lower = both-l u (not w) e; clear = sym (Bool·not-not w) ∙ ap not (both-r u (not w) e) }
+use Rattle.open_list.specs.OpenList.{FitsAt, ClosesAt, Left, Entered}
 
 -- a place of the list has a proper segment
 pub known-proper : {d : Drawing} (l : List ℕ) → Ready d → Known d l → (k : ℕ) → k < length l → Proper (segmentAt d (getD l k 0))

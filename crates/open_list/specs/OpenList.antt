@@ -2,20 +2,17 @@
 use mathlib.Core.Path.{_≡_}
 use mathlib.Core.List.{List}
 use mathlib.Core.Logic.{_⊎_}
-use mathlib.Core.Bool.{Bool, false, not, _&&_}
+use mathlib.Core.Bool.{true, false}
 use Prim.Native.Nat.{ℕ, suc, _+_, _<_, _≤_}
 use lib.ListN.{length, getD}
-use Rattle.segm.specs.declared.Segment.{Segment}
+use lib.IntN.{ℤ}
 use Rattle.segm.specs.Lists.{_∈_}
 use Rattle.segm.specs.Segments.{Drawing, segmentAt}
-use Rattle.meetings.specs.Meetings.{meetsWrongly}
-use Rattle.strip.specs.Strip.{isVertical, underBySide, Next}
+use Rattle.meetings.specs.Meetings.{NoneMeetWrongly}
+use Rattle.strip.specs.Strip.{isVertical, spans, Next}
 use Rattle.neighbours.specs.Neighbours.{Ordered, Distinct}
 
--- t may stand right over s: s is the lower, and the two do not meet wrongly
-unfoldable pub follows : Segment → Segment → Bool
-follows s t = underBySide s t && not (meetsWrongly s t)
-
+-- ---- neighbours
 -- i may stand right over the one before place k, if there is one
 abbrev pub StandsOver : Drawing → ℕ → ℕ → List ℕ → Type 0
 StandsOver d k i l = (j : ℕ) → suc j ≡ k → Next (segmentAt d (getD l j 0)) (segmentAt d i)
@@ -34,7 +31,28 @@ pub record FitsAt (d : Drawing) (k i : ℕ) (l : List ℕ) : Type 0 where
 abbrev pub ClosesAt : Drawing → ℕ → List ℕ → Type 0
 ClosesAt d k l = (j : ℕ) → suc j ≡ k → suc k < length l → Next (segmentAt d (getD l j 0)) (segmentAt d (getD l (suc k) 0))
 
--- l′ is l without the segments that are not vertical and end at one of the ends (end length d + i is the b of the segment at place i)
+-- ---- where every test is passed
+-- no two segments meet wrongly, and those of the list span strip x
+pub record Spanning (d : Drawing) (x : ℤ) (l : List ℕ) : Type 0 where
+  pub apart : NoneMeetWrongly d
+  pub across : (i : ℕ) → i ∈ l → spans (segmentAt d i) x ≡ true
+
+-- ends, none of them twice, and a list in which stands whatever is not vertical and ends there (end length d + i is the b of the segment at place i)
+pub record Leaving (d : Drawing) (ends l : List ℕ) : Type 0 where
+  pub x : ℤ
+  pub spanning : Spanning d x l
+  pub distinct : Distinct ends
+  pub inside : (i : ℕ) → length d + i ∈ ends → isVertical (segmentAt d i) ≡ false → i ∈ l
+
+-- places from..to, of which those that are not vertical span the strip too, and a list of places before them
+pub record Entering (d : Drawing) (from to : ℕ) (l : List ℕ) : Type 0 where
+  pub x : ℤ
+  pub spanning : Spanning d x l
+  pub earlier : (i : ℕ) → i ∈ l → i < from
+  pub starting : (i : ℕ) → from ≤ i → i < to → isVertical (segmentAt d i) ≡ false → spans (segmentAt d i) x ≡ true
+
+-- ---- what happens to the list
+-- l′ is l without the segments that are not vertical and end at one of the ends
 pub record Left (d : Drawing) (ends l l′ : List ℕ) : Type 0 where
   pub order : Ordered d l′
   pub distinct : Distinct l′

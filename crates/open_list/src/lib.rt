@@ -1,17 +1,21 @@
 // What enters and leaves the ordered list of the open segments, with a test of every two that become neighbours. Every function here is proved, and the crate
-// assumes nothing of its own. The tests are sound: what is promised holds where all were passed.
+// assumes nothing of its own. Each promise has two halves: what holds of the list where all tests were passed, and where they are: in a drawing in which no two
+// segments meet wrongly, of a list that spans one strip.
 use scan::Sought;
 use segm::Segment;
 ghost use mathlib.Core.Path.{_≡_};
 ghost use mathlib.Core.List.{[], _∷_};
+ghost use mathlib.Core.Logic.{_↔_};
 ghost use mathlib.Core.Bool.{true, false};
 ghost use Prim.Native.Nat.{ℕ, _+_, _*_, _≤_, _<_};
-ghost use lib.ListN.{length, take};
+ghost use lib.ListN.{length, getD, take};
+ghost use lib.IntN.{ℤ};
 ghost use Rattle.segm.specs.Lists.{_∈_};
 ghost use Rattle.segm.specs.Segments.{segments, segmentAt};
 ghost use Rattle.meetings.specs.Meetings.{Proper};
+ghost use Rattle.strip.specs.Strip.{Next};
 ghost use Rattle.neighbours.specs.Neighbours.{Ready, Known, Ordered, Distinct};
-ghost use Rattle.open_list.specs.OpenList.{follows, StandsOver, StandsUnder, FitsAt, ClosesAt, Left, Entered};
+ghost use Rattle.open_list.specs.OpenList.{StandsOver, StandsUnder, FitsAt, ClosesAt, Spanning, Leaving, Entering, Left, Entered};
 
 // How many segments are open, a place of the list, and whether all tests were passed so far. The place is where a segment left or entered: at one x ends and
 // starts come in order, so that of the next one is near; and what changes at the next x is often near the first that changed at this one.
@@ -35,7 +39,7 @@ pub fn unclear() -> Held
 // Whether the segment at place i may stand right under that at place j.
 fn is_next(s: &[i32], i: u32, j: u32) -> bool
     requires { ⌜ Proper (segmentAt (segments (now s)) i) × Proper (segmentAt (segments (now s)) j) ⌝ }
-    ensures { λ r. ⌜ r ≡ follows (segmentAt (segments (now (s .entry))) i) (segmentAt (segments (now (s .entry))) j) ⌝ }
+    ensures { λ r. ⌜ (r ≡ true) ↔ Next (segmentAt (segments (now (s .entry))) i) (segmentAt (segments (now (s .entry))) j) ⌝ }
 {
     let t = segm::segment_at(s, i as usize);
     let u = segm::segment_at(s, j as usize);
@@ -48,7 +52,7 @@ fn is_next(s: &[i32], i: u32, j: u32) -> bool
 // Whether the segment at place i may stand right over the one before place k of the list, if there is one.
 fn stands_over(s: &[i32], list: &[u32], k: usize, i: u32) -> bool
     requires { ⌜ Ready (segments (now s)) × Known (segments (now s)) (now list) × (i < length (segments (now s))) × (k ≤ length (now list)) ⌝ }
-    ensures { λ r. ⌜ (r ≡ true → StandsOver (segments (now (s .entry))) k i (now (list .entry))) ⌝ }
+    ensures { λ r. ⌜ (r ≡ true) ↔ StandsOver (segments (now (s .entry))) k i (now (list .entry)) ⌝ }
 {
     if k == 0 {
         return true;
@@ -59,7 +63,7 @@ fn stands_over(s: &[i32], list: &[u32], k: usize, i: u32) -> bool
 // Whether it may stand right under the one at place k, if there is one.
 fn stands_under(s: &[i32], list: &[u32], k: usize, i: u32) -> bool
     requires { ⌜ Ready (segments (now s)) × Known (segments (now s)) (now list) × (i < length (segments (now s))) ⌝ }
-    ensures { λ r. ⌜ (r ≡ true → StandsUnder (segments (now (s .entry))) k i (now (list .entry))) ⌝ }
+    ensures { λ r. ⌜ (r ≡ true) ↔ StandsUnder (segments (now (s .entry))) k i (now (list .entry)) ⌝ }
 {
     if list.len() <= k {
         return true;
@@ -70,7 +74,7 @@ fn stands_under(s: &[i32], list: &[u32], k: usize, i: u32) -> bool
 // Whether the two beside place k of the list may become neighbours.
 fn closes_at(s: &[i32], list: &[u32], k: usize) -> bool
     requires { ⌜ Ready (segments (now s)) × Known (segments (now s)) (now list) × (k < length (now list)) ⌝ }
-    ensures { λ r. ⌜ (r ≡ true → ClosesAt (segments (now (s .entry))) k (now (list .entry))) ⌝ }
+    ensures { λ r. ⌜ (r ≡ true) ↔ ClosesAt (segments (now (s .entry))) k (now (list .entry)) ⌝ }
 {
     if k == 0 {
         return true;
@@ -89,7 +93,8 @@ fn leave_one(s: &[i32], e: u32, list: &mut [u32], count: usize, near: usize) -> 
         × Known (segments (now s)) (take count (now list))
         × Ordered (segments (now s)) (take count (now list))
         × Distinct (take count (now list)) ⌝ }
-    ensures { λ r. ⌜ (r .clear ≡ true → ((r .count ≤ count) × Left (segments (now (s .entry))) (e ∷ []) (take count (now (list .entry))) (take (r .count) (now (list .exit))))) ⌝ }
+    ensures { λ r. ⌜ (r .clear ≡ true → ((r .count ≤ count) × Left (segments (now (s .entry))) (e ∷ []) (take count (now (list .entry))) (take (r .count) (now (list .exit)))))
+        × (Leaving (segments (now (s .entry))) (e ∷ []) (take count (now (list .entry))) → r .clear ≡ true) ⌝ }
 {
     let n = segm::count(s);
     let end = e as usize;
@@ -112,9 +117,14 @@ fn leave_one(s: &[i32], e: u32, list: &mut [u32], count: usize, near: usize) -> 
     take_out(s, t, i, list, count, near)
 }
 
-// A place of the list to look for i at, whose segment is t: where the last one left, if it stands there. Nothing is promised of it.
+// The place of the list where i stands, whose segment is t: where the last one left, if it stands there, else by search.
 fn place_to_leave(s: &[i32], t: Segment, i: usize, list: &[u32], near: usize) -> usize
-    requires { ⌜ Ready (segments (now s)) × Proper t × Known (segments (now s)) (now list) ⌝ }
+    requires { ⌜ Ready (segments (now s))
+        × (t ≡ segmentAt (segments (now s)) i)
+        × (i < length (segments (now s)))
+        × Known (segments (now s)) (now list)
+        × Ordered (segments (now s)) (now list) ⌝ }
+    ensures { λ r. ⌜ ((x : ℤ) → Spanning (segments (now (s .entry))) x (now (list .entry)) → i ∈ now (list .entry) → ((r < length (now (list .entry))) × (getD (now (list .entry)) r 0 ≡ i))) ⌝ }
 {
     if near < list.len() {
         if list[near] as usize == i {
@@ -134,7 +144,8 @@ fn take_out(s: &[i32], t: Segment, i: usize, list: &mut [u32], count: usize, nea
         × Ordered (segments (now s)) (take count (now list))
         × Distinct (take count (now list)) ⌝ }
     ensures { λ r. ⌜ (r .clear ≡ true
-        → ((r .count ≤ count) × Left (segments (now (s .entry))) ((length (segments (now (s .entry))) + i) ∷ []) (take count (now (list .entry))) (take (r .count) (now (list .exit))))) ⌝ }
+        → ((r .count ≤ count) × Left (segments (now (s .entry))) ((length (segments (now (s .entry))) + i) ∷ []) (take count (now (list .entry))) (take (r .count) (now (list .exit)))))
+        × ((x : ℤ) → Spanning (segments (now (s .entry))) x (take count (now (list .entry))) → i ∈ take count (now (list .entry)) → r .clear ≡ true) ⌝ }
 {
     let k = place_to_leave(s, t, i, &list[..count], near);
     if count <= k {
@@ -168,7 +179,8 @@ pub fn leave_all(s: &[i32], ends: &[u32], list: &mut [u32], count: usize, guess:
         × Known (segments (now s)) (take count (now list))
         × Ordered (segments (now s)) (take count (now list))
         × Distinct (take count (now list)) ⌝ }
-    ensures { λ r. ⌜ (r .clear ≡ true → ((r .count ≤ count) × Left (segments (now (s .entry))) (now (ends .entry)) (take count (now (list .entry))) (take (r .count) (now (list .exit))))) ⌝ }
+    ensures { λ r. ⌜ (r .clear ≡ true → ((r .count ≤ count) × Left (segments (now (s .entry))) (now (ends .entry)) (take count (now (list .entry))) (take (r .count) (now (list .exit)))))
+        × (Leaving (segments (now (s .entry))) (now (ends .entry)) (take count (now (list .entry))) → r .clear ≡ true) ⌝ }
 {
     let mut held = count;
     let mut near = guess;
@@ -194,7 +206,7 @@ pub fn leave_all(s: &[i32], ends: &[u32], list: &mut [u32], count: usize, guess:
 // Whether the segment at place i may stand at place k of the list.
 fn fits_at(s: &[i32], list: &[u32], k: usize, i: u32) -> bool
     requires { ⌜ Ready (segments (now s)) × Known (segments (now s)) (now list) × (i < length (segments (now s))) × (k ≤ length (now list)) ⌝ }
-    ensures { λ r. ⌜ (r ≡ true → FitsAt (segments (now (s .entry))) k i (now (list .entry))) ⌝ }
+    ensures { λ r. ⌜ (r ≡ true) ↔ FitsAt (segments (now (s .entry))) k i (now (list .entry)) ⌝ }
 {
     if !stands_over(s, list, k, i) {
         return false;
@@ -210,8 +222,9 @@ struct Place {
 
 // A place for the segment t, at place i of the drawing: where the last one entered, if it fits there, else by search.
 fn place_to_enter(s: &[i32], t: Segment, i: u32, list: &[u32], near: usize) -> Place
-    requires { ⌜ Ready (segments (now s)) × Proper t × Known (segments (now s)) (now list) × (i < length (segments (now s))) ⌝ }
-    ensures { λ r. ⌜ (r .fits ≡ true → FitsAt (segments (now (s .entry))) (r .at) i (now (list .entry))) ⌝ }
+    requires { ⌜ Ready (segments (now s)) × (t ≡ segmentAt (segments (now s)) i) × Known (segments (now s)) (now list) × (i < length (segments (now s))) ⌝ }
+    ensures { λ r. ⌜ (r .fits ≡ true → FitsAt (segments (now (s .entry))) (r .at) i (now (list .entry)))
+        × ((x : ℤ) → Spanning (segments (now (s .entry))) x (i ∷ now (list .entry)) → (i ∈ now (list .entry) → ⊥) → r .fits ≡ true) ⌝ }
 {
     if near <= list.len() {
         if fits_at(s, list, near, i) {
@@ -235,7 +248,8 @@ fn enter_one(s: &[i32], i: usize, list: &mut [u32], count: usize, near: usize) -
         × (count < length (now list))
         × Known (segments (now s)) (take count (now list))
         × Ordered (segments (now s)) (take count (now list)) ⌝ }
-    ensures { λ r. ⌜ (r .clear ≡ true → ((r .count ≤ count + 1) × Entered (segments (now (s .entry))) i (i + 1) (take count (now (list .entry))) (take (r .count) (now (list .exit))))) ⌝ }
+    ensures { λ r. ⌜ (r .clear ≡ true → ((r .count ≤ count + 1) × Entered (segments (now (s .entry))) i (i + 1) (take count (now (list .entry))) (take (r .count) (now (list .exit)))))
+        × (Entering (segments (now (s .entry))) i (i + 1) (take count (now (list .entry))) → r .clear ≡ true) ⌝ }
 {
     let t = segm::segment_at(s, i);
     if scan::is_vertical(t) {
@@ -276,7 +290,8 @@ pub fn enter_all(
         × (length (segments (now s)) ≤ length (now list))
         × Known (segments (now s)) (take count (now list))
         × Ordered (segments (now s)) (take count (now list)) ⌝ }
-    ensures { λ r. ⌜ (r .clear ≡ true → ((r .count ≤ to) × Entered (segments (now (s .entry))) from to (take count (now (list .entry))) (take (r .count) (now (list .exit))))) ⌝ }
+    ensures { λ r. ⌜ (r .clear ≡ true → ((r .count ≤ to) × Entered (segments (now (s .entry))) from to (take count (now (list .entry))) (take (r .count) (now (list .exit)))))
+        × (Entering (segments (now (s .entry))) from to (take count (now (list .entry))) → r .clear ≡ true) ⌝ }
 {
     let mut held = count;
     let mut near = guess;

@@ -2,8 +2,8 @@
 -- The contracts of `scan` cite these. Assumes nothing.
 use mathlib.Core.List.{List, _∷_, _++_}
 use mathlib.Core.Path.{_≡_}
-use mathlib.Core.Bool.{Bool, true, cond}
-use Prim.Native.Nat.{ℕ, zero, suc, _+_, _-_, _/_}
+use mathlib.Core.Bool.{Bool, true, false, cond}
+use Prim.Native.Nat.{ℕ, zero, suc, _+_, _-_, _/_, _≤_, _<_}
 use lib.Dec.{ltb}
 use lib.ListN.{length, getD, take, drop}
 use lib.IntN.{ℤ}
@@ -32,10 +32,28 @@ bisect test (suc steps) low high =
 unfoldable pub placeBy : (ℕ → Bool) → List ℕ → ℕ
 placeBy below l = bisect (λ k. below (getD l k 0)) (length l) 0 (length l)
 
+-- r lies from low to high, and the test changes there from true to false
+pub record Changes (test : ℕ → Bool) (low high r : ℕ) : Type 0 where
+  pub from : low ≤ r
+  pub till : r ≤ high
+  pub before : low < r → test (r - 1) ≡ true
+  pub after : r < high → test r ≡ false
+
+-- of so many places, from..to are some between which the test changes: it is true before them and false after them, as far as there is a place
+pub record Brackets (test : ℕ → Bool) (many from to : ℕ) : Type 0 where
+  pub order : from ≤ to
+  pub till : to ≤ many
+  pub before : 0 < from → test (from - 1) ≡ true
+  pub after : to < many → test to ≡ false
+
 -- the segment at place i is below a point, or below another segment
 unfoldable pub isBelow : Drawing → Sought → ℕ → Bool
 isBelow d (At p) i = above (segmentAt d i) p
 isBelow d (Along t) i = underBySide (segmentAt d i) t
+
+-- the same of what stands at place k of a list
+abbrev pub belowAt : Drawing → Sought → List ℕ → ℕ → Bool
+belowAt d sought l k = isBelow d sought (getD l k 0)
 
 -- the place of p
 unfoldable pub placeOf : Drawing → Point → List ℕ → ℕ

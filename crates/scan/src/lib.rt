@@ -2,7 +2,7 @@
 use geom::Point;
 use segm::Segment;
 ghost use mathlib.Core.Path.{_≡_};
-ghost use mathlib.Core.Bool.{true};
+ghost use mathlib.Core.Bool.{true, false};
 ghost use Prim.Native.Nat.{suc, _-_, _≤_, _<_};
 ghost use lib.ListN.{length, getD, take};
 ghost use lib.Signed.{_≤ℤ_};
@@ -11,7 +11,7 @@ ghost use Rattle.segm.specs.Lists.{written};
 ghost use Rattle.segm.specs.Segments.{segments, segmentAt};
 ghost use Rattle.meetings.specs.Meetings.{Proper};
 ghost use Rattle.strip.specs.Strip.{isVertical, underBySide};
-ghost use Rattle.scan.specs.Scan.{stillOpen, bisect, isBelow, placeBy, putAt, outAt, EndFrom, AllProper, SoughtInRange};
+ghost use Rattle.scan.specs.Scan.{stillOpen, bisect, isBelow, belowAt, placeBy, putAt, outAt, Changes, Brackets, EndFrom, AllProper, SoughtInRange};
 
 // How many are open, and an x that none of them ends before.
 pub struct Open {
@@ -153,10 +153,13 @@ struct Stretch {
     to: usize,
 }
 
-// A stretch from a place on that holds the place of what is sought, if that is not before it: found by steps that double.
+// A stretch between whose ends the list changes from below to above what is sought, from a place on up to which it is below: found by steps that double.
 fn stretch_from(s: &[i32], list: &[u32], from: usize, sought: Sought) -> Stretch
-    requires { ⌜ AllProper (segments (now s)) (now list) × SoughtInRange sought × (from ≤ length (now list)) ⌝ }
-    ensures { λ r. ⌜ (r .from ≤ r .to) × (r .to ≤ length (now (list .entry))) ⌝ }
+    requires { ⌜ AllProper (segments (now s)) (now list)
+        × SoughtInRange sought
+        × (from ≤ length (now list))
+        × (0 < from → belowAt (segments (now s)) sought (now list) (from - 1) ≡ true) ⌝ }
+    ensures { λ r. ⌜ Brackets (belowAt (segments (now (s .entry))) sought (now (list .entry))) (length (now (list .entry))) (r .from) (r .to) ⌝ }
 {
     let mut low = from;
     let mut step: usize = 1;
@@ -176,10 +179,13 @@ fn stretch_from(s: &[i32], list: &[u32], from: usize, sought: Sought) -> Stretch
     }
 }
 
-// A stretch up to a place that holds the place of what is sought, if that is not after it: found by steps that double.
+// The same, up to a place at which the list is above.
 fn stretch_before(s: &[i32], list: &[u32], to: usize, sought: Sought) -> Stretch
-    requires { ⌜ AllProper (segments (now s)) (now list) × SoughtInRange sought × (to ≤ length (now list)) ⌝ }
-    ensures { λ r. ⌜ (r .from ≤ r .to) × (r .to ≤ length (now (list .entry))) ⌝ }
+    requires { ⌜ AllProper (segments (now s)) (now list)
+        × SoughtInRange sought
+        × (to ≤ length (now list))
+        × (to < length (now list) → belowAt (segments (now s)) sought (now list) to ≡ false) ⌝ }
+    ensures { λ r. ⌜ Brackets (belowAt (segments (now (s .entry))) sought (now (list .entry))) (length (now (list .entry))) (r .from) (r .to) ⌝ }
 {
     let mut high = to;
     let mut step: usize = 1;
@@ -196,10 +202,10 @@ fn stretch_before(s: &[i32], list: &[u32], to: usize, sought: Sought) -> Stretch
     Stretch { from: 0, to: high }
 }
 
-// The stretch that holds the place of what is sought, from a guess on or up to it.
+// The same, from a guess on or up to it: the one before the guess tells which.
 fn stretch_near(s: &[i32], list: &[u32], guess: usize, sought: Sought) -> Stretch
     requires { ⌜ AllProper (segments (now s)) (now list) × SoughtInRange sought × (guess ≤ length (now list)) ⌝ }
-    ensures { λ r. ⌜ (r .from ≤ r .to) × (r .to ≤ length (now (list .entry))) ⌝ }
+    ensures { λ r. ⌜ Brackets (belowAt (segments (now (s .entry))) sought (now (list .entry))) (length (now (list .entry))) (r .from) (r .to) ⌝ }
 {
     if 0 < guess {
         if !is_below(s, list[guess - 1] as usize, sought) {
@@ -209,10 +215,10 @@ fn stretch_near(s: &[i32], list: &[u32], guess: usize, sought: Sought) -> Stretc
     stretch_from(s, list, guess, sought)
 }
 
-// The place of what is sought, with a guess: the nearer the guess, the fewer are looked at. Nothing is promised but that it is in the list or at its end.
+// A place at which the list changes from below to above what is sought, whatever the guess: the nearer it is, the fewer are looked at.
 pub fn place_near(s: &[i32], list: &[u32], guess: usize, sought: Sought) -> usize
     requires { ⌜ AllProper (segments (now s)) (now list) × SoughtInRange sought ⌝ }
-    ensures { λ r. ⌜ r ≤ length (now (list .entry)) ⌝ }
+    ensures { λ r. ⌜ Changes (belowAt (segments (now (s .entry))) sought (now (list .entry))) 0 (length (now (list .entry))) r ⌝ }
 {
     if list.len() < guess {
         return place_of(s, list, sought);

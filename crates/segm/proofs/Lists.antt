@@ -85,6 +85,24 @@ module _ {A : Type 0} where
   in-drop (suc k) [] x m = m
   in-drop (suc k) (y ∷ l) x m = inr (in-drop k l x m)
 
+  -- the same of parts of a list
+  pub pairs-take : (R : A → A → Type 0) (k : ℕ) (l : List A) → Pairs R l → Pairs R (take k l)
+  pairs-take R zero l p = tt
+  pairs-take R (suc k) [] p = tt
+  pairs-take R (suc k) (x ∷ l) p = (λ y m. p .0 y (in-take k l y m), pairs-take R k l (p .1))
+
+  pub pairs-drop : (R : A → A → Type 0) (k : ℕ) (l : List A) → Pairs R l → Pairs R (drop k l)
+  pairs-drop R zero l p = p
+  pairs-drop R (suc k) [] p = tt
+  pairs-drop R (suc k) (x ∷ l) p = pairs-drop R k l (p .1)
+
+  -- one of the first k, and the one at place k
+  pub pairs-before : (R : A → A → Type 0) (l : List A) (z : A) → Pairs R l → (k : ℕ) → k < length l → (y : A) → y ∈ take k l → R y (getD l k z)
+  pairs-before R [] z p k h y m = absurd (omega arith)
+  pairs-before R (x ∷ l) z p zero h y m = absurd m
+  pairs-before R (x ∷ l) z p (suc k) h y (inl e) = subst (λ w. R w (getD l k z)) (sym e) (p .0 (getD l k z) (in-at l z k (omega arith)))
+  pairs-before R (x ∷ l) z p (suc k) h y (inr m) = pairs-before R l z (p .1) k (omega arith) y m
+
   -- ---- some member
   pub any-false : (P : A → Bool) (l : List A) → any P l ≡ false → (x : A) → x ∈ l → P x ≡ false
   unfolding any

@@ -6,7 +6,7 @@ use lib.IntN.{ℤ, pos, _+ℤ_}
 use lib.Signed.{ltZ, leZ, _≤ℤ_, _<ℤ_}
 use Rattle.integers.proofs.Booleans.{both, both-l, both-r, not-l, not-r}
 use Rattle.integers.proofs.Linear.{ints, of-pos, of-+}
-use Rattle.integers.proofs.Order.{order, ltZ-true, leZ-true, lt-ltZ, le-ltZ, le-leZ, lt-leZ, lt-le}
+use Rattle.integers.proofs.Order.{order, ltZ-true, ltZ-false, leZ-true, lt-ltZ, le-ltZ, le-leZ, lt-leZ, lt-le}
 use Rattle.geom.specs.declared.Point.{Point}
 use Rattle.geom.proofs.Points.{point}
 use Rattle.segm.specs.declared.Segment.{Segment}
@@ -45,6 +45,10 @@ above-off s p h = le-ltZ h
 pub above-yes : (s : Segment) (p : Point) → above s p ≡ true → pos 0 <ℤ side s p
 unfolding above
 above-yes s p e = ltZ-true e
+
+pub above-no : (s : Segment) (p : Point) → above s p ≡ false → side s p ≤ℤ pos 0
+unfolding above
+above-no s p e = ltZ-false e
 
 pub above-own-a : (s : Segment) → above s (s .a) ≡ false
 above-own-a s = above-off s (s .a) (nil-le (side-own-a s))

@@ -2,6 +2,10 @@
 use mathlib.Core.Path.{_≡_, refl, sym, _∙_, ap, subst}
 use mathlib.Core.Logic.{_⊎_, inl, inr}
 use mathlib.Core.Bool.{true, false, _&&_, _||_}
+use Prim.Native.Nat.{ℕ, _<_}
+use native.Mathlib.Omega.{arith}
+use native.Mathlib.Decide.{decLt}
+use lib.ListN.{length}
 use lib.IntN.{ℤ, pos, _+ℤ_, _-ℤ_, _*ℤ_, *ℤ-zero}
 use lib.Signed.{ltZ, _≤ℤ_, _<ℤ_}
 use Rattle.integers.proofs.Booleans.{both, both-l, both-r, or-l, or-r, clash, is-false, nor-l, nor-r, same-test}
@@ -11,7 +15,9 @@ use Rattle.geom.specs.declared.Point.{Point}
 use Rattle.geom.specs.Points.{eqP, between}
 use Rattle.geom.proofs.Points.{eq-eqZ, eq-eqP, eqP-true, Before, before, point}
 use Rattle.segm.specs.declared.Segment.{Segment}
-use Rattle.meetings.specs.Meetings.{side, parts, inside, sameEnds, meetsWrongly}
+use Rattle.segm.specs.Segments.{Drawing, segmentAt, nowhere}
+use Rattle.segm.proofs.Lists.{pairs-places, in-after}
+use Rattle.meetings.specs.Meetings.{side, parts, inside, sameEnds, meetsWrongly, NoneMeetWrongly}
 use Rattle.strip.specs.Strip.{reach, gap, under, falls}
 use Rattle.strip.proofs.Signs.{Sign, minus, nil, plus, sign, up-pos, up-neg, down-pos, down-neg, down-nil, neg-pos, neg-neg, neg-nil, diff-nil, join-both, join-l, join-r, join-nil, falls-minus, falls-plus, falls-nil, falls-true, falls-by, Falls, now, next}
 use Rattle.strip.proofs.Gap.{slope, gap-at-a, gap-at-b, gap-turn, gap-rate, gap-trans, gap-self, slope-turn, side-at-a, side-at-b, side-up, side-vertical}
@@ -324,3 +330,15 @@ module _ {j h : Segment} (k : Apart j h) (wh : Wide h) (e : j .b .x ≡ j .a .x)
       up (minus s) t = s
       up (nil s) t = absurd (k .b-on s (inl (omega ints), inl (omega ints)))
       up (plus s) t = absurd (k .rising t s left right)
+
+-- ---- two places of a drawing in which no two segments meet wrongly
+pub places-apart : (d : Drawing) → NoneMeetWrongly d → (i j : ℕ) → i < length d → j < length d → (i ≡ j → ⊥) → Apart (segmentAt d i) (segmentAt d j)
+unfolding segmentAt
+places-apart d p i j h k ne = go (decLt i j)
+  where
+    later : (i j : ℕ) → i < j → j < length d → Apart (segmentAt d i) (segmentAt d j)
+    later i j l k = apart (pairs-places (λ s t. meetsWrongly s t ≡ false) d nowhere p i (omega arith) (segmentAt d j) (in-after d nowhere i j l k))
+
+    go : Dec (i < j) → Apart (segmentAt d i) (segmentAt d j)
+    go (yes l) = later i j l k
+    go (no l) = turned (later j i (omega (arith, ne)) h)

@@ -1,23 +1,40 @@
--- The order just right of x is told by sides: the later of the two starts, seen from the other segment.
+-- The order just right of x is told by sides: the later of the two starts, seen from the other segment. Of two the one that is lower by sides is not the higher.
 use mathlib.Core.Path.{_≡_, sym, _∙_, ap, subst}
-use mathlib.Core.Logic.{_⊎_, inl, inr}
-use mathlib.Core.Bool.{Bool, false, cond}
+use mathlib.Core.Logic.{_⊎_, inl, inr, ⊎-elim}
+use mathlib.Core.Bool.{Bool, true, false, cond}
 use lib.IntN.{ℤ, pos, _+ℤ_}
 use lib.Signed.{ltZ, _≤ℤ_, _<ℤ_, ≤ℤ-refl}
-use Rattle.integers.proofs.Booleans.{is-false}
+use Rattle.integers.proofs.Booleans.{clash}
 use Rattle.integers.proofs.Linear.{ints, of-pos, of-+}
-use Rattle.integers.proofs.Order.{order, lt-ltZ, le-ltZ, lt-le}
+use Rattle.integers.proofs.Order.{order, ltZ-true, lt-ltZ, le-ltZ, lt-le}
 use Rattle.geom.specs.declared.Point.{Point}
-use Rattle.geom.specs.Points.{ltP}
-use Rattle.geom.proofs.Points.{Before, before, before-irrefl, before-trans, before-le, compare, ltP-true, ltP-irrefl}
+use Rattle.geom.proofs.Points.{Before, before, not-before, before-irrefl, before-trans, before-le, compare, ltP-irrefl}
 use Rattle.segm.specs.declared.Segment.{Segment}
 use Rattle.meetings.specs.Meetings.{side}
 use Rattle.strip.specs.Strip.{gap, above, under, clockwise, underBySide}
 use Rattle.strip.proofs.Signs.{Sign, minus, nil, plus, sign, up-pos, up-neg, up-nil, down-nil, neg-pos, neg-neg, neg-nil, same-sign, falls-nil}
-use Rattle.strip.proofs.Gap.{gap-at-a, gap-turn, side-own-a}
-use Rattle.strip.proofs.Apart.{Apart, turned, Wide, wide, Over, over-wide, no-rise, no-fall, not-met, under-left}
-use Rattle.strip.proofs.Above.{above-on, above-off, above-own-b, start-on, start-turn}
+use Rattle.strip.proofs.Gap.{gap-at-a, gap-turn, side-own-a, side-start}
+use Rattle.strip.proofs.Apart.{Apart, turned, Wide, wide, Over, over-wide, no-rise, no-fall, not-met, under-left, under-total}
+use Rattle.strip.proofs.Above.{above-on, above-off, above-yes, above-own-b, start-on, start-turn}
 
+-- ---- the cases of the order by sides
+module _ (j h : Segment) where
+  by-side-later-h : Before (j .a) (h .a) → underBySide j h ≡ above j (h .a)
+  unfolding underBySide
+  by-side-later-h b = rw (before b)
+
+  by-side-later-j : Before (h .a) (j .a) → underBySide j h ≡ ltZ (side h (j .a)) (pos 0)
+  unfolding underBySide
+  by-side-later-j b = rw (not-before (λ (c : Before (j .a) (h .a)). before-irrefl (before-trans b c)), before b)
+
+  by-side-together : j .a ≡ h .a → underBySide j h ≡ clockwise j h
+  unfolding underBySide
+  by-side-together e =
+      let p : Before (j .a) (h .a) → ⊥ = λ c. before-irrefl (subst (λ (p : Point). Before p (h .a)) e c) in
+      let q : Before (h .a) (j .a) → ⊥ = λ c. before-irrefl (subst (λ (p : Point). Before (h .a) p) e c) in
+      rw (not-before p, not-before q)
+
+-- ---- the two orders agree
 module _ {j h : Segment} (k : Apart j h) {x : ℤ} (oj : Over x j) (oh : Over x h) where
   wj : Wide j
   wj = over-wide oj
@@ -88,22 +105,27 @@ module _ {j h : Segment} (k : Apart j h) {x : ℤ} (oj : Over x j) (oh : Over x 
           subst (λ v. under v j h ≡ clockwise j h) q (falls-nil (gap j h y) z ∙ start-turn j wh z)
 
   pub under-by-side : under x j h ≡ underBySide j h
-  unfolding underBySide
   under-by-side = go (compare (j .a) (h .a))
     where
-      not-before : {p q : Point} → (Before p q → ⊥) → ltP p q ≡ false
-      not-before {p} {q} f = is-false (ltP p q) (λ e. f (ltP-true e))
-
-      go : Before (j .a) (h .a) ⊎ (Before (h .a) (j .a) ⊎ (j .a ≡ h .a)) → under x j h ≡ cond (ltP (j .a) (h .a)) (above j (h .a)) (cond (ltP (h .a) (j .a)) (ltZ (side h (j .a)) (pos 0)) (clockwise j h))
-      go (inl b) = later-h b ∙ ap (λ (t : Bool). cond t (above j (h .a)) (cond (ltP (h .a) (j .a)) (ltZ (side h (j .a)) (pos 0)) (clockwise j h))) (sym (before b))
-      go (inr (inl b)) =
-          later-j b ∙ ap (λ (t : Bool). cond t (ltZ (side h (j .a)) (pos 0)) (clockwise j h)) (sym (before b))
-          ∙ ap (λ (t : Bool). cond t (above j (h .a)) (cond (ltP (h .a) (j .a)) (ltZ (side h (j .a)) (pos 0)) (clockwise j h))) (sym (not-before (λ c. before-irrefl (before-trans b c))))
-      go (inr (inr e)) =
-          together e ∙ ap (λ (t : Bool). cond t (ltZ (side h (j .a)) (pos 0)) (clockwise j h)) (sym (not-before (λ c. before-irrefl (subst (λ (p : Point). Before (h .a) p) e c))))
-          ∙ ap (λ (t : Bool). cond t (above j (h .a)) (cond (ltP (h .a) (j .a)) (ltZ (side h (j .a)) (pos 0)) (clockwise j h))) (sym (not-before (λ c. before-irrefl (subst (λ (p : Point). Before p (h .a)) e c))))
+      go : Before (j .a) (h .a) ⊎ (Before (h .a) (j .a) ⊎ (j .a ≡ h .a)) → under x j h ≡ underBySide j h
+      go (inl b) = later-h b ∙ sym (by-side-later-h j h b)
+      go (inr (inl b)) = later-j b ∙ sym (by-side-later-j j h b)
+      go (inr (inr e)) = together e ∙ sym (by-side-together j h e)
 
 pub by-side-irrefl : (s : Segment) → underBySide s s ≡ false
 unfolding underBySide clockwise
 by-side-irrefl s =
     ap (λ (t : Bool). cond t (above s (s .a)) (cond t (ltZ (side s (s .a)) (pos 0)) (above s (s .b)))) (ltP-irrefl (s .a)) ∙ above-own-b s
+
+pub by-side-asym : (s t : Segment) → underBySide s t ≡ true → underBySide t s ≡ false
+unfolding clockwise
+by-side-asym s t u = go (compare (s .a) (t .a))
+  where
+    go : Before (s .a) (t .a) ⊎ (Before (t .a) (s .a) ⊎ (s .a ≡ t .a)) → underBySide t s ≡ false
+    go (inl b) = by-side-later-j t s b ∙ le-ltZ (lt-le (above-yes s (t .a) (sym (by-side-later-h s t b) ∙ u)))
+    go (inr (inl b)) = by-side-later-h t s b ∙ above-off t (s .a) (lt-le (ltZ-true (sym (by-side-later-j s t b) ∙ u)))
+    go (inr (inr e)) = by-side-together t s (sym e) ∙ above-off t (s .b) (lt-le (neg-neg (side-start s t e) (above-yes s (t .b) (sym (by-side-together s t e) ∙ u))))
+
+-- of two that span a strip, where the one is not lower the other is
+pub by-side-total : {s t : Segment} {x : ℤ} → Apart s t → Over x s → Over x t → underBySide s t ≡ false → underBySide t s ≡ true
+by-side-total k os ot e = ⊎-elim (λ u. absurd (clash (sym (under-by-side k os ot) ∙ u) e)) (λ u. sym (under-by-side (turned k) ot os) ∙ u) (under-total k os ot)

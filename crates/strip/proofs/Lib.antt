@@ -1,6 +1,7 @@
 pub mod Signs
 pub mod Gap
 pub mod Apart
+pub mod Vertical
 pub mod Above
 pub mod Visits
 pub mod Compare

@@ -16,13 +16,16 @@ use Rattle.geom.specs.Points.{eqP}
 use Rattle.geom.proofs.Points.{eqP-true}
 use Rattle.segm.specs.declared.Segment.{Segment}
 use Rattle.segm.specs.Segments.{Drawing, segmentAt}
+use Rattle.segm.proofs.Lists.{in-at}
 use Rattle.segm.proofs.Tallies.{cases}
 use Rattle.meetings.specs.Meetings.{side}
 use Rattle.strip.specs.Strip.{above}
 use Rattle.strip.proofs.Above.{above-yes}
 use Rattle.neighbours.specs.Neighbours.{Under, Above}
+use Rattle.scan.specs.declared.Sought.the-variants.{At}
+use Rattle.scan.specs.Scan.{isBelow, belowAt, Changes}
 use Rattle.verticals.specs.declared.Edge.{Edge}
-use Rattle.verticals.specs.Verticals.{endOf, liesUnder, liesAbove, CutIn}
+use Rattle.verticals.specs.Verticals.{endOf, liesUnder, liesAbove, CutAt, CutIn, ClearIn}
 
 -- ---- the tests
 module _ (edge : Edge) (p : Point) (t : Segment) where
@@ -34,20 +37,25 @@ module _ (edge : Edge) (p : Point) (t : Segment) where
   unfolding liesAbove
   above-true e = cases (λ h. inl (ltZ-true h)) (λ h. inr (eqP-true h)) (one-of (ltZ (side t p) (pos 0)) (eqP (endOf edge t) p) e)
 
--- v is cut at place k
-pub cut-at : (d : Drawing) (edge : Edge) (v : Segment) (l : List ℕ) (k : ℕ) → k ≤ length l
-    → (0 < k → liesUnder edge (v .a) (segmentAt d (getD l (k - 1) 0)) ≡ true)
-    → (k < length l → liesAbove edge (v .b) (segmentAt d (getD l k 0)) ≡ true)
-    → CutIn d edge v l
-cut-at d edge v l k h f g =
+-- where the tests at a place are passed, v stands in the gap there
+pub cut-at : (d : Drawing) (edge : Edge) (v : Segment) (l : List ℕ) (k : ℕ) → k ≤ length l → CutAt d edge v k l → CutIn d edge v l
+cut-at d edge v l k h c =
     record {
       place = k;
       inside = h;
       below = λ j e.
           let last : k - 1 ≡ j = omega arith in
-          under-true edge (v .a) (segmentAt d (getD l j 0)) (subst (λ (n : ℕ). liesUnder edge (v .a) (segmentAt d (getD l n 0)) ≡ true) last (f (omega arith)));
-      above = λ m. above-true edge (v .b) (segmentAt d (getD l k 0)) (g m);
+          under-true edge (v .a) (segmentAt d (getD l j 0)) (subst (λ (n : ℕ). liesUnder edge (v .a) (segmentAt d (getD l n 0)) ≡ true) last (c .under (omega arith)));
+      above = λ m. above-true edge (v .b) (segmentAt d (getD l k 0)) (c .over m);
     }
+
+-- where all are clear of v, they are passed at any place where the list changes from below to above v's head
+pub clear-cut : (d : Drawing) (edge : Edge) (v : Segment) (l : List ℕ) (k : ℕ) → Changes (belowAt d (At (v .b)) l) 0 (length l) k → ClearIn d edge v l → CutAt d edge v k l
+unfolding isBelow
+clear-cut d edge v l k c f = record {
+  under = λ h. f (getD l (k - 1) 0) (in-at l 0 (k - 1) (omega (arith, c .till))) .under (c .before h);
+  over = λ h. f (getD l k 0) (in-at l 0 k h) .over (c .after h);
+}
 
 -- ---- places: what holds from one up to i, and at i, holds up to i + 1
 pub one-more : (P : ℕ → Type 0) (from i : ℕ) → ((v : ℕ) → from ≤ v → v < i → P v) → P i → (v : ℕ) → from ≤ v → v < i + 1 → P v

@@ -1,17 +1,18 @@
 // The tests of vertical segments: beside the ordered list of the open ones, and among themselves. Every function here is proved, and the crate assumes nothing of its own.
-// The tests are sound: what is promised holds where they were passed.
+// Each promise has two halves: what holds where the tests were passed, and where they are: the list is clear of the vertical ones, and they stand on each other.
 use geom::Point;
 use scan::Sought;
 use segm::Segment;
 ghost use mathlib.Core.Path.{_≡_};
+ghost use mathlib.Core.Logic.{_↔_};
 ghost use mathlib.Core.Bool.{true};
-ghost use Prim.Native.Nat.{_≤_};
+ghost use Prim.Native.Nat.{_≤_, _<_};
 ghost use lib.ListN.{length};
 ghost use Rattle.geom.specs.Points.{inRange};
 ghost use Rattle.segm.specs.Segments.{segments, segmentAt};
 ghost use Rattle.meetings.specs.Meetings.{Proper};
 ghost use Rattle.neighbours.specs.Neighbours.{Ready, Known};
-ghost use Rattle.verticals.specs.Verticals.{endOf, liesUnder, liesAbove, CutIn, Cuts, Stacked};
+ghost use Rattle.verticals.specs.Verticals.{endOf, liesUnder, liesAbove, CutAt, CutIn, Cuts, Stacked, ClearIn, Clears};
 
 // Which ends of the list's segments may touch a vertical one: before those that end there have left, their ends b; after those that start there have come, their starts a.
 pub enum Edge {
@@ -62,7 +63,8 @@ struct Gap {
 // Where the vertical segment v stands in a gap of the list, if it does; near the place of the one below it.
 fn gap_of(s: &[i32], edge: Edge, v: Segment, list: &[u32], near: usize) -> Gap
     requires { ⌜ Ready (segments (now s)) × Proper v × Known (segments (now s)) (now list) ⌝ }
-    ensures { λ r. ⌜ (r .clear ≡ true → CutIn (segments (now (s .entry))) edge v (now (list .entry))) ⌝ }
+    ensures { λ r. ⌜ (r .clear ≡ true → CutIn (segments (now (s .entry))) edge v (now (list .entry)))
+        × (ClearIn (segments (now (s .entry))) edge v (now (list .entry)) → r .clear ≡ true) ⌝ }
 {
     let b = v.b;
     let k = scan::place_near(s, list, near, Sought::At(b));
@@ -75,7 +77,7 @@ fn gap_of(s: &[i32], edge: Edge, v: Segment, list: &[u32], near: usize) -> Gap
 // Whether the one before place k of the list lies under v, and the one at place k above it.
 fn is_cut(s: &[i32], edge: Edge, v: Segment, list: &[u32], k: usize) -> bool
     requires { ⌜ Ready (segments (now s)) × Proper v × Known (segments (now s)) (now list) × (k ≤ length (now list)) ⌝ }
-    ensures { λ r. ⌜ (r ≡ true → CutIn (segments (now (s .entry))) edge v (now (list .entry))) ⌝ }
+    ensures { λ r. ⌜ (r ≡ true) ↔ CutAt (segments (now (s .entry))) edge v k (now (list .entry)) ⌝ }
 {
     let a = v.a;
     let b = v.b;
@@ -93,7 +95,8 @@ fn is_cut(s: &[i32], edge: Edge, v: Segment, list: &[u32], k: usize) -> bool
 // Whether every vertical segment from one place up to another stands in a gap of the list, the first one's sought near a guess.
 pub fn are_cut(s: &[i32], edge: Edge, from: usize, to: usize, list: &[u32], guess: usize) -> bool
     requires { ⌜ Ready (segments (now s)) × (to ≤ length (segments (now s))) × Known (segments (now s)) (now list) ⌝ }
-    ensures { λ r. ⌜ (r ≡ true → Cuts (segments (now (s .entry))) edge from to (now (list .entry))) ⌝ }
+    ensures { λ r. ⌜ (r ≡ true → Cuts (segments (now (s .entry))) edge from to (now (list .entry)))
+        × (Clears (segments (now (s .entry))) edge from to (now (list .entry)) → r ≡ true) ⌝ }
 {
     let mut near = guess;
     let mut i = from;
@@ -114,7 +117,7 @@ pub fn are_cut(s: &[i32], edge: Edge, from: usize, to: usize, list: &[u32], gues
 // Whether each vertical segment from one place up to another starts no lower than those before it end.
 pub fn are_stacked(s: &[i32], from: usize, to: usize) -> bool
     requires { ⌜ Ready (segments (now s)) × (to ≤ length (segments (now s))) ⌝ }
-    ensures { λ r. ⌜ (r ≡ true → Stacked (segments (now (s .entry))) from to) ⌝ }
+    ensures { λ r. ⌜ (r ≡ true) ↔ Stacked (segments (now (s .entry))) from to ⌝ }
 {
     let mut top: i32 = -2147483648;
     let mut i = from;

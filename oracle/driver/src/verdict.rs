@@ -1,4 +1,4 @@
-//! The check by itself beside the prose, and what cleared an accepted drawing of wrong meetings.
+//! The check by itself beside the prose, and whether the sweep cleared an accepted drawing of wrong meetings.
 
 use crate::case::{Case, Difference};
 use crate::choices::Choices;
@@ -6,8 +6,7 @@ use crate::measure::{self, Verdict, BY_SEARCH, BY_SWEEP};
 use crate::tally::Tally;
 use std::fmt::Debug;
 
-/// Every drawing has the verdict of the prose. An accepted one has it by the sweep: the search over pairs is slow, and
-/// for drawings that are refused.
+/// Every drawing has the verdict of the prose. An accepted one has it by the sweep, as is proved: here of the compiled code.
 pub fn compare(case: &Case, tally: &mut Tally) -> Result<(), Difference> {
     same(case, "measure_check", Verdict::from(case.checked.refused), measure::check(case.numbers))?;
     if !case.is_accepted() {

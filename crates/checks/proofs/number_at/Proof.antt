@@ -20,7 +20,7 @@ enum-told-2 c = search needs
 meeting-at-requires : tie.Need-meeting-at-requires
 meeting-at-requires c κs =
     let s = c .before .before in
-    (subst (λ (x : Search). Ready x (segments (s .args .s .now))) (c .enum-told2 .given .1) (s .pre .0), s .pre .1)
+    (subst (λ (x : Search). Ready x (segments (s .args .s .now))) (c .enum-told2 .given .1) (s .pre .0) .0, s .pre .1)
 
 -- a search that is known
 module _ (s : tie.Start) (x : Search) (e : s .args .search ≡ x) where

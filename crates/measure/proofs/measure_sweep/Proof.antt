@@ -1,14 +1,11 @@
 -- The verdict decides the arm, and an accepted drawing is good. Assumes nothing.
 use borrow.Author.Needs.{needs}
-use mathlib.Core.Path.{_≡_, refl, sym, subst, _∙_}
-use mathlib.Core.Bool.{Bool, true, false}
-use native.Mathlib.Omega.{arith}
-use Prim.Native.Nat.{ℕ, _≤_}
+use mathlib.Core.Path.{_≡_, sym, ap, _∙_}
 use mir.Val.{boolByte}
 use Rattle.checks.specs.declared.Verdict.{Verdict}
 use Rattle.checks.specs.Runs.{clipRun}
 use Rattle.checks.proofs.Good.{verdict-good}
-use Rattle.measure.specs.Numbers.{verdictOf, Told}
+use Rattle.measure.specs.Numbers.{verdictOf, sweepNumber}
 use Rattle.measure.proofs.measure_sweep.Statement.{statement}
 use Rattle.measure.proofs.measure_sweep.Tie as tie
 
@@ -26,8 +23,8 @@ module _ (c : tie.After-verdict-of) {v : Verdict} (e : c .verdict-of .result ≡
   verdict-is : verdictOf (c .before .args .segments .now) ≡ v
   verdict-is = sym (c .verdict-of .ensures) ∙ e
 
-  told : (r : ℕ) → Told v r → Told (verdictOf (c .before .args .segments .now)) r
-  told r t = subst (λ (w : Verdict). Told w r) (sym verdict-is) t
+  number-is : sweepNumber v ≡ sweepNumber (verdictOf (c .before .args .segments .now))
+  number-is = ap sweepNumber (sym verdict-is)
 
 is-swept-requires : tie.Need-is-swept-requires
 unfolding clipRun
@@ -36,15 +33,11 @@ is-swept-requires c κs = verdict-good _ (verdict-is (c .before .before) (c .enu
 cast-result : tie.Need-cast-result
 cast-result c = search needs
 
-at-most-one : (b : Bool) → boolByte b ≤ 1
-at-most-one false = omega arith
-at-most-one true = omega arith
-
 returns : tie.Need-returns
-returns c = let k = c .before in told (k .before .before) (k .enum-told .given .1) _ (at-most-one (c .is-swept .result))
+returns c = let k = c .before in ap boolByte (c .is-swept .ensures) ∙ number-is (k .before .before) (k .enum-told .given .1)
 
 returns-2 : tie.Need-returns-2
-returns-2 c = told (c .before .before) (c .enum-told2 .given .1) 2 refl
+returns-2 c = number-is (c .before .before) (c .enum-told2 .given .1)
 
 pub measure-sweep-spec : {M : Type 1} → statement M
 measure-sweep-spec =

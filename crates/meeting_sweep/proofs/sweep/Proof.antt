@@ -1,6 +1,6 @@
 -- From event to event. Assumes nothing.
 use borrow.Author.Needs.{needs}
-use borrow.Author.Tests.{not-false}
+use borrow.Author.Tests.{not-false, not-true}
 use mathlib.Core.Path.{_≡_, refl}
 use mathlib.Core.List.{List}
 use native.Mathlib.Omega.{arith}
@@ -12,6 +12,7 @@ use Rattle.segm.proofs.Lists.{in-take, in-drop}
 use Rattle.graph.proofs.Flat.{Ordered, ordered}
 use Rattle.meeting_sweep.proofs.Runs.{past-further}
 use Rattle.meeting_sweep.proofs.Sweeping.{Along, along-first, along-next, along-known, along-distinct, along-last}
+use Rattle.meeting_sweep.proofs.ClearEvent.{clear-event}
 use Rattle.meeting_sweep.proofs.sweep.Statement.{statement}
 use Rattle.meeting_sweep.proofs.sweep.Tie as tie
 
@@ -85,7 +86,14 @@ same-length : tie.Need-same-length Inv-loop μ-loop
 same-length c = search needs
 
 returns : tie.Need-returns Inv-loop μ-loop
-returns c t = absurd (clash t refl)
+returns c =
+    let l = c .before .before .before .before .before .before .before .before .before .before .before .loop in
+    let s = c .before .before .before .before .before .before .before .before .before .before .before .before .before .before in
+    let past = c .before .before .before .before .before .before .before .before .before .ends-past .ensures in
+    let starts = c .before .before .before .before .before .before .before .starts-past .ensures in (
+      (λ t. absurd (clash t refl)),
+      (λ apart. absurd (clash (c .before .before .before .before .event .ensures .1 (clear-event (segments (s .args .s .now)) (s .args .flat .now) (s .pre .0) (ends s) apart (l .inv .along) (omega arith) past starts)) (not-true _ (c .if1 .taken)))),
+    )
 
 loop-less : tie.Need-loop-less Inv-loop μ-loop
 loop-less c =
@@ -99,7 +107,7 @@ loop-again c =
     let d = segments (s .args .s .now) in
     let past = c .before .before .before .before .before .before .before .before .before .ends-past .ensures in
     let starts = c .before .before .before .before .before .before .before .starts-past .ensures in
-    let happened = c .before .before .before .before .event .ensures (not-false _ (c .if1 .left)) in
+    let happened = c .before .before .before .before .event .ensures .0 (not-false _ (c .if1 .left)) in
     record {
       room = omega (arith, l .inv .room, c .before .before .before .before .event .kept);
       within = starts .till;
@@ -111,9 +119,9 @@ same-length-2 : tie.Need-same-length-2 Inv-loop μ-loop
 same-length-2 c = search needs
 
 returns-2 : tie.Need-returns-2 Inv-loop μ-loop
-returns-2 c t =
+returns-2 c =
     let s = c .before .before .before .before in
-    along-last (segments (s .args .s .now)) (s .args .flat .now) (s .pre .0) (ends s) (c .before .loop .inv .along) (omega arith)
+    (λ t. along-last (segments (s .args .s .now)) (s .args .flat .now) (s .pre .0) (ends s) (c .before .loop .inv .along) (omega arith), λ apart. refl)
 
 pub sweep-spec : {M : Type 1} → statement M
 sweep-spec =

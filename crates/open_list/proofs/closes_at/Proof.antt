@@ -1,23 +1,23 @@
 -- At either end of the list nothing is asked; between, the test of neighbours. Assumes nothing.
 use borrow.Author.Needs.{needs}
-use mathlib.Core.Path.{_≡_, sym, ap₂, subst, _∙_}
+use mathlib.Core.Path.{_≡_, refl, sym, ap₂, subst, _∙_}
 use native.Mathlib.Omega.{arith}
 use Prim.Native.Nat.{ℕ, suc, _-_, _+_}
 use lib.ListN.{getD}
 use Rattle.segm.specs.Segments.{segments, segmentAt}
 use Rattle.strip.specs.Strip.{Next}
-use Rattle.open_list.proofs.Laws.{follows-next, known-proper}
+use Rattle.open_list.proofs.Laws.{known-proper}
 use Rattle.open_list.proofs.closes_at.Statement.{statement}
 use Rattle.open_list.proofs.closes_at.Tie as tie
 
 returns : tie.Need-returns
-returns c t j e h = absurd (omega arith)
+returns c = (λ t j e h. absurd (omega arith), λ f. refl)
 
 add-if2 : tie.Need-add-if2
 add-if2 c = search needs
 
 returns-2 : tie.Need-returns-2
-returns-2 c t j e h = absurd (omega arith)
+returns-2 c = (λ t j e h. absurd (omega arith), λ f. refl)
 
 sub-is-next : tie.Need-sub-is-next
 sub-is-next c = search needs
@@ -43,15 +43,15 @@ is-next-requires c κs =
     (known-proper (s .args .list .now) (s .pre .0) (s .pre .1) (s .args .k - 1) (omega arith), known-proper (s .args .list .now) (s .pre .0) (s .pre .1) (s .args .k + 1) (omega arith))
 
 returns-3 : tie.Need-returns-3
-returns-3 c t j e h =
+returns-3 c =
     let s = c .before .before .before .before .before .before in
     let d = segments (s .args .s .now) in
     let l = s .args .list .now in
-    let low : s .args .k - 1 ≡ j = omega arith in
     let high : s .args .k + 1 ≡ suc (s .args .k) = omega arith in
-    subst (λ (m : ℕ). Next (segmentAt d (getD l j 0)) (segmentAt d (getD l m 0))) high
-    (subst (λ (m : ℕ). Next (segmentAt d (getD l m 0)) (segmentAt d (getD l (s .args .k + 1) 0))) low
-    (follows-next _ _ (sym (c .is-next .ensures) ∙ t)))
+    let two : ℕ → ℕ → Type 0 = λ m n. Next (segmentAt d (getD l m 0)) (segmentAt d (getD l n 0)) in (
+      (λ t j e h. let low : s .args .k - 1 ≡ j = omega arith in subst (two j) high (subst (λ (m : ℕ). two m (s .args .k + 1)) low (c .is-next .ensures .0 t))),
+      (λ f. c .is-next .ensures .1 (subst (two (s .args .k - 1)) (sym high) (f (s .args .k - 1) (omega arith) (omega arith)))),
+    )
 
 pub closes-at-spec : {M : Type 1} → statement M
 closes-at-spec =

@@ -1,7 +1,7 @@
 -- As many segments as were passed have entered the list. Assumes nothing.
 use borrow.Author.Needs.{needs}
-use borrow.Author.Tests.{not-false}
-use mathlib.Core.Path.{_≡_, subst}
+use borrow.Author.Tests.{not-false, not-true}
+use mathlib.Core.Path.{_≡_, refl, subst}
 use mathlib.Core.List.{List}
 use native.Mathlib.Omega.{arith}
 use Prim.Native.Nat.{ℕ, _-_, _≤_}
@@ -10,6 +10,7 @@ use Rattle.integers.proofs.Booleans.{clash}
 use Rattle.segm.specs.Segments.{Drawing, segments}
 use Rattle.open_list.specs.OpenList.{Entered}
 use Rattle.open_list.proofs.Laws.{none-entered, entered-more, entered-known}
+use Rattle.open_list.proofs.Spanning.{entering-next}
 use Rattle.open_list.proofs.enter_all.Statement.{statement}
 use Rattle.open_list.proofs.enter_all.Tie as tie
 
@@ -44,7 +45,12 @@ same-length : tie.Need-same-length Inv-loop μ-loop
 same-length c = search needs
 
 returns : tie.Need-returns Inv-loop μ-loop
-returns c t = absurd (clash t (c .unclear .ensures))
+returns c =
+    let l = c .before .before .before .before .before .before .before .before .loop in
+    let s = c .before .before .before .before .before .before .before .before .before .before in
+    let one = c .before .before .before .before .before .enter-one in
+    let next = entering-next (segments (s .args .s .now)) (s .args .from) (l .i) (s .args .to) (take (s .args .count) (s .args .list .now)) (take (l .held) (l .list)) (l .inv .since) (omega arith) in
+    (λ t. absurd (clash t (c .unclear .ensures)), λ w. absurd (clash (one .ensures .1 (next w (l .inv .entered))) (not-true _ (c .before .if1 .taken))))
 
 first-place-requires : tie.Need-first-place-requires Inv-loop μ-loop
 first-place-requires c κs = search needs
@@ -59,7 +65,7 @@ loop-again : tie.Need-loop-again Inv-loop μ-loop
 loop-again c =
     let l = c .before .before .before .before .before .before .before .before .loop in
     let one = c .before .before .before .before .before .enter-one in
-    let r = one .ensures (not-false _ (c .before .if1 .left)) in
+    let r = one .ensures .0 (not-false _ (c .before .if1 .left)) in
     record {
       since = omega (arith, l .inv .since);
       until = omega arith;
@@ -72,11 +78,11 @@ same-length-2 : tie.Need-same-length-2 Inv-loop μ-loop
 same-length-2 c = search needs
 
 returns-2 : tie.Need-returns-2 Inv-loop μ-loop
-returns-2 c t =
+returns-2 c =
     let l = c .before .loop in
     let s = c .before .before .before in
     let there : l .i ≡ s .args .to = omega (arith, l .inv .until) in
-    (omega (arith, l .inv .fewer), subst (λ (i : ℕ). Entered (segments (s .args .s .now)) (s .args .from) i (take (s .args .count) (s .args .list .now)) (take (l .held) (l .list))) there (l .inv .entered))
+    (λ t. (omega (arith, l .inv .fewer), subst (λ (i : ℕ). Entered (segments (s .args .s .now)) (s .args .from) i (take (s .args .count) (s .args .list .now)) (take (l .held) (l .list))) there (l .inv .entered)), λ w. refl)
 
 pub enter-all-spec : {M : Type 1} → statement M
 enter-all-spec =

@@ -1,7 +1,7 @@
 -- A vertical segment does not enter; another one goes to a place where it may stand. Assumes nothing.
 use borrow.Author.Needs.{needs}
-use borrow.Author.Tests.{not-false}
-use mathlib.Core.Path.{_≡_, sym, ap, subst, _∙_}
+use borrow.Author.Tests.{not-false, not-true}
+use mathlib.Core.Path.{_≡_, refl, sym, ap, subst, _∙_}
 use mathlib.Core.Bool.{false}
 use native.Mathlib.Omega.{arith}
 use Prim.Native.Nat.{ℕ, _+_, _≤_}
@@ -9,10 +9,10 @@ use lib.ListN.{take}
 use lib.Seq.{length-take-le}
 use Rattle.integers.proofs.Booleans.{clash}
 use Rattle.segm.specs.Segments.{segments, segmentAt}
-use Rattle.meetings.specs.Meetings.{Proper}
 use Rattle.strip.specs.Strip.{isVertical}
 use Rattle.open_list.specs.OpenList.{FitsAt, Entered}
 use Rattle.open_list.proofs.Laws.{none-enters, one-enters, put-into}
+use Rattle.open_list.proofs.Spanning.{spanning-with}
 use Rattle.open_list.proofs.enter_one.Statement.{statement}
 use Rattle.open_list.proofs.enter_one.Tie as tie
 
@@ -23,9 +23,9 @@ is-vertical-requires : tie.Need-is-vertical-requires
 is-vertical-requires c κs = search needs
 
 returns : tie.Need-returns
-returns c t =
+returns c =
     let s = c .before .before .before .before in
-    (omega arith, none-enters (s .args .i) (s .pre .4) (ap isVertical (sym (c .before .before .segment-at .ensures)) ∙ sym (c .before .is-vertical .ensures) ∙ c .if1 .taken))
+    (λ t. (omega arith, none-enters (s .args .i) (s .pre .4) (ap isVertical (sym (c .before .before .segment-at .ensures)) ∙ sym (c .before .is-vertical .ensures) ∙ c .if1 .taken)), λ w. refl)
 
 cast-place-to-enter : tie.Need-cast-place-to-enter
 cast-place-to-enter c = search needs
@@ -39,7 +39,7 @@ slice-aggregate-place-to-enter c = let s = c .before .before .before .before .be
 place-to-enter-requires : tie.Need-place-to-enter-requires
 place-to-enter-requires c κs =
     let s = c .before .before .before .before .before in
-    (s .pre .0, subst Proper (sym (c .before .before .before .segment-at .ensures)) (s .pre .0 .proper (s .args .i) (s .pre .1)), s .pre .3, s .pre .1)
+    (s .pre .0, c .before .before .before .segment-at .ensures, s .pre .3, s .pre .1)
 
 -- the place that was found
 module _ (c : tie.Else2) where
@@ -50,7 +50,7 @@ module _ (c : tie.Else2) where
   k = c .before .before .place-to-enter .result .at
 
   fits : FitsAt (segments (start .args .s .now)) k (start .args .i) (take (start .args .count) (start .args .list .now))
-  fits = c .before .before .place-to-enter .ensures (not-false _ (c .if2 .left))
+  fits = c .before .before .place-to-enter .ensures .0 (not-false _ (c .if2 .left))
 
   within : k ≤ start .args .count
   within = omega (arith, fits .inside, length-take-le (start .args .count) (start .args .list .now) (omega (arith, start .pre .2)))
@@ -62,7 +62,12 @@ same-length : tie.Need-same-length
 same-length c = search needs
 
 returns-2 : tie.Need-returns-2
-returns-2 c t = absurd (clash t (c .unclear .ensures))
+returns-2 c =
+    let s = c .before .before .before .before .before .before .before .before .before in
+    let slanted = ap isVertical (sym (c .before .before .before .before .before .before .before .segment-at .ensures)) ∙ sym (c .before .before .before .before .before .before .is-vertical .ensures) ∙ c .before .before .before .before .before .if1 .left in (
+      (λ t. absurd (clash t (c .unclear .ensures))),
+      (λ w. absurd (clash (c .before .before .before .place-to-enter .ensures .1 (w .x) (spanning-with (w .spanning) (s .args .i) (w .starting (s .args .i) (omega arith) (omega arith) slanted)) (λ m. let h = w .earlier (s .args .i) m in omega arith)) (not-true _ (c .before .if2 .taken)))),
+    )
 
 cast-insert : tie.Need-cast-insert
 cast-insert c = search needs
@@ -80,15 +85,18 @@ same-length-2 : tie.Need-same-length-2
 same-length-2 c = search needs
 
 returns-3 : tie.Need-returns-3
-returns-3 c t =
+returns-3 c =
     let e = c .before .before .before .before in
     let s = start e in
     let d = segments (s .args .s .now) in
     let old = s .args .list .now in
     let slanted : isVertical (segmentAt d (s .args .i)) ≡ false = ap isVertical (sym (c .before .before .before .before .before .before .before .before .before .before .segment-at .ensures)) ∙ sym (c .before .before .before .before .before .before .before .before .before .is-vertical .ensures) ∙ c .before .before .before .before .before .before .before .before .if1 .left in (
-      omega arith,
-      subst (Entered d (s .args .i) (s .args .i + 1) (take (s .args .count) old)) (sym (put-into old (c .before .before .insert .last .0) (s .args .count) (k e) (s .args .i) (s .pre .2) (c .before .before .insert .ensures)))
-          (one-enters (k e) (s .args .i) (s .pre .4) slanted (fits e)),
+      (λ t. (
+        omega arith,
+        subst (Entered d (s .args .i) (s .args .i + 1) (take (s .args .count) old)) (sym (put-into old (c .before .before .insert .last .0) (s .args .count) (k e) (s .args .i) (s .pre .2) (c .before .before .insert .ensures)))
+            (one-enters (k e) (s .args .i) (s .pre .4) slanted (fits e)),
+      )),
+      (λ w. refl),
     )
 
 pub enter-one-spec : {M : Type 1} → statement M

@@ -1,7 +1,7 @@
 -- As many ends as were passed are gone from the list. Assumes nothing.
 use borrow.Author.Needs.{needs}
-use borrow.Author.Tests.{not-false}
-use mathlib.Core.Path.{_≡_, sym, ap, subst, _∙_}
+use borrow.Author.Tests.{not-false, not-true}
+use mathlib.Core.Path.{_≡_, refl, sym, ap, subst, _∙_}
 use mathlib.Core.List.{List}
 use native.Mathlib.Omega.{arith}
 use native.Mathlib.Numerals.{add-one}
@@ -13,6 +13,7 @@ use Rattle.segm.specs.Segments.{Drawing, segments}
 use Rattle.segm.proofs.Lists.{in-at}
 use Rattle.open_list.specs.OpenList.{Left}
 use Rattle.open_list.proofs.Laws.{none-left, left-more, left-known}
+use Rattle.open_list.proofs.Spanning.{leaving-next}
 use Rattle.open_list.proofs.leave_all.Statement.{statement}
 use Rattle.open_list.proofs.leave_all.Tie as tie
 
@@ -52,7 +53,12 @@ same-length : tie.Need-same-length Inv-loop μ-loop
 same-length c = search needs
 
 returns : tie.Need-returns Inv-loop μ-loop
-returns c t = absurd (clash t (c .unclear .ensures))
+returns c =
+    let l = c .before .before .before .before .before .before .before .before .before .loop in
+    let s = c .before .before .before .before .before .before .before .before .before .before .before .before in
+    let one = c .before .before .before .before .before .leave-one in
+    let next = leaving-next (segments (s .args .s .now)) (s .args .ends .now) (take (s .args .count) (s .args .list .now)) (take (l .held) (l .list)) (l .k) (omega arith) in
+    (λ t. absurd (clash t (c .unclear .ensures)), λ w. absurd (clash (one .ensures .1 (next w (l .inv .left))) (not-true _ (c .before .if1 .taken))))
 
 first-place-requires : tie.Need-first-place-requires Inv-loop μ-loop
 first-place-requires c κs = search needs
@@ -69,7 +75,7 @@ loop-again c =
     let s = c .before .before .before .before .before .before .before .before .before .before .before .before in
     let one = c .before .before .before .before .before .leave-one in
     let ends = s .args .ends .now in
-    let r = one .ensures (not-false _ (c .before .if1 .left)) in
+    let r = one .ensures .0 (not-false _ (c .before .if1 .left)) in
     let h : l .k < length ends = omega arith in
     record {
       until = omega arith;
@@ -83,11 +89,11 @@ same-length-2 : tie.Need-same-length-2 Inv-loop μ-loop
 same-length-2 c = search needs
 
 returns-2 : tie.Need-returns-2 Inv-loop μ-loop
-returns-2 c t =
+returns-2 c =
     let l = c .before .loop in
     let s = c .before .before .before .before in
     let ends = s .args .ends .now in
-    (l .inv .fewer, subst (λ (a : List ℕ). Left (segments (s .args .s .now)) a (take (s .args .count) (s .args .list .now)) (take (l .held) (l .list))) (take-all (l .k) ends (omega arith)) (l .inv .left))
+    (λ t. (l .inv .fewer, subst (λ (a : List ℕ). Left (segments (s .args .s .now)) a (take (s .args .count) (s .args .list .now)) (take (l .held) (l .list))) (take-all (l .k) ends (omega arith)) (l .inv .left)), λ w. refl)
 
 pub leave-all-spec : {M : Type 1} → statement M
 leave-all-spec =

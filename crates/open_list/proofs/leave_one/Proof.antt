@@ -1,8 +1,9 @@
 -- At a start and at the end of a vertical segment nothing leaves; at another end its segment is taken out. Assumes nothing.
 use borrow.Author.Needs.{needs}
-use mathlib.Core.Path.{_≡_, sym, ap, subst, _∙_}
+use mathlib.Core.Path.{_≡_, refl, sym, ap, subst, _∙_}
 use mathlib.Core.List.{List, [], _∷_}
-use mathlib.Core.Bool.{true}
+use mathlib.Core.Logic.{inl}
+use mathlib.Core.Bool.{true, false}
 use native.Mathlib.Omega.{arith}
 use Prim.Native.Nat.{ℕ, _+_, _-_}
 use lib.ListN.{length, take}
@@ -20,9 +21,9 @@ count-requires : tie.Need-count-requires
 count-requires c κs = search needs
 
 returns : tie.Need-returns
-returns c t =
+returns c =
     let s = c .before .before .before in
-    (omega arith, none-leaves (s .args .e) (s .pre .4) (s .pre .5) (λ i q v. omega (arith, c .if1 .taken, c .before .count .ensures, length-segments (s .args .s .now))))
+    (λ t. (omega arith, none-leaves (s .args .e) (s .pre .4) (s .pre .5) (λ i q v. omega (arith, c .if1 .taken, c .before .count .ensures, length-segments (s .args .s .now)))), λ w. refl)
 
 segment-at-requires : tie.Need-segment-at-requires
 segment-at-requires c κs = search needs
@@ -31,14 +32,14 @@ is-vertical-requires : tie.Need-is-vertical-requires
 is-vertical-requires c κs = search needs
 
 returns-2 : tie.Need-returns-2
-returns-2 c t =
+returns-2 c =
     let s = c .before .before .before .before .before .before in
     let d = segments (s .args .s .now) in
     let n = c .before .before .before .before .count .result in
     let many : n ≡ length d = c .before .before .before .before .count .ensures ∙ sym (length-segments (s .args .s .now)) in
     let upright : isVertical (segmentAt d (s .args .e - n)) ≡ true =
     ap isVertical (sym (c .before .before .segment-at .ensures)) ∙ sym (c .before .is-vertical .ensures) ∙ c .if2 .taken in
-    (omega arith, none-leaves (s .args .e) (s .pre .4) (s .pre .5) (λ i q v. let same : i ≡ s .args .e - n = omega arith in clash (ap (λ (z : ℕ). isVertical (segmentAt d z)) same ∙ upright) v))
+    (λ t. (omega arith, none-leaves (s .args .e) (s .pre .4) (s .pre .5) (λ i q v. let same : i ≡ s .args .e - n = omega arith in clash (ap (λ (z : ℕ). isVertical (segmentAt d z)) same ∙ upright) v)), λ w. refl)
 
 take-out-requires : tie.Need-take-out-requires
 take-out-requires c κs =
@@ -49,14 +50,16 @@ same-length : tie.Need-same-length
 same-length c = search needs
 
 returns-3 : tie.Need-returns-3
-returns-3 c t =
+returns-3 c =
     let s = c .before .before .before .before .before .before .before .before .before .before in
     let d = segments (s .args .s .now) in
     let n = c .before .before .before .before .before .before .before .before .count .result in
     let many : n ≡ length d = c .before .before .before .before .before .before .before .before .count .ensures ∙ sym (length-segments (s .args .s .now)) in
     let there : length d + (s .args .e - n) ≡ s .args .e = omega (arith, c .before .before .before .before .before .before .before .if1 .left) in
-    let r = c .before .before .take-out .ensures t in
-    (r .0, subst (λ (e : ℕ). Left d (e ∷ []) (take (s .args .count) (s .args .list .now)) (take (c .before .before .take-out .result .count) (c .before .before .take-out .last .1 .1 .1 .0))) there (r .1))
+    let slanted : isVertical (segmentAt d (s .args .e - n)) ≡ false =
+    ap isVertical (sym (c .before .before .before .before .before .before .segment-at .ensures)) ∙ sym (c .before .before .before .before .before .is-vertical .ensures) ∙ c .before .before .before .before .if2 .left in
+    let r = c .before .before .take-out .ensures in
+    (λ t. (r .0 t .0, subst (λ (e : ℕ). Left d (e ∷ []) (take (s .args .count) (s .args .list .now)) (take (c .before .before .take-out .result .count) (c .before .before .take-out .last .1 .1 .1 .0))) there (r .0 t .1)), λ w. r .1 (w .x) (w .spanning) (w .inside (s .args .e - n) (inl there) slanted))
 
 pub leave-one-spec : {M : Type 1} → statement M
 leave-one-spec =

@@ -1,5 +1,13 @@
 -- What was tested of the place. Assumes nothing.
 use borrow.Author.Needs.{needs}
+use mathlib.Core.Path.{refl, sym, subst}
+use lib.ListN.{length}
+use Rattle.segm.specs.declared.Segment.{Segment}
+use Rattle.segm.specs.Segments.{segments}
+use Rattle.meetings.specs.Meetings.{Proper}
+use Rattle.scan.specs.declared.Sought.the-variants.{Along}
+use Rattle.scan.specs.Scan.{belowAt, Changes}
+use Rattle.open_list.proofs.Spanning.{fits}
 use Rattle.open_list.proofs.place_to_enter.Statement.{statement}
 use Rattle.open_list.proofs.place_to_enter.Tie as tie
 
@@ -7,16 +15,22 @@ fits-at-requires : tie.Need-fits-at-requires
 fits-at-requires c κs = search needs
 
 returns : tie.Need-returns
-returns c t = c .before .fits-at .ensures (c .if2 .taken)
+returns c = (λ t. c .before .fits-at .ensures .0 (c .if2 .taken), λ x w n. refl)
 
 place-near-requires : tie.Need-place-near-requires
-place-near-requires c κs = let p = c .before .before .pre in (λ i m. p .0 .proper i (p .2 i m), p .1)
+place-near-requires c κs = let s = c .before .before in (λ i m. s .pre .0 .proper i (s .pre .2 i m), subst Proper (sym (s .pre .1)) (s .pre .0 .proper (s .args .i) (s .pre .3)))
 
 fits-at-requires-2 : tie.Need-fits-at-requires-2
-fits-at-requires-2 c κs = search needs
+fits-at-requires-2 c κs = let s = c .before .before .before in (s .pre .0, s .pre .2, s .pre .3, c .place-near .ensures .till)
 
 returns-2 : tie.Need-returns-2
-returns-2 c = search needs
+returns-2 c =
+    let s = c .before .before .before .before in
+    let d = segments (s .args .s .now) in
+    let l = s .args .list .now in
+    let place = c .before .place-near in
+    let changes = subst (λ (t : Segment). Changes (belowAt d (Along t) l) 0 (length l) (place .result)) (s .pre .1) (place .ensures) in
+    (c .fits-at2 .ensures .0, λ x w n. c .fits-at2 .ensures .1 (fits d l (s .pre .2) (s .args .i) (place .result) (s .pre .3) n w changes))
 
 pub place-to-enter-spec : {M : Type 1} → statement M
 place-to-enter-spec =

@@ -1,6 +1,14 @@
--- Within the list. Assumes nothing.
+-- The place by search is the segment's own, if it is in a list that spans one strip. Assumes nothing.
 use borrow.Author.Needs.{needs}
+use mathlib.Core.Path.{sym, subst}
 use native.Mathlib.Omega.{arith}
+use lib.ListN.{length}
+use Rattle.segm.specs.declared.Segment.{Segment}
+use Rattle.segm.specs.Segments.{segments}
+use Rattle.meetings.specs.Meetings.{Proper}
+use Rattle.scan.specs.declared.Sought.the-variants.{Along}
+use Rattle.scan.specs.Scan.{belowAt, Changes}
+use Rattle.open_list.proofs.Spanning.{found}
 use Rattle.open_list.proofs.place_to_leave.Statement.{statement}
 use Rattle.open_list.proofs.place_to_leave.Tie as tie
 
@@ -14,13 +22,18 @@ cast-if2 : tie.Need-cast-if2
 cast-if2 c = omega (arith, c .shared-slice-known2 .given (c .before .before .before .args .near))
 
 returns : tie.Need-returns
-returns c = search needs
+returns c x w m = (omega arith, omega (arith, c .if2 .taken))
 
 place-near-requires : tie.Need-place-near-requires
-place-near-requires c κs = let p = c .before .before .pre in (λ i m. p .0 .proper i (p .2 i m), p .1)
+place-near-requires c κs = let s = c .before .before in (λ i m. s .pre .0 .proper i (s .pre .3 i m), subst Proper (sym (s .pre .1)) (s .pre .0 .proper (s .args .i) (s .pre .2)))
 
 returns-2 : tie.Need-returns-2
-returns-2 c = search needs
+returns-2 c x w m =
+    let s = c .before .before .before in
+    let d = segments (s .args .s .now) in
+    let l = s .args .list .now in
+    let changes = subst (λ (t : Segment). Changes (belowAt d (Along t) l) 0 (length l) (c .place-near .result)) (s .pre .1) (c .place-near .ensures) in
+    found d l (s .pre .3) (s .pre .4) w (s .args .i) (c .place-near .result) m changes
 
 pub place-to-leave-spec : {M : Type 1} → statement M
 place-to-leave-spec =

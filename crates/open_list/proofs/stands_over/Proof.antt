@@ -1,17 +1,17 @@
 -- Nothing is asked at the front; after it, the test of neighbours. Assumes nothing.
 use borrow.Author.Needs.{needs}
-use mathlib.Core.Path.{_≡_, sym, subst, _∙_}
+use mathlib.Core.Path.{_≡_, refl, sym, subst, _∙_}
 use native.Mathlib.Omega.{arith}
 use Prim.Native.Nat.{ℕ, _-_}
 use lib.ListN.{getD}
 use Rattle.segm.specs.Segments.{segments, segmentAt}
 use Rattle.strip.specs.Strip.{Next}
-use Rattle.open_list.proofs.Laws.{follows-next, known-proper}
+use Rattle.open_list.proofs.Laws.{known-proper}
 use Rattle.open_list.proofs.stands_over.Statement.{statement}
 use Rattle.open_list.proofs.stands_over.Tie as tie
 
 returns : tie.Need-returns
-returns c t j e = absurd (omega arith)
+returns c = (λ t j e. absurd (omega arith), λ f. refl)
 
 sub-is-next : tie.Need-sub-is-next
 sub-is-next c = search needs
@@ -28,11 +28,10 @@ is-next-requires c κs =
     (known-proper (s .args .list .now) (s .pre .0) (s .pre .1) (s .args .k - 1) (omega arith), s .pre .0 .proper (s .args .i) (s .pre .2))
 
 returns-2 : tie.Need-returns-2
-returns-2 c t j e =
+returns-2 c =
     let s = c .before .before .before .before in
-    let low : s .args .k - 1 ≡ j = omega arith in
-    subst (λ (m : ℕ). Next (segmentAt (segments (s .args .s .now)) (getD (s .args .list .now) m 0)) (segmentAt (segments (s .args .s .now)) (s .args .i))) low
-    (follows-next _ _ (sym (c .is-next .ensures) ∙ t))
+    let one : ℕ → Type 0 = λ m. Next (segmentAt (segments (s .args .s .now)) (getD (s .args .list .now) m 0)) (segmentAt (segments (s .args .s .now)) (s .args .i)) in
+    (λ t j e. let low : s .args .k - 1 ≡ j = omega arith in subst one low (c .is-next .ensures .0 t), λ f. c .is-next .ensures .1 (f (s .args .k - 1) (omega arith)))
 
 pub stands-over-spec : {M : Type 1} → statement M
 stands-over-spec = tie.close (tie.spec returns sub-is-next mul-is-next shared-slice-read-is-next is-next-requires returns-2)

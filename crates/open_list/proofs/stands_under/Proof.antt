@@ -1,13 +1,13 @@
 -- Nothing is asked at the back; before it, the test of neighbours. Assumes nothing.
 use borrow.Author.Needs.{needs}
-use mathlib.Core.Path.{sym, _∙_}
+use mathlib.Core.Path.{refl, sym, _∙_}
 use native.Mathlib.Omega.{arith}
-use Rattle.open_list.proofs.Laws.{follows-next, known-proper}
+use Rattle.open_list.proofs.Laws.{known-proper}
 use Rattle.open_list.proofs.stands_under.Statement.{statement}
 use Rattle.open_list.proofs.stands_under.Tie as tie
 
 returns : tie.Need-returns
-returns c t h = absurd (omega arith)
+returns c = (λ t h. absurd (omega arith), λ f. refl)
 
 mul-is-next : tie.Need-mul-is-next
 mul-is-next c = search needs
@@ -21,7 +21,7 @@ is-next-requires c κs =
     (s .pre .0 .proper (s .args .i) (s .pre .2), known-proper (s .args .list .now) (s .pre .0) (s .pre .1) (s .args .k) (omega arith))
 
 returns-2 : tie.Need-returns-2
-returns-2 c t h = follows-next _ _ (sym (c .is-next .ensures) ∙ t)
+returns-2 c = (λ t h. c .is-next .ensures .0 t, λ f. c .is-next .ensures .1 (f (omega arith)))
 
 pub stands-under-spec : {M : Type 1} → statement M
 stands-under-spec = tie.close (tie.spec returns mul-is-next shared-slice-read-is-next is-next-requires returns-2)

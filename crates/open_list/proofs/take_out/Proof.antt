@@ -1,18 +1,18 @@
 -- The place by bisection is the segment's own, or the answer is unclear; what is beside it must close. Assumes nothing.
 use borrow.Author.Needs.{needs}
-use mathlib.Core.Path.{_≡_, sym, subst, _∙_}
+use mathlib.Core.Path.{_≡_, refl, sym, subst, _∙_}
 use mathlib.Core.List.{List, [], _∷_}
 use mathlib.Core.Bool.{true, false}
 use native.Mathlib.Omega.{arith}
 use Prim.Native.Nat.{_+_, _<_}
 use lib.ListN.{length, getD, take}
 use lib.Seq.{length-take-le, getD-take}
-use borrow.Author.Tests.{not-false}
+use borrow.Author.Tests.{not-false, not-true}
 use Rattle.integers.proofs.Booleans.{clash}
 use Rattle.segm.specs.Segments.{segments}
-use Rattle.meetings.specs.Meetings.{Proper}
 use Rattle.open_list.specs.OpenList.{Left}
 use Rattle.open_list.proofs.Laws.{one-leaves, taken-out}
+use Rattle.open_list.proofs.Spanning.{closes}
 use Rattle.open_list.proofs.take_out.Statement.{statement}
 use Rattle.open_list.proofs.take_out.Tie as tie
 
@@ -25,7 +25,7 @@ slice-aggregate-place-to-leave c = let s = c .before .before in sym (length-take
 place-to-leave-requires : tie.Need-place-to-leave-requires
 place-to-leave-requires c κs =
     let s = c .before .before in
-    (s .pre .0, subst Proper (sym (s .pre .1)) (s .pre .0 .proper (s .args .i) (s .pre .2)), s .pre .4)
+    (s .pre .0, s .pre .1, s .pre .2, s .pre .4, s .pre .5)
 
 unclear-requires : tie.Need-unclear-requires
 unclear-requires c κs = search needs
@@ -34,7 +34,9 @@ same-length : tie.Need-same-length
 same-length c = search needs
 
 returns : tie.Need-returns
-returns c t = absurd (clash t (c .unclear .ensures))
+returns c =
+    let s = c .before .before .before .before .before in
+    (λ t. absurd (clash t (c .unclear .ensures)), λ x w m. absurd (omega (arith, c .before .before .place-to-leave .ensures x w m .0, length-take-le (s .args .count) (s .args .list .now) (s .pre .3), c .before .if1 .taken)))
 
 mul-if2 : tie.Need-mul-if2
 mul-if2 c = search needs
@@ -52,7 +54,13 @@ same-length-2 : tie.Need-same-length-2
 same-length-2 c = search needs
 
 returns-2 : tie.Need-returns-2
-returns-2 c t = absurd (clash t (c .unclear2 .ensures))
+returns-2 c =
+    let s = c .before .before .before .before .before .before .before in
+    let place = c .before .before .before .before .place-to-leave in
+    let far = length-take-le (s .args .count) (s .args .list .now) (s .pre .3) in (
+      (λ t. absurd (clash t (c .unclear2 .ensures))),
+      (λ x w m. let p = place .ensures x w m in absurd (omega (arith, p .0, p .1, getD-take (s .args .count) (s .args .list .now) (place .result) 0 (omega (arith, p .0, far)), c .before .if2 .taken))),
+    )
 
 slice-reshare-prefix-closes-at : tie.Need-slice-reshare-prefix-closes-at
 slice-reshare-prefix-closes-at c = search needs
@@ -72,7 +80,12 @@ same-length-3 : tie.Need-same-length-3
 same-length-3 c = search needs
 
 returns-3 : tie.Need-returns-3
-returns-3 c t = absurd (clash t (c .unclear3 .ensures))
+returns-3 c =
+    let s = c .before .before .before .before .before .before .before .before .before .before in
+    let k = c .before .before .before .before .before .before .before .place-to-leave .result in (
+      (λ t. absurd (clash t (c .unclear3 .ensures))),
+      (λ x w m. absurd (clash (c .before .before .closes-at .ensures .1 (closes (segments (s .args .s .now)) (take (s .args .count) (s .args .list .now)) (s .pre .4) (s .pre .5) w k)) (not-true _ (c .before .if3 .taken)))),
+    )
 
 remove-requires : tie.Need-remove-requires
 remove-requires c κs = search needs
@@ -84,7 +97,7 @@ same-length-4 : tie.Need-same-length-4
 same-length-4 c = search needs
 
 returns-4 : tie.Need-returns-4
-returns-4 c t =
+returns-4 c =
     let closed = c .before .before .before .before .before in
     let found = c .before .before .before .before .before .before .before in
     let place = c .before .before .before .before .before .before .before .before .before .before in
@@ -95,9 +108,12 @@ returns-4 c t =
     let h : k < count = omega (arith, c .before .before .before .before .before .before .before .before .before .if1 .left) in
     let e : getD (take count old) k 0 ≡ s .args .i = getD-take count old k 0 h ∙ omega (arith, found .if2 .left) in
     let long = length-take-le count old (s .pre .3) in (
-      omega arith,
-      subst (Left (segments (s .args .s .now)) ((length (segments (s .args .s .now)) + s .args .i) ∷ []) (take count old)) (sym (taken-out old (c .before .before .remove .last .0) count k h (s .pre .3) (c .before .before .remove .ensures)))
-          (one-leaves k (s .args .i) (omega (arith, long)) e (s .pre .5) (s .pre .6) (closed .closes-at .ensures (not-false _ (c .before .before .before .before .if3 .left)))),
+      (λ t. (
+        omega arith,
+        subst (Left (segments (s .args .s .now)) ((length (segments (s .args .s .now)) + s .args .i) ∷ []) (take count old)) (sym (taken-out old (c .before .before .remove .last .0) count k h (s .pre .3) (c .before .before .remove .ensures)))
+            (one-leaves k (s .args .i) (omega (arith, long)) e (s .pre .5) (s .pre .6) (closed .closes-at .ensures .0 (not-false _ (c .before .before .before .before .if3 .left)))),
+      )),
+      (λ x w m. refl),
     )
 
 pub take-out-spec : {M : Type 1} → statement M

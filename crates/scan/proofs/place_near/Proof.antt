@@ -1,12 +1,12 @@
--- Bisection stays between the places it is given. Assumes nothing.
+-- Bisection finds a change between the places it is given, and so of the whole list. Assumes nothing.
 use borrow.Author.Needs.{needs}
 use mathlib.Core.Path.{_≡_, sym, subst}
 use native.Mathlib.Omega.{arith}
 use Prim.Native.Nat.{ℕ, _-_, _≤_}
 use lib.ListN.{length, getD}
 use Rattle.segm.specs.Segments.{segments}
-use Rattle.scan.specs.Scan.{isBelow}
-use Rattle.scan.proofs.Laws.{bisect-changes, place-bound}
+use Rattle.scan.specs.Scan.{isBelow, belowAt, Changes}
+use Rattle.scan.proofs.Laws.{bisect-changes, brackets-changes, place-changes}
 use Rattle.scan.proofs.place_near.Statement.{statement}
 use Rattle.scan.proofs.place_near.Tie as tie
 
@@ -16,7 +16,8 @@ place-of-requires c κs = search needs
 returns : tie.Need-returns
 returns c =
     let a = c .before .before .before .args in
-    subst (λ (k : ℕ). k ≤ length (a .list .now)) (sym (c .place-of .ensures)) (place-bound (isBelow (segments (a .s .now)) (a .sought)) (a .list .now))
+    let below = isBelow (segments (a .s .now)) (a .sought) in
+    subst (Changes (belowAt (segments (a .s .now)) (a .sought) (a .list .now)) 0 (length (a .list .now))) (sym (c .place-of .ensures)) (place-changes below (a .list .now))
 
 stretch-near-requires : tie.Need-stretch-near-requires
 stretch-near-requires c κs = search needs
@@ -27,9 +28,10 @@ place-between-requires c κs = search needs
 returns-2 : tie.Need-returns-2
 returns-2 c =
     let a = c .before .before .before .before .args in
+    let test = belowAt (segments (a .s .now)) (a .sought) (a .list .now) in
     let at = c .before .stretch-near in
-    let r = bisect-changes (λ k. isBelow (segments (a .s .now)) (a .sought) (getD (a .list .now) k 0)) (at .result .to - at .result .from) (at .result .from) (at .result .to) (at .ensures .0) (omega arith) in
-    omega (arith, c .place-between .ensures, r .till, at .ensures .1)
+    brackets-changes test (at .ensures)
+    (subst (Changes test (at .result .from) (at .result .to)) (sym (c .place-between .ensures)) (bisect-changes test (at .result .to - at .result .from) (at .result .from) (at .result .to) (at .ensures .order) (omega arith)))
 
 pub place-near-spec : {M : Type 1} → statement M
 place-near-spec =

@@ -1,18 +1,18 @@
 -- Where there is one before the place and one at it, the tests decide. Assumes nothing.
 use borrow.Author.Needs.{needs}
-use borrow.Author.Tests.{not-false}
-use mathlib.Core.Path.{_≡_, sym, _∙_}
+use borrow.Author.Tests.{not-false, not-true}
+use mathlib.Core.Path.{_≡_, refl, sym, _∙_}
 use mathlib.Core.List.{List}
 use mathlib.Core.Logic.{⊎-elim}
 use mathlib.Core.Bool.{true, true≢false}
 use native.Mathlib.Omega.{arith}
 use Prim.Native.Nat.{ℕ, _-_, _<_, _≤_}
 use lib.ListN.{length, getD}
+use Rattle.integers.proofs.Booleans.{clash}
 use Rattle.segm.specs.Segments.{Drawing, segments, segmentAt}
 use Rattle.segm.proofs.Lists.{in-at}
 use Rattle.meetings.specs.Meetings.{Proper}
 use Rattle.verticals.specs.Verticals.{liesUnder}
-use Rattle.verticals.proofs.Gaps.{cut-at}
 use Rattle.verticals.proofs.is_cut.Statement.{statement}
 use Rattle.verticals.proofs.is_cut.Tie as tie
 
@@ -42,7 +42,7 @@ lies-under-requires : tie.Need-lies-under-requires
 lies-under-requires c κs = let s = c .before .before .before .before .before in (proper s (k s - 1) (omega (arith, s .pre .3, c .before .if1 .taken)), s .pre .1 .near-a)
 
 returns : tie.Need-returns
-returns c = λ e. absurd (true≢false (sym e))
+returns c = (λ e. absurd (true≢false (sym e)), λ f. absurd (clash (c .before .lies-under .ensures ∙ f .under (omega arith)) (not-true _ (c .if2 .taken))))
 
 mul-lies-above : tie.Need-mul-lies-above
 mul-lies-above c = search needs
@@ -58,14 +58,10 @@ before-place : (c : tie.Joined1) → let s = c .before .before .before .before i
 before-place c h = ⊎-elim (λ w. sym (w .2 .ensures) ∙ not-false _ (w .3 .left)) (λ w. absurd (omega (arith, w .left, h))) (c .if1 .came)
 
 returns-2 : tie.Need-returns-2
-returns-2 c =
-    let s = c .before .before .before .before .before .before .before in
-    λ e. cut-at (d s) (s .args .edge) (s .args .v) (l s) (k s) (s .pre .3) (before-place (c .before .before .before)) (λ _. sym (c .lies-above .ensures) ∙ e)
+returns-2 c = (λ e. record { under = before-place (c .before .before .before); over = λ _. sym (c .lies-above .ensures) ∙ e }, λ f. c .lies-above .ensures ∙ f .over (omega arith))
 
 returns-3 : tie.Need-returns-3
-returns-3 c =
-    let s = c .before .before .before .before .before in
-    λ _. cut-at (d s) (s .args .edge) (s .args .v) (l s) (k s) (s .pre .3) (before-place (c .before)) (λ h. absurd (omega (arith, c .if3 .left, h)))
+returns-3 c = (λ _. record { under = before-place (c .before); over = λ h. absurd (omega (arith, c .if3 .left, h)) }, λ f. refl)
 
 pub is-cut-spec : {M : Type 1} → statement M
 is-cut-spec =

@@ -1,0 +1,104 @@
+-- A vertical segment and another that do not meet wrongly: the other passes under its foot or above its head, and of two vertical ones the one stands on the other.
+-- The converse of `passes-apart` and of `stacked`.
+use mathlib.Core.Path.{_≡_, refl, sym, _∙_}
+use mathlib.Core.Logic.{_⊎_, inl, inr}
+use lib.IntN.{ℤ, pos}
+use lib.Signed.{_≤ℤ_, _<ℤ_}
+use Rattle.integers.proofs.Booleans.{clash}
+use Rattle.integers.proofs.Linear.{ints, of-pos, of--}
+use Rattle.integers.proofs.Order.{order, lt-ltZ, le-ltZ, lt-le}
+use Rattle.geom.specs.declared.Point.{Point}
+use Rattle.segm.specs.declared.Segment.{Segment}
+use Rattle.meetings.specs.Meetings.{side}
+use Rattle.strip.proofs.Signs.{Sign, minus, nil, plus, sign, down-neg, down-pos}
+use Rattle.strip.proofs.Gap.{side-at-a, side-at-b}
+use Rattle.strip.proofs.Apart.{Between, Apart, Wide, wide, vertical-one-side}
+use Rattle.strip.proofs.Visits.{First, earlier, lower, first-total}
+use Rattle.neighbours.specs.Neighbours.{Under, Above}
+use Rattle.neighbours.proofs.Upright.{Upright, in-line, end-at}
+
+-- ---- s at y
+-- a point of s's line at y is the end e of s, or lies between its ends
+abbrev pub Inner : (Segment → Point) → ℤ → Segment → Type 0
+Inner e y s = (p : Point) → p .x ≡ y → side s p ≡ pos 0 → (e s ≡ p) ⊎ Between s p
+
+pub inner-b : {y : ℤ} (s : Segment) → s .a .x <ℤ y → y ≤ℤ s .b .x → Inner (λ t. t .b) y s
+inner-b {y} s f t p q z = go (order y (s .b .x))
+  where
+    go : (y <ℤ s .b .x) ⊎ (s .b .x ≤ℤ y) → (s .b ≡ p) ⊎ Between s p
+    go (inl l) = inr (inl (omega ints), inl (omega ints))
+    go (inr l) = inl (end-at (λ t. t .b) (λ t. inr refl) (record { goes = omega ints }) (omega ints) z)
+
+pub inner-a : {y : ℤ} (s : Segment) → s .a .x ≤ℤ y → y <ℤ s .b .x → Inner (λ t. t .a) y s
+inner-a {y} s f t p q z = go (order (s .a .x) y)
+  where
+    go : (s .a .x <ℤ y) ⊎ (y ≤ℤ s .a .x) → (s .a ≡ p) ⊎ Between s p
+    go (inl l) = inr (inl (omega ints), inl (omega ints))
+    go (inr l) = inl (end-at (λ t. t .a) (λ t. inl refl) (record { goes = omega ints }) (omega ints) z)
+
+-- ---- s at v's x: it lies under v's foot, or above v's head
+module _ {v s : Segment} (u : Upright v) (w : Wide s) (k : Apart v s) (from : s .a .x ≤ℤ v .a .x) (to : v .a .x ≤ℤ s .b .x) where
+  -- s does not part v's ends
+  not-parted : side s (v .a) <ℤ pos 0 → pos 0 <ℤ side s (v .b) → ⊥
+  not-parted f g = go (order (s .a .x) (v .a .x)) (order (v .a .x) (s .b .x))
+    where
+      -- an end of s at v's x would be between v's
+      between-a : s .a .x ≡ v .a .x → Between v (s .a)
+      between-a e =
+          let p = down-neg (wide w) (side-at-a s (v .a) (sym e)) f in
+          let q = down-pos (wide w) (side-at-a s (v .b) (u .plumb ∙ sym e)) g in
+          (inr (sym e, omega (ints, of-- (v .a .y) (s .a .y), of-pos 0)), inr (e ∙ sym (u .plumb), omega (ints, of-- (v .b .y) (s .a .y), of-pos 0)))
+
+      between-b : s .b .x ≡ v .a .x → Between v (s .b)
+      between-b e =
+          let p = down-neg (wide w) (side-at-b s (v .a) (sym e)) f in
+          let q = down-pos (wide w) (side-at-b s (v .b) (u .plumb ∙ sym e)) g in
+          (inr (sym e, omega (ints, of-- (v .a .y) (s .b .y), of-pos 0)), inr (e ∙ sym (u .plumb), omega (ints, of-- (v .b .y) (s .b .y), of-pos 0)))
+
+      go : (s .a .x <ℤ v .a .x) ⊎ (v .a .x ≤ℤ s .a .x) → (v .a .x <ℤ s .b .x) ⊎ (s .b .x ≤ℤ v .a .x) → ⊥
+      go (inl a) (inl b) = clash (vertical-one-side k w (u .plumb) (u .rises) a b ∙ lt-ltZ f) (le-ltZ (lt-le g))
+      go (inl a) (inr b) = let e : s .b .x ≡ v .a .x = omega ints in k .on-b (in-line u (s .b) e) (between-b e)
+      go (inr a) b = let e : s .a .x ≡ v .a .x = omega ints in k .on-a (in-line u (s .a) e) (between-a e)
+
+  module _ (e : Segment → Point) (inner : Inner e (v .a .x) s) where
+    pub foot-over : pos 0 <ℤ side s (v .b) → Under e (v .a) s
+    foot-over g = go (sign (side s (v .a)))
+      where
+        on : (e s ≡ v .a) ⊎ Between s (v .a) → side s (v .a) ≡ pos 0 → Under e (v .a) s
+        on (inl q) z = inr q
+        on (inr b) z = absurd (k .a-on z b)
+
+        go : Sign (side s (v .a)) → Under e (v .a) s
+        go (plus f) = inl f
+        go (nil z) = on (inner (v .a) refl z) z
+        go (minus f) = absurd (not-parted f g)
+
+    pub head-under : side s (v .b) ≤ℤ pos 0 → Above e (v .b) s
+    head-under g = go (sign (side s (v .b)))
+      where
+        on : (e s ≡ v .b) ⊎ Between s (v .b) → side s (v .b) ≡ pos 0 → Above e (v .b) s
+        on (inl q) z = inr q
+        on (inr b) z = absurd (k .b-on z b)
+
+        go : Sign (side s (v .b)) → Above e (v .b) s
+        go (plus f) = absurd (omega ints)
+        go (nil z) = on (inner (v .b) (u .plumb) z) z
+        go (minus f) = inl f
+
+-- ---- two vertical ones at one x: the one that starts no lower stands on the other
+pub stands-on : {v w : Segment} → Upright v → Upright w → w .a .x ≡ v .a .x → Apart v w → v .a .y ≤ℤ w .a .y → v .b .y ≤ℤ w .a .y
+stands-on {v} {w} u o e k l = go (order (w .a .y) (v .b .y)) (first-total k (inr (sym (u .plumb), u .rises)) (inr (sym (o .plumb), o .rises)))
+  where
+    in-v : side v (w .b) ≡ pos 0
+    in-v = in-line u (w .b) (o .plumb ∙ e)
+
+    in-w : side w (v .b) ≡ pos 0
+    in-w = in-line o (v .b) (u .plumb ∙ sym e)
+
+    go : (w .a .y <ℤ v .b .y) ⊎ (v .b .y ≤ℤ w .a .y) → First v w ⊎ First w v → v .b .y ≤ℤ w .a .y
+    go (inr m) f = m
+    go (inl m) (inl (earlier b)) = absurd (k .on-a (in-line u (w .a) e) (b, inr (e ∙ sym (u .plumb), m)))
+    go (inl m) (inl (lower q h)) = absurd (let z = in-v in omega ints)
+    go (inl m) (inr (earlier (inl b))) = absurd (omega ints)
+    go (inl m) (inr (earlier (inr b))) = absurd (let c = b .1 in omega ints)
+    go (inl m) (inr (lower q h)) = absurd (let z = in-w in omega ints)
