@@ -3,10 +3,10 @@ use mathlib.Core.Path.{_≡_, refl, sym, ap, subst, _∙_}
 use mathlib.Core.List.{List, [], _∷_}
 use mathlib.Core.Logic.{_⊎_, inl, inr}
 use mathlib.Core.Bool.{true, false, not, true≢false}
-use Prim.Native.Nat.{ℕ, suc, _*_, _-_, _<_, _≤_}
+use Prim.Native.Nat.{ℕ, _*_, _-_, _<_, _≤_}
 use native.Mathlib.Omega.{arith}
 use lib.Dec.{ltb}
-use lib.ListN.{length, drop}
+use lib.ListN.{length}
 use lib.IntN.{ℤ, pos, _-ℤ_}
 use borrow.Author.Tests.{ltb-true, ltb-false, not-false}
 use Rattle.integers.proofs.Booleans.{dec, clash, nor-r}
@@ -16,14 +16,14 @@ use Rattle.geom.proofs.Points.{within-l, within-r, eqZ-true, eqP-true}
 use Rattle.segm.specs.declared.Segment.{Segment}
 use Rattle.segm.specs.Lists.{_∈_, Pairs, any}
 use Rattle.segm.specs.Segments.{Drawing, count, whole, segments, nowhere, segmentAt}
-use Rattle.segm.proofs.Lists.{pairs-of, pairs-map, pairs-places, in-after, any-false}
+use Rattle.segm.proofs.Lists.{pairs-map, pairs-places, in-after, any-false}
 use Rattle.segm.proofs.Segments.{length-segments, everywhere, total-none}
-use Rattle.meetings.specs.Meetings.{Proper, sameEnds, meetsWrongly}
+use Rattle.meetings.specs.Meetings.{Proper, sameEnds}
 use Rattle.meetings.proofs.Apart.{apart-ends, same-ends-sym}
 use Rattle.balance.specs.Balance.{balance, balances}
 use Rattle.checks.specs.declared.Verdict.{Verdict}
 use Rattle.checks.specs.declared.Verdict.the-variants.{Accepted, Refused}
-use Rattle.checks.specs.Drawing.{endsInRange, rises, bitsInRange, faultAt, meetingAt, unbalancedAt}
+use Rattle.checks.specs.Drawing.{endsInRange, rises, bitsInRange, faultAt, unbalancedAt}
 use Rattle.checks.specs.Verdict.{Choice, Lent, Run, wrongLength, unknownChoice, tooShort, isAccepted, verdict}
 use Rattle.checks.specs.Runs.{clipRun}
 use Rattle.checks.specs.Accepted.{Good, inputOf, accepts}

@@ -21,7 +21,7 @@ use Rattle.segm.proofs.Tallies.{cases, upFrom-in}
 use Rattle.ends.specs.Ends.{endPoint}
 use Rattle.graph.proofs.Flat.{Ordered}
 use Rattle.meetings.specs.Meetings.{NoneMeetWrongly}
-use Rattle.strip.specs.Strip.{isVertical, spans}
+use Rattle.strip.specs.Strip.{isVertical}
 use Rattle.strip.proofs.Apart.{Over, places-apart}
 use Rattle.strip.proofs.Vertical.{slanted-wide}
 use Rattle.strip.proofs.Above.{spans-on}

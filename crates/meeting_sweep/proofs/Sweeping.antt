@@ -10,14 +10,13 @@ use lib.ListN.{length, getD, take, drop, length-drop}
 use lib.Seq.{getD-take, getD-drop, length-take-le}
 use lib.IntN.{ℤ, pos, negℤ}
 use lib.Signed.{_≤ℤ_, _<ℤ_, ≤ℤ-refl}
-use Rattle.integers.proofs.Booleans.{clash}
 use Rattle.integers.proofs.Linear.{ints, of-pos, of-neg, of-abs}
 use Rattle.integers.proofs.Order.{order}
 use Rattle.geom.specs.declared.Point.{Point}
 use Rattle.geom.specs.Points.{ltP, inRange}
 use Rattle.geom.proofs.Points.{near-x, Before, before, before-le, ltP-true, not-less-x}
 use Rattle.segm.specs.declared.Segment.{Segment}
-use Rattle.segm.specs.Lists.{_∈_, Pairs, upFrom}
+use Rattle.segm.specs.Lists.{_∈_, upFrom}
 use Rattle.segm.specs.Segments.{Drawing, segmentAt, nowhere}
 use Rattle.segm.proofs.Lists.{Stands, stands, pairs-of, pairs-places, in-after, in-at}
 use Rattle.segm.proofs.Tallies.{cases, in-upFrom}

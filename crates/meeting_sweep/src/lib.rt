@@ -39,18 +39,19 @@ fn event(
     count: usize,
     guess: usize,
 ) -> Held
-    requires { ⌜ Ready (segments (now s))
-        × ((e : ℕ) → e ∈ now ends → e < 2 * length (segments (now s)))
+    requires { ⌜ (let d = segments (now s) in let l = take count (now list) in
+        Ready d
+        × ((e : ℕ) → e ∈ now ends → e < 2 * length d)
         × (from ≤ to)
-        × (to ≤ length (segments (now s)))
+        × (to ≤ length d)
         × (count ≤ from)
-        × (length (segments (now s)) ≤ length (now list))
-        × Known (segments (now s)) (take count (now list))
-        × Ordered (segments (now s)) (take count (now list))
-        × Distinct (take count (now list)) ⌝ }
-    ensures { λ r. ⌜ (r .clear ≡ true
-        → ((r .count ≤ to) × Happened (segments (now (s .entry))) (now (ends .entry)) from to (take count (now (list .entry))) (take (r .count) (now (list .exit)))))
-        × (ClearEvent (segments (now (s .entry))) (now (ends .entry)) from to (take count (now (list .entry))) → r .clear ≡ true) ⌝ }
+        × (length d ≤ length (now list))
+        × Known d l
+        × Ordered d l
+        × Distinct l) ⌝ }
+    ensures { λ r. ⌜ (let d = segments (now (s .entry)) in let l = take count (now (list .entry)) in
+        (r .clear ≡ true → ((r .count ≤ to) × Happened d (now (ends .entry)) from to l (take (r .count) (now (list .exit)))))
+        × (ClearEvent d (now (ends .entry)) from to l → r .clear ≡ true)) ⌝ }
 {
     if !verticals::are_cut(s, Edge::Ends, from, to, &list[..count], guess) {
         return open_list::unclear();
@@ -100,7 +101,8 @@ fn ends_past(s: &[i32], flat: &[u32], k: usize) -> usize
 // The first place from k on whose segment does not start at the x of end e.
 fn starts_past(s: &[i32], k: usize, e: usize) -> usize
     requires { ⌜ k ≤ length (segments (now s)) ⌝ }
-    ensures { λ r. ⌜ Past (λ j. endPoint (segments (now (s .entry))) j .x) k (length (segments (now (s .entry)))) (endPoint (segments (now (s .entry))) e .x) r ⌝ }
+    ensures { λ r. ⌜ (let d = segments (now (s .entry)) in
+        Past (λ j. endPoint d j .x) k (length d) (endPoint d e .x) r) ⌝ }
 {
     let n = segm::count(s);
     let mut j = k;
@@ -115,9 +117,10 @@ fn starts_past(s: &[i32], k: usize, e: usize) -> usize
 
 // The sweep, from x to x of the ordered ends. The list is working memory.
 fn sweep(s: &[i32], flat: &[u32], list: &mut [u32]) -> bool
-    requires { ⌜ Ready (segments (now s))
-        × (now flat ≡ ordering (endBefore (segments (now s))) (upFrom 0 (2 * length (segments (now s)))))
-        × (length (now list) ≡ 1024) ⌝ }
+    requires { ⌜ (let d = segments (now s) in
+        Ready d
+        × (now flat ≡ ordering (endBefore d) (upFrom 0 (2 * length d)))
+        × (length (now list) ≡ 1024)) ⌝ }
     ensures { λ r. ⌜ (r ≡ true) ↔ NoneMeetWrongly (segments (now (s .entry))) ⌝ }
 {
     let mut passed: usize = 0;
@@ -141,8 +144,9 @@ fn sweep(s: &[i32], flat: &[u32], list: &mut [u32]) -> bool
 
 // Whether no two segments meet wrongly, of a drawing with its ordered ends.
 pub fn is_clear(s: &[i32], flat: &[u32]) -> bool
-    requires { ⌜ Ready (segments (now s))
-        × (now flat ≡ ordering (endBefore (segments (now s))) (upFrom 0 (2 * length (segments (now s))))) ⌝ }
+    requires { ⌜ (let d = segments (now s) in
+        Ready d
+        × (now flat ≡ ordering (endBefore d) (upFrom 0 (2 * length d)))) ⌝ }
     ensures { λ r. ⌜ (r ≡ true) ↔ NoneMeetWrongly (segments (now (s .entry))) ⌝ }
 {
     let mut list = [0u32; 1024];

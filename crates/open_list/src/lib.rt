@@ -51,7 +51,8 @@ fn is_next(s: &[i32], i: u32, j: u32) -> bool
 
 // Whether the segment at place i may stand right over the one before place k of the list, if there is one.
 fn stands_over(s: &[i32], list: &[u32], k: usize, i: u32) -> bool
-    requires { ⌜ Ready (segments (now s)) × Known (segments (now s)) (now list) × (i < length (segments (now s))) × (k ≤ length (now list)) ⌝ }
+    requires { ⌜ (let d = segments (now s) in
+        Ready d × Known d (now list) × (i < length d) × (k ≤ length (now list))) ⌝ }
     ensures { λ r. ⌜ (r ≡ true) ↔ StandsOver (segments (now (s .entry))) k i (now (list .entry)) ⌝ }
 {
     if k == 0 {
@@ -62,7 +63,8 @@ fn stands_over(s: &[i32], list: &[u32], k: usize, i: u32) -> bool
 
 // Whether it may stand right under the one at place k, if there is one.
 fn stands_under(s: &[i32], list: &[u32], k: usize, i: u32) -> bool
-    requires { ⌜ Ready (segments (now s)) × Known (segments (now s)) (now list) × (i < length (segments (now s))) ⌝ }
+    requires { ⌜ (let d = segments (now s) in
+        Ready d × Known d (now list) × (i < length d)) ⌝ }
     ensures { λ r. ⌜ (r ≡ true) ↔ StandsUnder (segments (now (s .entry))) k i (now (list .entry)) ⌝ }
 {
     if list.len() <= k {
@@ -87,14 +89,16 @@ fn closes_at(s: &[i32], list: &[u32], k: usize) -> bool
 
 // End e is passed: where a segment that is not vertical ends there, it leaves the list.
 fn leave_one(s: &[i32], e: u32, list: &mut [u32], count: usize, near: usize) -> Held
-    requires { ⌜ Ready (segments (now s))
-        × (e < 2 * length (segments (now s)))
+    requires { ⌜ (let d = segments (now s) in let l = take count (now list) in
+        Ready d
+        × (e < 2 * length d)
         × (count ≤ length (now list))
-        × Known (segments (now s)) (take count (now list))
-        × Ordered (segments (now s)) (take count (now list))
-        × Distinct (take count (now list)) ⌝ }
-    ensures { λ r. ⌜ (r .clear ≡ true → ((r .count ≤ count) × Left (segments (now (s .entry))) (e ∷ []) (take count (now (list .entry))) (take (r .count) (now (list .exit)))))
-        × (Leaving (segments (now (s .entry))) (e ∷ []) (take count (now (list .entry))) → r .clear ≡ true) ⌝ }
+        × Known d l
+        × Ordered d l
+        × Distinct l) ⌝ }
+    ensures { λ r. ⌜ (let d = segments (now (s .entry)) in let l = take count (now (list .entry)) in
+        (r .clear ≡ true → ((r .count ≤ count) × Left d (e ∷ []) l (take (r .count) (now (list .exit)))))
+        × (Leaving d (e ∷ []) l → r .clear ≡ true)) ⌝ }
 {
     let n = segm::count(s);
     let end = e as usize;
@@ -119,11 +123,12 @@ fn leave_one(s: &[i32], e: u32, list: &mut [u32], count: usize, near: usize) -> 
 
 // The place of the list where i stands, whose segment is t: where the last one left, if it stands there, else by search.
 fn place_to_leave(s: &[i32], t: Segment, i: usize, list: &[u32], near: usize) -> usize
-    requires { ⌜ Ready (segments (now s))
-        × (t ≡ segmentAt (segments (now s)) i)
-        × (i < length (segments (now s)))
-        × Known (segments (now s)) (now list)
-        × Ordered (segments (now s)) (now list) ⌝ }
+    requires { ⌜ (let d = segments (now s) in
+        Ready d
+        × (t ≡ segmentAt d i)
+        × (i < length d)
+        × Known d (now list)
+        × Ordered d (now list)) ⌝ }
     ensures { λ r. ⌜ ((x : ℤ) → Spanning (segments (now (s .entry))) x (now (list .entry)) → i ∈ now (list .entry) → ((r < length (now (list .entry))) × (getD (now (list .entry)) r 0 ≡ i))) ⌝ }
 {
     if near < list.len() {
@@ -136,16 +141,17 @@ fn place_to_leave(s: &[i32], t: Segment, i: usize, list: &[u32], near: usize) ->
 
 // The segment t, at place i of the drawing, leaves the list.
 fn take_out(s: &[i32], t: Segment, i: usize, list: &mut [u32], count: usize, near: usize) -> Held
-    requires { ⌜ Ready (segments (now s))
-        × (t ≡ segmentAt (segments (now s)) i)
-        × (i < length (segments (now s)))
+    requires { ⌜ (let d = segments (now s) in let l = take count (now list) in
+        Ready d
+        × (t ≡ segmentAt d i)
+        × (i < length d)
         × (count ≤ length (now list))
-        × Known (segments (now s)) (take count (now list))
-        × Ordered (segments (now s)) (take count (now list))
-        × Distinct (take count (now list)) ⌝ }
-    ensures { λ r. ⌜ (r .clear ≡ true
-        → ((r .count ≤ count) × Left (segments (now (s .entry))) ((length (segments (now (s .entry))) + i) ∷ []) (take count (now (list .entry))) (take (r .count) (now (list .exit)))))
-        × ((x : ℤ) → Spanning (segments (now (s .entry))) x (take count (now (list .entry))) → i ∈ take count (now (list .entry)) → r .clear ≡ true) ⌝ }
+        × Known d l
+        × Ordered d l
+        × Distinct l) ⌝ }
+    ensures { λ r. ⌜ (let d = segments (now (s .entry)) in let l = take count (now (list .entry)) in
+        (r .clear ≡ true → ((r .count ≤ count) × Left d ((length d + i) ∷ []) l (take (r .count) (now (list .exit)))))
+        × ((x : ℤ) → Spanning d x l → i ∈ l → r .clear ≡ true)) ⌝ }
 {
     let k = place_to_leave(s, t, i, &list[..count], near);
     if count <= k {
@@ -173,14 +179,16 @@ fn first_place(none_before: bool, first: usize, here: usize) -> usize {
 
 // All these ends are passed, one after the other. The place told is where the first one left, or the guess.
 pub fn leave_all(s: &[i32], ends: &[u32], list: &mut [u32], count: usize, guess: usize) -> Held
-    requires { ⌜ Ready (segments (now s))
-        × ((e : ℕ) → e ∈ now ends → e < 2 * length (segments (now s)))
+    requires { ⌜ (let d = segments (now s) in let l = take count (now list) in
+        Ready d
+        × ((e : ℕ) → e ∈ now ends → e < 2 * length d)
         × (count ≤ length (now list))
-        × Known (segments (now s)) (take count (now list))
-        × Ordered (segments (now s)) (take count (now list))
-        × Distinct (take count (now list)) ⌝ }
-    ensures { λ r. ⌜ (r .clear ≡ true → ((r .count ≤ count) × Left (segments (now (s .entry))) (now (ends .entry)) (take count (now (list .entry))) (take (r .count) (now (list .exit)))))
-        × (Leaving (segments (now (s .entry))) (now (ends .entry)) (take count (now (list .entry))) → r .clear ≡ true) ⌝ }
+        × Known d l
+        × Ordered d l
+        × Distinct l) ⌝ }
+    ensures { λ r. ⌜ (let d = segments (now (s .entry)) in let l = take count (now (list .entry)) in
+        (r .clear ≡ true → ((r .count ≤ count) × Left d (now (ends .entry)) l (take (r .count) (now (list .exit)))))
+        × (Leaving d (now (ends .entry)) l → r .clear ≡ true)) ⌝ }
 {
     let mut held = count;
     let mut near = guess;
@@ -205,7 +213,8 @@ pub fn leave_all(s: &[i32], ends: &[u32], list: &mut [u32], count: usize, guess:
 
 // Whether the segment at place i may stand at place k of the list.
 fn fits_at(s: &[i32], list: &[u32], k: usize, i: u32) -> bool
-    requires { ⌜ Ready (segments (now s)) × Known (segments (now s)) (now list) × (i < length (segments (now s))) × (k ≤ length (now list)) ⌝ }
+    requires { ⌜ (let d = segments (now s) in
+        Ready d × Known d (now list) × (i < length d) × (k ≤ length (now list))) ⌝ }
     ensures { λ r. ⌜ (r ≡ true) ↔ FitsAt (segments (now (s .entry))) k i (now (list .entry)) ⌝ }
 {
     if !stands_over(s, list, k, i) {
@@ -222,7 +231,8 @@ struct Place {
 
 // A place for the segment t, at place i of the drawing: where the last one entered, if it fits there, else by search.
 fn place_to_enter(s: &[i32], t: Segment, i: u32, list: &[u32], near: usize) -> Place
-    requires { ⌜ Ready (segments (now s)) × (t ≡ segmentAt (segments (now s)) i) × Known (segments (now s)) (now list) × (i < length (segments (now s))) ⌝ }
+    requires { ⌜ (let d = segments (now s) in
+        Ready d × (t ≡ segmentAt d i) × Known d (now list) × (i < length d)) ⌝ }
     ensures { λ r. ⌜ (r .fits ≡ true → FitsAt (segments (now (s .entry))) (r .at) i (now (list .entry)))
         × ((x : ℤ) → Spanning (segments (now (s .entry))) x (i ∷ now (list .entry)) → (i ∈ now (list .entry) → ⊥) → r .fits ≡ true) ⌝ }
 {
@@ -243,13 +253,15 @@ fn place_to_enter(s: &[i32], t: Segment, i: u32, list: &[u32], near: usize) -> P
 
 // The segment at place i is passed: where it is not vertical it enters the list.
 fn enter_one(s: &[i32], i: usize, list: &mut [u32], count: usize, near: usize) -> Held
-    requires { ⌜ Ready (segments (now s))
-        × (i < length (segments (now s)))
+    requires { ⌜ (let d = segments (now s) in let l = take count (now list) in
+        Ready d
+        × (i < length d)
         × (count < length (now list))
-        × Known (segments (now s)) (take count (now list))
-        × Ordered (segments (now s)) (take count (now list)) ⌝ }
-    ensures { λ r. ⌜ (r .clear ≡ true → ((r .count ≤ count + 1) × Entered (segments (now (s .entry))) i (i + 1) (take count (now (list .entry))) (take (r .count) (now (list .exit)))))
-        × (Entering (segments (now (s .entry))) i (i + 1) (take count (now (list .entry))) → r .clear ≡ true) ⌝ }
+        × Known d l
+        × Ordered d l) ⌝ }
+    ensures { λ r. ⌜ (let d = segments (now (s .entry)) in let l = take count (now (list .entry)) in
+        (r .clear ≡ true → ((r .count ≤ count + 1) × Entered d i (i + 1) l (take (r .count) (now (list .exit)))))
+        × (Entering d i (i + 1) l → r .clear ≡ true)) ⌝ }
 {
     let t = segm::segment_at(s, i);
     if scan::is_vertical(t) {
@@ -283,15 +295,17 @@ pub fn enter_all(
     count: usize,
     guess: usize,
 ) -> Held
-    requires { ⌜ Ready (segments (now s))
+    requires { ⌜ (let d = segments (now s) in let l = take count (now list) in
+        Ready d
         × (from ≤ to)
-        × (to ≤ length (segments (now s)))
+        × (to ≤ length d)
         × (count ≤ from)
-        × (length (segments (now s)) ≤ length (now list))
-        × Known (segments (now s)) (take count (now list))
-        × Ordered (segments (now s)) (take count (now list)) ⌝ }
-    ensures { λ r. ⌜ (r .clear ≡ true → ((r .count ≤ to) × Entered (segments (now (s .entry))) from to (take count (now (list .entry))) (take (r .count) (now (list .exit)))))
-        × (Entering (segments (now (s .entry))) from to (take count (now (list .entry))) → r .clear ≡ true) ⌝ }
+        × (length d ≤ length (now list))
+        × Known d l
+        × Ordered d l) ⌝ }
+    ensures { λ r. ⌜ (let d = segments (now (s .entry)) in let l = take count (now (list .entry)) in
+        (r .clear ≡ true → ((r .count ≤ to) × Entered d from to l (take (r .count) (now (list .exit)))))
+        × (Entering d from to l → r .clear ≡ true)) ⌝ }
 {
     let mut held = count;
     let mut near = guess;

@@ -4,7 +4,7 @@ use mathlib.Core.Logic.{inl, inr}
 use mathlib.Core.Bool.{true, false}
 use Rattle.integers.proofs.Booleans.{clash}
 use Rattle.integers.proofs.Linear.{ints}
-use Rattle.geom.proofs.Points.{eqZ-true, eq-eqZ, ne-eqZ, Before}
+use Rattle.geom.proofs.Points.{eq-eqZ, ne-eqZ, Before}
 use Rattle.segm.specs.declared.Segment.{Segment}
 use Rattle.strip.specs.Strip.{isVertical}
 use Rattle.strip.proofs.Apart.{Wide}

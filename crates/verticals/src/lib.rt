@@ -94,7 +94,8 @@ fn is_cut(s: &[i32], edge: Edge, v: Segment, list: &[u32], k: usize) -> bool
 
 // Whether every vertical segment from one place up to another stands in a gap of the list, the first one's sought near a guess.
 pub fn are_cut(s: &[i32], edge: Edge, from: usize, to: usize, list: &[u32], guess: usize) -> bool
-    requires { ⌜ Ready (segments (now s)) × (to ≤ length (segments (now s))) × Known (segments (now s)) (now list) ⌝ }
+    requires { ⌜ (let d = segments (now s) in
+        Ready d × (to ≤ length d) × Known d (now list)) ⌝ }
     ensures { λ r. ⌜ (r ≡ true → Cuts (segments (now (s .entry))) edge from to (now (list .entry)))
         × (Clears (segments (now (s .entry))) edge from to (now (list .entry)) → r ≡ true) ⌝ }
 {

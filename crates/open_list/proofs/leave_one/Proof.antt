@@ -1,14 +1,13 @@
 -- At a start and at the end of a vertical segment nothing leaves; at another end its segment is taken out. Assumes nothing.
 use borrow.Author.Needs.{needs}
 use mathlib.Core.Path.{_≡_, refl, sym, ap, subst, _∙_}
-use mathlib.Core.List.{List, [], _∷_}
+use mathlib.Core.List.{[], _∷_}
 use mathlib.Core.Logic.{inl}
 use mathlib.Core.Bool.{true, false}
 use native.Mathlib.Omega.{arith}
 use Prim.Native.Nat.{ℕ, _+_, _-_}
 use lib.ListN.{length, take}
 use Rattle.integers.proofs.Booleans.{clash}
-use Rattle.segm.specs.declared.Segment.{Segment}
 use Rattle.segm.specs.Segments.{segments, segmentAt}
 use Rattle.segm.proofs.Segments.{length-segments}
 use Rattle.strip.specs.Strip.{isVertical}

@@ -1,6 +1,6 @@
 -- Nothing is asked at the back; before it, the test of neighbours. Assumes nothing.
 use borrow.Author.Needs.{needs}
-use mathlib.Core.Path.{refl, sym, _∙_}
+use mathlib.Core.Path.{refl}
 use native.Mathlib.Omega.{arith}
 use Rattle.open_list.proofs.Laws.{known-proper}
 use Rattle.open_list.proofs.stands_under.Statement.{statement}

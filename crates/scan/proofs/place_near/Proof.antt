@@ -1,9 +1,9 @@
 -- Bisection finds a change between the places it is given, and so of the whole list. Assumes nothing.
 use borrow.Author.Needs.{needs}
-use mathlib.Core.Path.{_≡_, sym, subst}
+use mathlib.Core.Path.{sym, subst}
 use native.Mathlib.Omega.{arith}
-use Prim.Native.Nat.{ℕ, _-_, _≤_}
-use lib.ListN.{length, getD}
+use Prim.Native.Nat.{_-_}
+use lib.ListN.{length}
 use Rattle.segm.specs.Segments.{segments}
 use Rattle.scan.specs.Scan.{isBelow, belowAt, Changes}
 use Rattle.scan.proofs.Laws.{bisect-changes, brackets-changes, place-changes}

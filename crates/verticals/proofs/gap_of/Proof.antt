@@ -1,5 +1,4 @@
 -- The place of v's head is tried. Assumes nothing.
-use borrow.Author.Needs.{needs}
 use Rattle.segm.specs.Segments.{segments}
 use Rattle.verticals.proofs.Gaps.{cut-at, clear-cut}
 use Rattle.verticals.proofs.gap_of.Statement.{statement}
