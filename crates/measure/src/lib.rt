@@ -1,4 +1,4 @@
-// What is measured of the checks, for the driver: the verdict by itself, and whether the sweep alone clears a drawing of wrong meetings. Every function here is
+// What is measured of the checks, for the driver: the verdict by itself, and what the sweep over neighbours says of an accepted drawing. Every function here is
 // proved, and the crate assumes nothing of its own. No exported function has a `requires`.
 use checks::Verdict;
 ghost use mathlib.Core.Path.{_≡_};
@@ -64,7 +64,7 @@ fn is_swept(s: &[i32]) -> bool
     meeting_sweep::is_clear(s, &flat[..e])
 }
 
-// What the sweep said of an accepted drawing: 1, clear, as is proved; compiled, 0 would be seen. 2 of a refused one.
+// What the sweep says of an accepted drawing: 1, clear, by proof, and the driver looks whether the compiled sweep says so. 2 of a refused one.
 #[no_mangle]
 pub extern "C" fn measure_sweep(segments: &[i32]) -> u64
     ensures { λ r. ⌜ r ≡ sweepNumber (verdictOf (now (segments .entry))) ⌝ }

@@ -24,7 +24,7 @@ pub record Happened (d : Drawing) (ends : List ℕ) (from to : ℕ) (l l′ : Li
   pub after : Cuts d Starts from to l′
   pub stack : Stacked d from to
 
--- each test of the event finds what it asks for, in the order in which they are made
+-- every test of the event is passed: what each of them asks for, in the order in which they are made
 pub record ClearEvent (d : Drawing) (ends : List ℕ) (from to : ℕ) (l : List ℕ) : Type 0 where
   pub before : Clears d Ends from to l
   pub leaving : Leaving d ends l

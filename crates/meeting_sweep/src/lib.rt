@@ -8,8 +8,7 @@
 // 3. what starts there and is not vertical enters the list, in order of place, and is tested against both neighbours;
 // 4. each vertical segment there stands in a gap of the new list, whose segments may touch it with their starts a only;
 // 5. the vertical segments there stand on each other, in order of place.
-// The first test that is not passed ends the sweep. So it takes vertical segments, any number of segments at one point, and common ends; on one line two may touch
-// at an end, and to overlap is a wrong meeting, as to cross or to touch between the ends is.
+// The first test that is not passed ends the sweep. It takes vertical segments, any number of segments at one point, and segments on one line that touch at an end.
 //
 // `flat` has the ordered ends (end e below n is the a of segment e, end n + i the b of segment i), `list[..count]` the open segments; `passed` ends and `started`
 // segments are behind the sweep, and `near` is a place to look at first.

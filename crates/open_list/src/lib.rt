@@ -121,7 +121,7 @@ fn leave_one(s: &[i32], e: u32, list: &mut [u32], count: usize, near: usize) -> 
     take_out(s, t, i, list, count, near)
 }
 
-// The place of the list where i stands, whose segment is t: where the last one left, if it stands there, else by search.
+// A place of the list for i, whose segment is t: where the last one left, if it stands there, else by search. Without a wrong meeting it stands there.
 fn place_to_leave(s: &[i32], t: Segment, i: usize, list: &[u32], near: usize) -> usize
     requires { ⌜ (let d = segments (now s) in
         Ready d
@@ -129,7 +129,8 @@ fn place_to_leave(s: &[i32], t: Segment, i: usize, list: &[u32], near: usize) ->
         × (i < length d)
         × Known d (now list)
         × Ordered d (now list)) ⌝ }
-    ensures { λ r. ⌜ ((x : ℤ) → Spanning (segments (now (s .entry))) x (now (list .entry)) → i ∈ now (list .entry) → ((r < length (now (list .entry))) × (getD (now (list .entry)) r 0 ≡ i))) ⌝ }
+    ensures { λ r. ⌜ (let l = now (list .entry) in
+        (x : ℤ) → Spanning (segments (now (s .entry))) x l → i ∈ l → ((r < length l) × (getD l r 0 ≡ i))) ⌝ }
 {
     if near < list.len() {
         if list[near] as usize == i {
@@ -229,12 +230,13 @@ struct Place {
     fits: bool,
 }
 
-// A place for the segment t, at place i of the drawing: where the last one entered, if it fits there, else by search.
+// A place for the segment t, at place i of the drawing: where the last one entered, if it fits there, else by search. Without a wrong meeting it fits.
 fn place_to_enter(s: &[i32], t: Segment, i: u32, list: &[u32], near: usize) -> Place
     requires { ⌜ (let d = segments (now s) in
         Ready d × (t ≡ segmentAt d i) × Known d (now list) × (i < length d)) ⌝ }
-    ensures { λ r. ⌜ (r .fits ≡ true → FitsAt (segments (now (s .entry))) (r .at) i (now (list .entry)))
-        × ((x : ℤ) → Spanning (segments (now (s .entry))) x (i ∷ now (list .entry)) → (i ∈ now (list .entry) → ⊥) → r .fits ≡ true) ⌝ }
+    ensures { λ r. ⌜ (let d = segments (now (s .entry)) in let l = now (list .entry) in
+        (r .fits ≡ true → FitsAt d (r .at) i l)
+        × ((x : ℤ) → Spanning d x (i ∷ l) → (i ∈ l → ⊥) → r .fits ≡ true)) ⌝ }
 {
     if near <= list.len() {
         if fits_at(s, list, near, i) {

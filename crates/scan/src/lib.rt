@@ -152,7 +152,7 @@ struct Stretch {
     to: usize,
 }
 
-// A stretch between whose ends the list changes from below to above what is sought, from a place on up to which it is below: found by steps that double.
+// A stretch from a place on, before which the list is below what is sought, up to one at which it is above: found by steps that double.
 fn stretch_from(s: &[i32], list: &[u32], from: usize, sought: Sought) -> Stretch
     requires { ⌜ AllProper (segments (now s)) (now list)
         × SoughtInRange sought
@@ -178,7 +178,7 @@ fn stretch_from(s: &[i32], list: &[u32], from: usize, sought: Sought) -> Stretch
     }
 }
 
-// The same, up to a place at which the list is above.
+// The same, up to a place at which the list is above, from one before which it is below.
 fn stretch_before(s: &[i32], list: &[u32], to: usize, sought: Sought) -> Stretch
     requires { ⌜ AllProper (segments (now s)) (now list)
         × SoughtInRange sought
