@@ -9,7 +9,7 @@ use lib.Seq.{drop-cons, drop-drop}
 use lib.IntN.{ℤ, pos}
 use Rattle.geom.specs.declared.Point.{Point}
 use Rattle.contour.specs.Points.{pairUp, cut}
-use Rattle.contour.proofs.Coordinates.{no-pair, pairs-take, pairs-drop}
+use Rattle.contour.proofs.Coordinates.{no-pair, pairUp-take, pairUp-drop}
 use Rattle.clip_print.specs.Printed.{pointLine, pathLines, pathsLines}
 
 -- ---- the lines of a path, from the pair at place i on
@@ -37,7 +37,7 @@ module _ (k from : ℕ) (points : List ℤ) (lengths : List ℕ) where
   paths-more h =
       let n = getD lengths k 0 in
       let e : from + 2 * n - from ≡ 2 * n = omega arith in
-      rw (e, add-one k, drop-cons lengths k 0 h, pairs-take (drop from points) n, ← drop-drop (2 * n) from points, pairs-drop (drop from points) n)
+      rw (e, add-one k, drop-cons lengths k 0 h, pairUp-take (drop from points) n, ← drop-drop (2 * n) from points, pairUp-drop (drop from points) n)
 
   pub paths-none : length lengths ≤ k → linesFrom k from points lengths ≡ []
   unfolding pathsLines cut

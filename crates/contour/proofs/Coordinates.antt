@@ -47,19 +47,19 @@ no-pair (x ∷ []) h = refl
 no-pair (x ∷ y ∷ l) h = absurd (omega arith)
 
 -- the first n pairs, and those past them
-pub pairs-take : (l : List ℤ) (n : ℕ) → pairUp (take (2 * n) l) ≡ take n (pairUp l)
+pub pairUp-take : (l : List ℤ) (n : ℕ) → pairUp (take (2 * n) l) ≡ take n (pairUp l)
 unfolding pairUp
-pairs-take l zero = refl
-pairs-take [] (suc n) = ap pairUp (take-nil (2 * suc n))
-pairs-take (x ∷ []) (suc n) = let e : 2 * suc n ≡ suc (suc (2 * n)) = omega arith in rw e
-pairs-take (x ∷ y ∷ l) (suc n) = let e : 2 * suc n ≡ suc (suc (2 * n)) = omega arith in rw e (ap (record { x = x; y = y } ∷_) (pairs-take l n))
+pairUp-take l zero = refl
+pairUp-take [] (suc n) = ap pairUp (take-nil (2 * suc n))
+pairUp-take (x ∷ []) (suc n) = let e : 2 * suc n ≡ suc (suc (2 * n)) = omega arith in rw e
+pairUp-take (x ∷ y ∷ l) (suc n) = let e : 2 * suc n ≡ suc (suc (2 * n)) = omega arith in rw e (ap (record { x = x; y = y } ∷_) (pairUp-take l n))
 
-pub pairs-drop : (l : List ℤ) (n : ℕ) → pairUp (drop (2 * n) l) ≡ drop n (pairUp l)
+pub pairUp-drop : (l : List ℤ) (n : ℕ) → pairUp (drop (2 * n) l) ≡ drop n (pairUp l)
 unfolding pairUp
-pairs-drop l zero = refl
-pairs-drop [] (suc n) = ap pairUp (drop-nil (2 * suc n))
-pairs-drop (x ∷ []) (suc n) = let e : 2 * suc n ≡ suc (suc (2 * n)) = omega arith in rw e (ap pairUp (drop-nil (suc (2 * n))))
-pairs-drop (x ∷ y ∷ l) (suc n) = let e : 2 * suc n ≡ suc (suc (2 * n)) = omega arith in rw e (pairs-drop l n)
+pairUp-drop l zero = refl
+pairUp-drop [] (suc n) = ap pairUp (drop-nil (2 * suc n))
+pairUp-drop (x ∷ []) (suc n) = let e : 2 * suc n ≡ suc (suc (2 * n)) = omega arith in rw e (ap pairUp (drop-nil (suc (2 * n))))
+pairUp-drop (x ∷ y ∷ l) (suc n) = let e : 2 * suc n ≡ suc (suc (2 * n)) = omega arith in rw e (pairUp-drop l n)
 
 -- the pair at place i
 pub pair-at : (l : List ℤ) (i : ℕ) → 2 * i + 1 < length l → getD (pairUp l) i origin ≡ record { x = getD l (2 * i) (pos 0); y = getD l (2 * i + 1) (pos 0) }

@@ -23,13 +23,13 @@ use Rattle.graph.proofs.Flat.{Ordered}
 use Rattle.meetings.specs.Meetings.{NoneMeetWrongly}
 use Rattle.strip.specs.Strip.{isVertical}
 use Rattle.strip.proofs.Apart.{Over, places-apart}
-use Rattle.strip.proofs.Vertical.{slanted-wide}
+use Rattle.strip.proofs.Vertical.{not-vertical-wide}
 use Rattle.strip.proofs.Above.{spans-on}
 use Rattle.neighbours.specs.Neighbours.{Ready, Known}
 use Rattle.neighbours.proofs.Upright.{Upright, vertical-upright}
 use Rattle.neighbours.proofs.Passes.{stands-on}
 use Rattle.neighbours.proofs.Turn.{Coming, turn-quiet}
-use Rattle.open_list.specs.OpenList.{Leaving, Entering, Left, Entered}
+use Rattle.open_list.specs.OpenList.{CanLeave, CanEnter, Left, Entered}
 use Rattle.verticals.specs.declared.Edge.the-variants.{Ends, Starts}
 use Rattle.verticals.specs.Verticals.{Stacked, Clears}
 use Rattle.verticals.proofs.ClearOf.{clear-of-ending, clear-of-starting}
@@ -82,9 +82,9 @@ module _ (d : Drawing) (flat : List ℕ) (ready : Ready d) (ends : Ordered d fla
 
         go : (seg i .a .x ≤ℤ a .x) ⊎ (y ≤ℤ seg i .a .x) → i ∈ l
         go (inl b) = a .swept .holds .every i known-i (record { from = b; to = let r = ends-here in let g = come .later in omega ints })
-        go (inr b) = absurd (let r = ends-here in let g = slanted-wide (seg i) (proper d flat ready ends i i-inside) v .goes in omega ints)
+        go (inr b) = absurd (let r = ends-here in let g = not-vertical-wide (seg i) (proper d flat ready ends i i-inside) v .goes in omega ints)
 
-    leaving : Leaving d block l
+    leaving : CanLeave d block l
     leaving = record {
       x = a .x;
       spanning = record { apart = apart; across = λ i m. spans-on (over i m) };
@@ -109,7 +109,7 @@ module _ (d : Drawing) (flat : List ℕ) (ready : Ready d) (ends : Ordered d fla
       starts : (i : ℕ) → started ≤ i → i < started′ → isVertical (seg i) ≡ false → Over y (seg i)
       starts i f t v = record { from = let s = come .here i f t in omega ints; to = starts-later d flat ready ends a more p q i f t v }
 
-      entering : Entering d started started′ between
+      entering : CanEnter d started started′ between
       entering = record {
         x = y;
         spanning = record { apart = apart; across = λ i m. spans-on (stays i m) };

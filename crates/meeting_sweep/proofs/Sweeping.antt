@@ -26,7 +26,7 @@ use Rattle.graph.proofs.Flat.{Ordered}
 use Rattle.meetings.specs.Meetings.{meetsWrongly, NoneMeetWrongly}
 use Rattle.strip.specs.Strip.{isVertical}
 use Rattle.strip.proofs.Apart.{Over, over-wide}
-use Rattle.strip.proofs.Vertical.{vertical-by, slanted-by, slanted-ends, wide-slanted}
+use Rattle.strip.proofs.Vertical.{vertical-by, not-vertical-by, not-vertical-ends, wide-not-vertical}
 use Rattle.neighbours.specs.Neighbours.{Ready, Known, Distinct}
 use Rattle.neighbours.proofs.Lists.{Holds, holds-distinct}
 use Rattle.neighbours.proofs.Event.{Swept}
@@ -227,7 +227,7 @@ module _ (d : Drawing) (flat : List ℕ) where
           go (inl g) = g
           go (inr g) =
               let e : seg i .b .x ≡ y = let f = next-end i (mine i k) (over .to) in omega ints in
-              absurd (left .gone i (end-in i (mine i k) e) (wide-slanted (seg i) (over-wide over)) n)
+              absurd (left .gone i (end-in i (mine i k) e) (wide-not-vertical (seg i) (over-wide over)) n)
 
       -- so does what starts there and is not vertical
       pub starts-later : (i : ℕ) → started ≤ i → i < started′ → isVertical (seg i) ≡ false → y <ℤ seg i .b .x
@@ -235,7 +235,7 @@ module _ (d : Drawing) (flat : List ℕ) where
         where
           go : (y <ℤ seg i .b .x) ⊎ (seg i .b .x ≤ℤ y) → y <ℤ seg i .b .x
           go (inl g) = g
-          go (inr g) = absurd (slanted-ends (seg i) v (let b = before-le (proper i (omega (arith, t, q .till))) in let r = here-starts i f t in omega ints))
+          go (inr g) = absurd (not-vertical-ends (seg i) v (let b = before-le (proper i (omega (arith, t, q .till))) in let r = here-starts i f t in omega ints))
 
       module _ {l′ : List ℕ} (h : Happened d (take (passed′ - passed) (drop passed flat)) started started′ l l′) where
         stays : (i : ℕ) → i ∈ l′ → (y <ℤ seg i .b .x) × ((i ∈ l) ⊎ ((started ≤ i) × (i < started′)))
@@ -243,7 +243,7 @@ module _ (d : Drawing) (flat : List ℕ) where
 
         comes : (i : ℕ) → y <ℤ seg i .b .x → (i ∈ l) ⊎ ((started ≤ i) × (i < started′)) → i ∈ l′
         comes i g (inl m) = cases (h .entered .kept i) (λ n. absurd (let e = end-x i in let r = block-at (length d + i) n in omega ints)) (h .left .rest i m)
-        comes i g (inr (f, t)) = h .entered .came i f t (slanted-by (seg i) (λ e. let r = here-starts i f t in omega ints))
+        comes i g (inr (f, t)) = h .entered .came i f t (not-vertical-by (seg i) (λ e. let r = here-starts i f t in omega ints))
 
         holds : Holds seg (upFrom 0 (length d)) y l′
         holds = turn-holds seg (length d) proper coming (a .swept .holds) (h .entered .order) stays comes

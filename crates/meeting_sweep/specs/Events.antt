@@ -4,7 +4,7 @@ use mathlib.Core.List.{List}
 use Prim.Native.Nat.{ℕ, _<_, _≤_}
 use lib.IntN.{ℤ}
 use Rattle.segm.specs.Segments.{Drawing}
-use Rattle.open_list.specs.OpenList.{Leaving, Entering, Left, Entered}
+use Rattle.open_list.specs.OpenList.{CanLeave, CanEnter, Left, Entered}
 use Rattle.verticals.specs.declared.Edge.the-variants.{Ends, Starts}
 use Rattle.verticals.specs.Verticals.{Cuts, Stacked, Clears}
 
@@ -27,7 +27,7 @@ pub record Happened (d : Drawing) (ends : List ℕ) (from to : ℕ) (l l′ : Li
 -- every test of the event is passed: what each of them asks for, in the order in which they are made
 pub record ClearEvent (d : Drawing) (ends : List ℕ) (from to : ℕ) (l : List ℕ) : Type 0 where
   pub before : Clears d Ends from to l
-  pub leaving : Leaving d ends l
-  pub entering : (between : List ℕ) → Left d ends l between → Entering d from to between
+  pub leaving : CanLeave d ends l
+  pub entering : (between : List ℕ) → Left d ends l between → CanEnter d from to between
   pub after : (between l′ : List ℕ) → Left d ends l between → Entered d from to between l′ → Clears d Starts from to l′
   pub stack : Stacked d from to

@@ -23,7 +23,7 @@ use Rattle.neighbours.specs.Neighbours.{Known, Ordered}
 use Rattle.neighbours.proofs.Lists.{holds-tiers}
 use Rattle.scan.specs.declared.Sought.the-variants.{Along}
 use Rattle.scan.specs.Scan.{isBelow, belowAt, Changes}
-use Rattle.open_list.specs.OpenList.{ClosesAt, FitsAt, Spanning, Leaving, Entering, Left, Entered}
+use Rattle.open_list.specs.OpenList.{ClosesAt, FitsAt, Spanning, CanLeave, CanEnter, Left, Entered}
 
 module _ (d : Drawing) (l : List ℕ) {x : ℤ} (known : Known d l) where
   -- ---- what leaves
@@ -84,8 +84,8 @@ spanning-with {d} {x} w i h = record { apart = w .apart; across = λ j m. cases 
 
 -- ---- from one to the next
 -- the next end, after the first k of them
-pub leaving-next : (d : Drawing) (ends l l′ : List ℕ) (k : ℕ) → k < length ends → Leaving d ends l → Left d (take k ends) l l′ → Leaving d (getD ends k 0 ∷ []) l′
-leaving-next d ends l l′ k h w p = record {
+pub can-leave-next : (d : Drawing) (ends l l′ : List ℕ) (k : ℕ) → k < length ends → CanLeave d ends l → Left d (take k ends) l l′ → CanLeave d (getD ends k 0 ∷ []) l′
+can-leave-next d ends l l′ k h w p = record {
   x = w .x;
   spanning = record { apart = w .spanning .apart; across = λ i m. w .spanning .across i (p .kept i m) };
   distinct = (λ j m. absurd m, tt);
@@ -98,8 +98,8 @@ leaving-next d ends l l′ k h w p = record {
     still i (inr m) v = absurd m
 
 -- the next place, after those from..i
-pub entering-next : (d : Drawing) (from i to : ℕ) (l l′ : List ℕ) → from ≤ i → i < to → Entering d from to l → Entered d from i l l′ → Entering d i (i + 1) l′
-entering-next d from i to l l′ h k w p = record {
+pub can-enter-next : (d : Drawing) (from i to : ℕ) (l l′ : List ℕ) → from ≤ i → i < to → CanEnter d from to l → Entered d from i l l′ → CanEnter d i (i + 1) l′
+can-enter-next d from i to l l′ h k w p = record {
   x = w .x;
   spanning = record { apart = w .spanning .apart; across = λ j m. cases (w .spanning .across j) (λ o. w .starting j (o .0) (omega (arith, o .1)) (o .2)) (p .mine j m) };
   earlier = λ j m. cases (λ n. omega (arith, w .earlier j n)) (λ o. o .1) (p .mine j m);

@@ -38,14 +38,14 @@ pub record Spanning (d : Drawing) (x : ℤ) (l : List ℕ) : Type 0 where
   pub across : (i : ℕ) → i ∈ l → spans (segmentAt d i) x ≡ true
 
 -- all that leaves at these ends is in the list: what is not vertical and ends there (end length d + i is the b of the segment at place i). No end stands there twice
-pub record Leaving (d : Drawing) (ends l : List ℕ) : Type 0 where
+pub record CanLeave (d : Drawing) (ends l : List ℕ) : Type 0 where
   pub x : ℤ
   pub spanning : Spanning d x l
   pub distinct : Distinct ends
   pub inside : (i : ℕ) → length d + i ∈ ends → isVertical (segmentAt d i) ≡ false → i ∈ l
 
 -- what enters of places from..to, all that is not vertical, spans the strip of the list too. All of the list are places before these
-pub record Entering (d : Drawing) (from to : ℕ) (l : List ℕ) : Type 0 where
+pub record CanEnter (d : Drawing) (from to : ℕ) (l : List ℕ) : Type 0 where
   pub x : ℤ
   pub spanning : Spanning d x l
   pub earlier : (i : ℕ) → i ∈ l → i < from

@@ -15,7 +15,7 @@ ghost use Rattle.segm.specs.Segments.{segments, segmentAt};
 ghost use Rattle.meetings.specs.Meetings.{Proper};
 ghost use Rattle.strip.specs.Strip.{Next};
 ghost use Rattle.neighbours.specs.Neighbours.{Ready, Known, Ordered, Distinct};
-ghost use Rattle.open_list.specs.OpenList.{StandsOver, StandsUnder, FitsAt, ClosesAt, Spanning, Leaving, Entering, Left, Entered};
+ghost use Rattle.open_list.specs.OpenList.{StandsOver, StandsUnder, FitsAt, ClosesAt, Spanning, CanLeave, CanEnter, Left, Entered};
 
 // How many segments are open, a place of the list, and whether all tests were passed so far. The place is where a segment left or entered: at one x ends and
 // starts come in order, so that of the next one is near; and what changes at the next x is often near the first that changed at this one.
@@ -98,7 +98,7 @@ fn leave_one(s: &[i32], e: u32, list: &mut [u32], count: usize, near: usize) -> 
         × Distinct l) ⌝ }
     ensures { λ r. ⌜ (let d = segments (now (s .entry)) in let l = take count (now (list .entry)) in
         (r .clear ≡ true → ((r .count ≤ count) × Left d (e ∷ []) l (take (r .count) (now (list .exit)))))
-        × (Leaving d (e ∷ []) l → r .clear ≡ true)) ⌝ }
+        × (CanLeave d (e ∷ []) l → r .clear ≡ true)) ⌝ }
 {
     let n = segm::count(s);
     let end = e as usize;
@@ -189,7 +189,7 @@ pub fn leave_all(s: &[i32], ends: &[u32], list: &mut [u32], count: usize, guess:
         × Distinct l) ⌝ }
     ensures { λ r. ⌜ (let d = segments (now (s .entry)) in let l = take count (now (list .entry)) in
         (r .clear ≡ true → ((r .count ≤ count) × Left d (now (ends .entry)) l (take (r .count) (now (list .exit)))))
-        × (Leaving d (now (ends .entry)) l → r .clear ≡ true)) ⌝ }
+        × (CanLeave d (now (ends .entry)) l → r .clear ≡ true)) ⌝ }
 {
     let mut held = count;
     let mut near = guess;
@@ -263,7 +263,7 @@ fn enter_one(s: &[i32], i: usize, list: &mut [u32], count: usize, near: usize) -
         × Ordered d l) ⌝ }
     ensures { λ r. ⌜ (let d = segments (now (s .entry)) in let l = take count (now (list .entry)) in
         (r .clear ≡ true → ((r .count ≤ count + 1) × Entered d i (i + 1) l (take (r .count) (now (list .exit)))))
-        × (Entering d i (i + 1) l → r .clear ≡ true)) ⌝ }
+        × (CanEnter d i (i + 1) l → r .clear ≡ true)) ⌝ }
 {
     let t = segm::segment_at(s, i);
     if scan::is_vertical(t) {
@@ -307,7 +307,7 @@ pub fn enter_all(
         × Ordered d l) ⌝ }
     ensures { λ r. ⌜ (let d = segments (now (s .entry)) in let l = take count (now (list .entry)) in
         (r .clear ≡ true → ((r .count ≤ to) × Entered d from to l (take (r .count) (now (list .exit)))))
-        × (Entering d from to l → r .clear ≡ true)) ⌝ }
+        × (CanEnter d from to l → r .clear ≡ true)) ⌝ }
 {
     let mut held = count;
     let mut near = guess;

@@ -10,7 +10,7 @@ use Rattle.geom.specs.declared.Point.{Point}
 use Rattle.segm.specs.Lists.{tally}
 use Rattle.segm.proofs.Tallies.{in-left, in-right, tally-take, tally-part}
 use Rattle.contour.specs.Points.{pairUp, cut, AllInRange}
-use Rattle.contour.proofs.Coordinates.{pairs-take, pairs-drop, length-pairs}
+use Rattle.contour.proofs.Coordinates.{pairUp-take, pairUp-drop, length-pairs}
 use Rattle.string_split.specs.Splitting.{Splittable}
 use Rattle.slice_cut.specs.Cutting.{pathsIn, Stand}
 
@@ -78,7 +78,7 @@ module _ {points : List ℤ} {lengths : List ℕ} (s : Stand points lengths) whe
     pub path-is : pairUp (take (from + 2 * n - from) (drop from points)) ≡ getD (pathsIn points lengths) k []
     path-is =
         let e : from + 2 * n - from ≡ 2 * n = omega arith in
-        rw (e, pairs-take (drop from points) n, place, pairs-drop points (total (take k lengths)))
+        rw (e, pairUp-take (drop from points) n, place, pairUp-drop points (total (take k lengths)))
         (sym (cut-at lengths (pairUp points) k inside))
 
     pub length-path : length (take (from + 2 * n - from) (drop from points)) ≡ 2 * n

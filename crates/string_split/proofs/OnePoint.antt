@@ -11,7 +11,7 @@ use lib.IntN.{ℤ}
 use borrow.Author.Tests.{ltb-true, lt-ltb, le-ltb}
 use Rattle.geom.specs.declared.Point.{Point}
 use Rattle.contour.specs.Points.{pairUp}
-use Rattle.contour.proofs.Coordinates.{pairs-take, pairs-drop, length-pairs, pairs-set}
+use Rattle.contour.proofs.Coordinates.{pairUp-take, pairUp-drop, length-pairs, pairs-set}
 use Rattle.string_split.specs.Loops.{closed, Buffered, buffered, bufferPoint, rest}
 use Rattle.string_split.specs.Splitting.{front}
 
@@ -32,7 +32,7 @@ pub part-front : (l : List ℤ) (k n : ℕ) → k ≤ n → pairUp (take (2 * n 
 part-front l k n h =
     let e : 2 * n - 2 * k ≡ 2 * (n - k) = omega arith in
     let d : k + (n - k) ≡ n = omega arith in
-    rw e (pairs-take (drop (2 * k) l) (n - k) ∙ ap (take (n - k)) (pairs-drop l k) ∙ sym (drop-take k (n - k) (pairUp l)) ∙ ap (λ m. drop k (take m (pairUp l))) d)
+    rw e (pairUp-take (drop (2 * k) l) (n - k) ∙ ap (take (n - k)) (pairUp-drop l k) ∙ sym (drop-take k (n - k) (pairUp l)) ∙ ap (λ m. drop k (take m (pairUp l))) d)
 
 module _ (number : ℕ) (buffer : List Point) (p : Point) where
   -- by the test

@@ -14,19 +14,19 @@ module _ (s : Segment) where
   unfolding isVertical
   vertical-by e = eq-eqZ e
 
-  pub slanted-by : (s .a .x ≡ s .b .x → ⊥) → isVertical s ≡ false
+  pub not-vertical-by : (s .a .x ≡ s .b .x → ⊥) → isVertical s ≡ false
   unfolding isVertical
-  slanted-by h = ne-eqZ h
+  not-vertical-by h = ne-eqZ h
 
-  pub slanted-ends : isVertical s ≡ false → s .a .x ≡ s .b .x → ⊥
-  slanted-ends v e = clash (vertical-by e) v
+  pub not-vertical-ends : isVertical s ≡ false → s .a .x ≡ s .b .x → ⊥
+  not-vertical-ends v e = clash (vertical-by e) v
 
-  pub wide-slanted : Wide s → isVertical s ≡ false
-  wide-slanted w = slanted-by (λ e. let l = w .goes in omega ints)
+  pub wide-not-vertical : Wide s → isVertical s ≡ false
+  wide-not-vertical w = not-vertical-by (λ e. let l = w .goes in omega ints)
 
-  pub slanted-wide : Before (s .a) (s .b) → isVertical s ≡ false → Wide s
-  slanted-wide (inl h) v = record { goes = h }
-  slanted-wide (inr h) v = absurd (slanted-ends v (h .0))
+  pub not-vertical-wide : Before (s .a) (s .b) → isVertical s ≡ false → Wide s
+  not-vertical-wide (inl h) v = record { goes = h }
+  not-vertical-wide (inr h) v = absurd (not-vertical-ends v (h .0))
 
   pub vertical-not-wide : isVertical s ≡ true → Wide s → ⊥
-  vertical-not-wide v w = clash v (wide-slanted w)
+  vertical-not-wide v w = clash v (wide-not-vertical w)

@@ -10,7 +10,7 @@ use Rattle.integers.proofs.Booleans.{clash}
 use Rattle.segm.specs.Segments.{Drawing, segments}
 use Rattle.open_list.specs.OpenList.{Entered}
 use Rattle.open_list.proofs.Laws.{none-entered, entered-more, entered-known}
-use Rattle.open_list.proofs.Spanning.{entering-next}
+use Rattle.open_list.proofs.Spanning.{can-enter-next}
 use Rattle.open_list.proofs.enter_all.Statement.{statement}
 use Rattle.open_list.proofs.enter_all.Tie as tie
 
@@ -49,7 +49,7 @@ returns c =
     let l = c .before .before .before .before .before .before .before .before .loop in
     let s = c .before .before .before .before .before .before .before .before .before .before in
     let one = c .before .before .before .before .before .enter-one in
-    let next = entering-next (segments (s .args .s .now)) (s .args .from) (l .i) (s .args .to) (take (s .args .count) (s .args .list .now)) (take (l .held) (l .list)) (l .inv .since) (omega arith) in
+    let next = can-enter-next (segments (s .args .s .now)) (s .args .from) (l .i) (s .args .to) (take (s .args .count) (s .args .list .now)) (take (l .held) (l .list)) (l .inv .since) (omega arith) in
     (λ t. absurd (clash t (c .unclear .ensures)), λ w. absurd (clash (one .ensures .1 (next w (l .inv .entered))) (not-true _ (c .before .if1 .taken))))
 
 first-place-requires : tie.Need-first-place-requires Inv-loop μ-loop

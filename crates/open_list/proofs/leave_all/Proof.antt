@@ -13,7 +13,7 @@ use Rattle.segm.specs.Segments.{Drawing, segments}
 use Rattle.segm.proofs.Lists.{in-at}
 use Rattle.open_list.specs.OpenList.{Left}
 use Rattle.open_list.proofs.Laws.{none-left, left-more, left-known}
-use Rattle.open_list.proofs.Spanning.{leaving-next}
+use Rattle.open_list.proofs.Spanning.{can-leave-next}
 use Rattle.open_list.proofs.leave_all.Statement.{statement}
 use Rattle.open_list.proofs.leave_all.Tie as tie
 
@@ -57,7 +57,7 @@ returns c =
     let l = c .before .before .before .before .before .before .before .before .before .loop in
     let s = c .before .before .before .before .before .before .before .before .before .before .before .before in
     let one = c .before .before .before .before .before .leave-one in
-    let next = leaving-next (segments (s .args .s .now)) (s .args .ends .now) (take (s .args .count) (s .args .list .now)) (take (l .held) (l .list)) (l .k) (omega arith) in
+    let next = can-leave-next (segments (s .args .s .now)) (s .args .ends .now) (take (s .args .count) (s .args .list .now)) (take (l .held) (l .list)) (l .k) (omega arith) in
     (λ t. absurd (clash t (c .unclear .ensures)), λ w. absurd (clash (one .ensures .1 (next w (l .inv .left))) (not-true _ (c .before .if1 .taken))))
 
 first-place-requires : tie.Need-first-place-requires Inv-loop μ-loop

@@ -12,7 +12,7 @@ use Rattle.segm.specs.Lists.{keep}
 use Rattle.segm.proofs.Tallies.{keep-++, length-keep}
 use Rattle.contour.specs.Points.{pairUp, AllInRange, Writes}
 use Rattle.contour.specs.Area.{isLarge}
-use Rattle.contour.proofs.Coordinates.{length-pairs, pairs-take}
+use Rattle.contour.proofs.Coordinates.{length-pairs, pairUp-take}
 use Rattle.bin_store.specs.Bins.{Binned}
 use Rattle.string_split.specs.declared.buffer.Found.{Found}
 use Rattle.string_split.specs.Loops.{Buffered, bufferPoints, rest, allLoops, splitLoops}
@@ -129,7 +129,7 @@ module _ (t : tie.After-take-points) where
   part-length = length-take-le (2 * len) buffer room
 
   part-is : pairUp part ≡ all .buffer
-  part-is = pairs-take buffer len ∙ t .take-points .ensures .2
+  part-is = pairUp-take buffer len ∙ t .take-points .ensures .2
 
   splittable : Splittable part
   splittable = record {
