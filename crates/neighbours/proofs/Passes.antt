@@ -1,8 +1,8 @@
 -- A vertical segment and another that do not meet wrongly: the other passes under its foot or above its head, and of two vertical ones the one stands on the other.
 -- The converse of `passes-apart` and of `stacked`.
 use mathlib.Core.Path.{_≡_, refl, sym, _∙_}
-use mathlib.Core.Logic.{_⊎_, inl, inr}
-use lib.IntN.{ℤ, pos}
+use mathlib.Core.Logic.{_⊎_, inl, inr, ⊎-elim}
+use lib.IntN.{ℤ, pos, _-ℤ_, _*ℤ_}
 use lib.Signed.{_≤ℤ_, _<ℤ_}
 use Rattle.integers.proofs.Booleans.{clash}
 use Rattle.integers.proofs.Linear.{ints, of-pos, of--}
@@ -10,6 +10,7 @@ use Rattle.integers.proofs.Order.{order, lt-ltZ, le-ltZ, lt-le}
 use Rattle.geom.specs.declared.Point.{Point}
 use Rattle.segm.specs.declared.Segment.{Segment}
 use Rattle.meetings.specs.Meetings.{side}
+use Rattle.strip.specs.Strip.{reach}
 use Rattle.strip.proofs.Signs.{Sign, minus, nil, plus, sign, down-neg, down-pos}
 use Rattle.strip.proofs.Gap.{side-at-a, side-at-b}
 use Rattle.strip.proofs.Apart.{Between, Apart, Wide, wide, vertical-one-side}
@@ -42,47 +43,33 @@ module _ {v s : Segment} (u : Upright v) (w : Wide s) (k : Apart v s) (from : s 
   not-parted : side s (v .a) <ℤ pos 0 → pos 0 <ℤ side s (v .b) → ⊥
   not-parted f g = go (order (s .a .x) (v .a .x)) (order (v .a .x) (s .b .x))
     where
-      -- an end of s at v's x would be between v's
-      between-a : s .a .x ≡ v .a .x → Between v (s .a)
-      between-a e =
-          let p = down-neg (wide w) (side-at-a s (v .a) (sym e)) f in
-          let q = down-pos (wide w) (side-at-a s (v .b) (u .plumb ∙ sym e)) g in
-          (inr (sym e, omega (ints, of-- (v .a .y) (s .a .y), of-pos 0)), inr (e ∙ sym (u .plumb), omega (ints, of-- (v .b .y) (s .a .y), of-pos 0)))
-
-      between-b : s .b .x ≡ v .a .x → Between v (s .b)
-      between-b e =
-          let p = down-neg (wide w) (side-at-b s (v .a) (sym e)) f in
-          let q = down-pos (wide w) (side-at-b s (v .b) (u .plumb ∙ sym e)) g in
-          (inr (sym e, omega (ints, of-- (v .a .y) (s .b .y), of-pos 0)), inr (e ∙ sym (u .plumb), omega (ints, of-- (v .b .y) (s .b .y), of-pos 0)))
+      -- an end p of s at v's x would be between v's
+      between : (p : Point) → ((q : Point) → q .x ≡ p .x → side s q ≡ reach s *ℤ (q .y -ℤ p .y)) → p .x ≡ v .a .x → Between v p
+      between p at e =
+          let l = down-neg (wide w) (at (v .a) (sym e)) f in
+          let m = down-pos (wide w) (at (v .b) (u .plumb ∙ sym e)) g in
+          (inr (sym e, omega (ints, of-- (v .a .y) (p .y), of-pos 0)), inr (e ∙ sym (u .plumb), omega (ints, of-- (v .b .y) (p .y), of-pos 0)))
 
       go : (s .a .x <ℤ v .a .x) ⊎ (v .a .x ≤ℤ s .a .x) → (v .a .x <ℤ s .b .x) ⊎ (s .b .x ≤ℤ v .a .x) → ⊥
       go (inl a) (inl b) = clash (vertical-one-side k w (u .plumb) (u .rises) a b ∙ lt-ltZ f) (le-ltZ (lt-le g))
-      go (inl a) (inr b) = let e : s .b .x ≡ v .a .x = omega ints in k .on-b (in-line u (s .b) e) (between-b e)
-      go (inr a) b = let e : s .a .x ≡ v .a .x = omega ints in k .on-a (in-line u (s .a) e) (between-a e)
+      go (inl a) (inr b) = let e : s .b .x ≡ v .a .x = omega ints in k .on-b (in-line u (s .b) e) (between (s .b) (side-at-b s) e)
+      go (inr a) b = let e : s .a .x ≡ v .a .x = omega ints in k .on-a (in-line u (s .a) e) (between (s .a) (side-at-a s) e)
 
   module _ (e : Segment → Point) (inner : Inner e (v .a .x) s) where
     pub foot-over : pos 0 <ℤ side s (v .b) → Under e (v .a) s
     foot-over g = go (sign (side s (v .a)))
       where
-        on : (e s ≡ v .a) ⊎ Between s (v .a) → side s (v .a) ≡ pos 0 → Under e (v .a) s
-        on (inl q) z = inr q
-        on (inr b) z = absurd (k .a-on z b)
-
         go : Sign (side s (v .a)) → Under e (v .a) s
         go (plus f) = inl f
-        go (nil z) = on (inner (v .a) refl z) z
+        go (nil z) = ⊎-elim inr (λ b. absurd (k .a-on z b)) (inner (v .a) refl z)
         go (minus f) = absurd (not-parted f g)
 
     pub head-under : side s (v .b) ≤ℤ pos 0 → Above e (v .b) s
     head-under g = go (sign (side s (v .b)))
       where
-        on : (e s ≡ v .b) ⊎ Between s (v .b) → side s (v .b) ≡ pos 0 → Above e (v .b) s
-        on (inl q) z = inr q
-        on (inr b) z = absurd (k .b-on z b)
-
         go : Sign (side s (v .b)) → Above e (v .b) s
         go (plus f) = absurd (omega ints)
-        go (nil z) = on (inner (v .b) (u .plumb) z) z
+        go (nil z) = ⊎-elim inr (λ b. absurd (k .b-on z b)) (inner (v .b) (u .plumb) z)
         go (minus f) = inl f
 
 -- ---- two vertical ones at one x: the one that starts no lower stands on the other
