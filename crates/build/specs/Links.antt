@@ -1,5 +1,5 @@
 -- Kept links: which segments a clip run keeps. The contracts of `build` cite these. Assumes nothing.
-use mathlib.Core.List.{List, [], _∷_, map}
+use mathlib.Core.List.{map}
 use mathlib.Core.Bool.{Bool, not, _&&_, cond}
 use Prim.Native.Nat.{ℕ, _+_, _/_, _%_}
 use lib.Dec.{eqb, ltb}
@@ -44,9 +44,3 @@ linesIf kept s = cond kept s (record { a = s .a; b = s .b; winding = s .winding;
 -- the segments of a drawing, those that a run does not keep without their line bits. (The walk over these has the paths of the kept links)
 unfoldable pub masked : Rule → Filter → Drawing → Drawing
 masked rule filter d = map (λ s. linesIf (keeps filter (fill rule d s)) s) d
-
--- the same, each segment by its entry in a list of fills
-unfoldable pub maskedBy : Filter → Drawing → List ℕ → Drawing
-maskedBy filter [] fills = []
-maskedBy filter (s ∷ d) [] = []
-maskedBy filter (s ∷ d) (f ∷ fills) = linesIf (keeps filter f) s ∷ maskedBy filter d fills

@@ -6,8 +6,9 @@ ghost use Prim.Native.Nat.{_*_, _≤_};
 ghost use lib.ListN.{length};
 ghost use Rattle.segm.specs.Lists.{written};
 ghost use Rattle.segm.specs.Segments.{width, segments, laid};
+ghost use Rattle.count_up.specs.CountUp.{Counted};
 ghost use Rattle.checks.specs.Accepted.{Good};
-ghost use Rattle.build.specs.Links.{keepsSides, keeps, filterOf, linesIf, maskedBy, masked};
+ghost use Rattle.build.specs.Links.{keepsSides, keeps, filterOf, linesIf, masked};
 
 // The four filters of a clip run: which side of the outline, and whether lines on the outline count as inside.
 pub enum Filter {
@@ -64,25 +65,19 @@ fn lines_if(kept: bool, t: Segment) -> Segment
     u
 }
 
-// Writes the segments, those whose entry in fills is not kept without their line bits.
-fn write_links(s: &[i32], fills: &[u8], filter: Filter, links: &mut [i32])
-    requires { ⌜ (length (segments (now s)) ≤ length (now fills)) × (length (segments (now s)) * width ≤ length (now links)) ⌝ }
-    ensures { λ _. ⌜ now (links .exit) ≡ written (laid (maskedBy filter (segments (now (s .entry))) (now (fills .entry)))) (now (links .entry)) ⌝ }
+// Writes the segments of an accepted drawing, those that a clip run does not keep without their line bits.
+pub fn masked_links(s: &[i32], rule: Rule, filter: Filter, tops: &[i32], links: &mut [i32])
+    requires { ⌜ Good (segments (now s))
+        × Counted (segments (now s)) (now tops)
+        × (length (segments (now s)) ≤ length (now tops))
+        × (length (segments (now s)) * width ≤ length (now links)) ⌝ }
+    ensures { λ _. ⌜ now (links .exit) ≡ written (laid (masked rule filter (segments (now (s .entry))))) (now (links .entry)) ⌝ }
 {
     let n = segm::count(s);
     let mut i: usize = 0;
     while i < n {
-        let kept = keeps(filter, fills[i]);
+        let kept = keeps(filter, top_fills::fill_at(s, rule, tops, i));
         segm::put(links, i, lines_if(kept, segm::segment_at(s, i)));
         i += 1;
     }
-}
-
-// Writes the segments of an accepted drawing, those that a clip run does not keep without their line bits. The list `fills` is working memory.
-pub fn masked_links(s: &[i32], rule: Rule, filter: Filter, fills: &mut [u8], links: &mut [i32])
-    requires { ⌜ Good (segments (now s)) × (length (segments (now s)) ≤ length (now fills)) × (length (segments (now s)) * width ≤ length (now links)) ⌝ }
-    ensures { λ _. ⌜ now (links .exit) ≡ written (laid (masked rule filter (segments (now (s .entry))))) (now (links .entry)) ⌝ }
-{
-    fill_sweep::write_fills(s, rule, fills);
-    write_links(s, fills, filter, links);
 }

@@ -15,10 +15,11 @@ use Rattle.checks.specs.Drawing.{meetingAt}
 use Rattle.checks.specs.Verdict.{first}
 use Rattle.checks.specs.Search.{Sound}
 use Rattle.checks.proofs.Faults.{at, proper-at, rising-starts, meetingless}
+use Rattle.checks.proofs.Balances.{winding-bound}
 use Rattle.checks.proofs.Places.{all-none, first-none}
 
 pub ready : (d : Drawing) → Sound d → Ready d
-ready d h = record { few = h .few; proper = proper-at d h; rising = rising-starts d (at d h) }
+ready d h = record { few = h .few; proper = proper-at d h; rising = rising-starts d (at d h); winding = λ i l. winding-bound (segmentAt d i) (at d h i l .winding) }
 
 -- 8 fits nowhere exactly where no two segments meet wrongly
 pub no-meeting : (d : Drawing) → (first (meetingAt d) d ≡ Accepted) ↔ NoneMeetWrongly d

@@ -6,3 +6,4 @@ pub mod Order
 pub mod Listed
 pub mod Good
 pub mod Cases
+pub mod Memory

@@ -2,13 +2,14 @@
 use mathlib.Core.Path.{_≡_}
 use mathlib.Core.List.{List}
 use Prim.Native.Nat.{ℕ, _*_, _<_, _≤_}
-use lib.ListN.{length, take}
-use lib.IntN.{ℤ}
+use lib.ListN.{length, getD, take}
+use lib.IntN.{ℤ, pos}
 use Rattle.segm.specs.Lists.{upFrom}
 use Rattle.segm.specs.Segments.{Drawing, segments}
 use Rattle.ends.specs.Ends.{endBefore}
 use Rattle.ends.specs.Ordering.{ordering}
 use Rattle.graph.specs.Nodes.{NodesIn}
+use Rattle.count_up.specs.CountUp.{Counted}
 use Rattle.balance.specs.Balance.{Numbered}
 use Rattle.checks.specs.declared.Search.{Search}
 use Rattle.checks.specs.declared.Search.the-variants.{Faults, Meetings}
@@ -43,3 +44,19 @@ pub record NumberedIn (d : Drawing) (nodes : List ℕ) : Type 0 where
 -- the nodes of the drawing that numbers are, at the front of lists
 abbrev pub NodesOf : List ℤ → (flat starts nodes : List ℕ) → Type 0
 NodesOf numbers flat starts nodes = NodesIn (segments numbers) flat starts nodes
+
+-- its top counts
+abbrev pub CountedOf : (numbers tops : List ℤ) → Type 0
+CountedOf numbers tops = Counted (segments numbers) tops
+
+-- working memory for the nodes and the top counts of a drawing, unless it is too large
+pub record Room (d : Drawing) (flat starts nodes : List ℕ) (tops : List ℤ) : Type 0 where
+  pub flat-room : length d ≤ 1024 → 2 * length d ≤ length flat
+  pub starts-room : length d ≤ 1024 → 2 * length d < length starts
+  pub nodes-room : length d ≤ 1024 → 2 * length d ≤ length nodes
+  pub tops-room : length d ≤ 1024 → length d ≤ length tops
+  pub blank : (i : ℕ) → getD tops i (pos 0) ≡ pos 0
+
+-- the same for the drawing that numbers are
+abbrev pub RoomOf : List ℤ → (flat starts nodes : List ℕ) → List ℤ → Type 0
+RoomOf numbers flat starts nodes tops = Room (segments numbers) flat starts nodes tops

@@ -1,21 +1,22 @@
 // Which drawings are turned down, with which number and place: refusals 2 to 11. Every function here is proved, and the crate assumes nothing of its own.
-// No public function has a `requires`: any numbers, any choices and any lengths of lent lists get a verdict.
+// No public function asks anything of a drawing, of choices or of the lengths of lent lists: all get a verdict. Working memory has to be long enough.
 use geom::Point;
 use segm::Segment;
 ghost use mathlib.Core.Path.{_≡_};
-ghost use Prim.Native.Nat.{_-_, _*_, _<_};
+ghost use Prim.Native.Nat.{_-_, _*_, _<_, _≤_};
 ghost use lib.ListN.{length, drop};
 ghost use Rattle.segm.specs.Lists.{any, upFrom};
 ghost use Rattle.segm.specs.Segments.{segments};
 ghost use Rattle.ends.specs.Ends.{endBefore};
 ghost use Rattle.ends.specs.Ordering.{ordering};
 ghost use Rattle.meetings.specs.Meetings.{Proper, meetsWrongly};
+ghost use Rattle.count_up.specs.CountUp.{Within, Counted};
 ghost use Rattle.balance.specs.Balance.{Numbered};
 ghost use Rattle.checks.specs.declared.Verdict.the-variants.{Accepted};
 ghost use Rattle.checks.specs.Drawing.{fault, faultAt, meetingAt, unbalancedAt};
 ghost use Rattle.checks.specs.Verdict.{wrongLength, unknownChoice, tooShort, first, _then_, inOrder, verdict};
 ghost use Rattle.checks.specs.Runs.{upTo, lent, fillsRun, clipRun, sliceRun};
-ghost use Rattle.checks.specs.Search.{Sound, Ready, numberAt, OrderedIn, NumberedIn, NodesOf};
+ghost use Rattle.checks.specs.Search.{Sound, Ready, numberAt, OrderedIn, NumberedIn, NodesOf, CountedOf, Room, RoomOf};
 
 // What a check finds: nothing wrong, or a refusal's number and place.
 pub enum Verdict {
@@ -128,11 +129,17 @@ fn find_first(search: Search, s: &[i32]) -> Verdict
 }
 
 // Refusal 8, at the first place of a segment that meets a later one wrongly. The sweep tells whether there is one, and only then are pairs looked at, to name it.
-fn find_meeting(s: &[i32], flat: &[u32]) -> Verdict
-    requires { ⌜ Sound (segments (now s)) × (now flat ≡ ordering (endBefore (segments (now s))) (upFrom 0 (2 * length (segments (now s))))) ⌝ }
-    ensures { λ r. ⌜ r ≡ first (meetingAt (segments (now (s .entry)))) (segments (now (s .entry))) ⌝ }
+// Where there is none the sweep has left the top counts.
+fn find_meeting(s: &[i32], flat: &[u32], tops: &mut [i32]) -> Verdict
+    requires { ⌜ (let d = segments (now s) in
+        Sound d
+        × (now flat ≡ ordering (endBefore d) (upFrom 0 (2 * length d)))
+        × (length d ≤ length (now tops))
+        × Within 0 (now tops)) ⌝ }
+    ensures { λ r. ⌜ (let d = segments (now (s .entry)) in
+        (r ≡ first (meetingAt d) d) × (r ≡ Accepted → Counted d (now (tops .exit)))) ⌝ }
 {
-    if meeting_sweep::is_clear(s, flat) {
+    if meeting_sweep::is_clear(s, flat, tops) {
         return Verdict::Accepted;
     }
     find_first(Search::Meetings, s)
@@ -150,20 +157,26 @@ fn find_unbalanced(s: &[i32], nodes: &[u32]) -> Verdict
     Verdict::Refused(9, place)
 }
 
-// Refusals 8 and 9, by the ordered ends and their nodes.
-fn find_by_ends(s: &[i32], flat: &[u32], nodes: &[u32]) -> Verdict
-    requires { ⌜ Sound (segments (now s)) × OrderedIn (segments (now s)) (now flat) × NumberedIn (segments (now s)) (now nodes) ⌝ }
-    ensures { λ r. ⌜ r ≡ (first (meetingAt (segments (now (s .entry)))) (segments (now (s .entry))) then first (unbalancedAt (segments (now (s .entry)))) (segments (now (s .entry)))) ⌝ }
+// Refusals 8 and 9, by the ordered ends and their nodes; the top counts of a drawing that has neither.
+fn find_by_ends(s: &[i32], flat: &[u32], nodes: &[u32], tops: &mut [i32]) -> Verdict
+    requires { ⌜ (let d = segments (now s) in
+        Sound d
+        × OrderedIn d (now flat)
+        × NumberedIn d (now nodes)
+        × (length d ≤ length (now tops))
+        × Within 0 (now tops)) ⌝ }
+    ensures { λ r. ⌜ (let d = segments (now (s .entry)) in
+        (r ≡ (first (meetingAt d) d then first (unbalancedAt d) d)) × (r ≡ Accepted → Counted d (now (tops .exit)))) ⌝ }
 {
     let e = 2 * segm::count(s);
-    let meetings = find_meeting(s, &flat[..e]);
+    let meetings = find_meeting(s, &flat[..e], tops);
     let Verdict::Accepted = meetings else {
         return meetings;
     };
     find_unbalanced(s, &nodes[..e])
 }
 
-// Every refusal in its order, of which 10 and 11 have been tried. An accepted drawing's nodes are left in the lists.
+// Every refusal in its order, of which 10 and 11 have been tried. An accepted drawing's nodes and top counts are left in the lists.
 fn in_order(
     s: &[i32],
     unknown: bool,
@@ -171,10 +184,11 @@ fn in_order(
     flat: &mut [u32],
     starts: &mut [u32],
     nodes: &mut [u32],
+    tops: &mut [i32],
 ) -> Verdict
-    requires { ⌜ (length (now flat) ≡ 2048) × (length (now starts) ≡ 2049) × (length (now nodes) ≡ 2048) ⌝ }
+    requires { ⌜ Room (segments (now s)) (now flat) (now starts) (now nodes) (now tops) ⌝ }
     ensures { λ r. ⌜ (r ≡ inOrder (wrongLength (now (s .entry))) unknown short (segments (now (s .entry))))
-        × (r ≡ Accepted → NodesOf (now (s .entry)) (now (flat .exit)) (now (starts .exit)) (now (nodes .exit))) ⌝ }
+        × (r ≡ Accepted → (NodesOf (now (s .entry)) (now (flat .exit)) (now (starts .exit)) (now (nodes .exit)) × CountedOf (now (s .entry)) (now (tops .exit)))) ⌝ }
 {
     if !segm::is_whole(s) {
         return Verdict::Refused(2, 0);
@@ -193,7 +207,7 @@ fn in_order(
         return faults;
     };
     graph::write_nodes(s, flat, starts, nodes);
-    find_by_ends(s, flat, nodes)
+    find_by_ends(s, flat, nodes, tops)
 }
 
 // Whether a choice is none of 0 to the greatest.
@@ -211,21 +225,28 @@ fn is_short(entries: usize, each: usize, n: usize) -> bool
     entries / each < n
 }
 
-// The verdict on a fills run.
-pub fn check_fills(segments: &[i32], rule: i32, fills: usize) -> Verdict
-    ensures { λ r. ⌜ r ≡ verdict (fillsRun (now (segments .entry)) rule fills) ⌝ }
+// The verdict on a fills run. The lists `flat`, `starts`, `nodes` and `tops`, of which the last is all 0, are working memory of the run that comes: an accepted
+// drawing's nodes and top counts are left in them, and after a refusal they hold anything.
+pub fn check_fills(
+    segments: &[i32],
+    rule: i32,
+    fills: usize,
+    flat: &mut [u32],
+    starts: &mut [u32],
+    nodes: &mut [u32],
+    tops: &mut [i32],
+) -> Verdict
+    requires { ⌜ RoomOf (now segments) (now flat) (now starts) (now nodes) (now tops) ⌝ }
+    ensures { λ r. ⌜ (r ≡ verdict (fillsRun (now (segments .entry)) rule fills))
+        × (r ≡ Accepted → (NodesOf (now (segments .entry)) (now (flat .exit)) (now (starts .exit)) (now (nodes .exit)) × CountedOf (now (segments .entry)) (now (tops .exit)))) ⌝ }
 {
     let n = segm::count(segments);
     let unknown = is_unknown(rule, 3);
     let short = is_short(fills, 1, n);
-    let mut flat = [0u32; 2048];
-    let mut starts = [0u32; 2049];
-    let mut nodes = [0u32; 2048];
-    in_order(segments, unknown, short, &mut flat, &mut starts, &mut nodes)
+    in_order(segments, unknown, short, flat, starts, nodes, tops)
 }
 
-// The verdict on a clip run. The lists `flat`, `starts` and `nodes` are working memory of the run that comes: an accepted drawing's nodes are left in them, and
-// after a refusal they hold anything.
+// The verdict on a clip run, with the same lists.
 pub fn check_clip(
     segments: &[i32],
     rule: i32,
@@ -233,17 +254,19 @@ pub fn check_clip(
     boundary: i32,
     points: usize,
     lengths: usize,
-    flat: &mut [u32; 2048],
-    starts: &mut [u32; 2049],
-    nodes: &mut [u32; 2048],
+    flat: &mut [u32],
+    starts: &mut [u32],
+    nodes: &mut [u32],
+    tops: &mut [i32],
 ) -> Verdict
+    requires { ⌜ RoomOf (now segments) (now flat) (now starts) (now nodes) (now tops) ⌝ }
     ensures { λ r. ⌜ (r ≡ verdict (clipRun (now (segments .entry)) rule invert boundary points lengths))
-        × (r ≡ Accepted → NodesOf (now (segments .entry)) (now (flat .exit)) (now (starts .exit)) (now (nodes .exit))) ⌝ }
+        × (r ≡ Accepted → (NodesOf (now (segments .entry)) (now (flat .exit)) (now (starts .exit)) (now (nodes .exit)) × CountedOf (now (segments .entry)) (now (tops .exit)))) ⌝ }
 {
     let n = segm::count(segments);
     let unknown = is_unknown(rule, 3) | (is_unknown(invert, 1) | is_unknown(boundary, 1));
     let short = is_short(points, 8, n) | is_short(lengths, 2, n);
-    in_order(segments, unknown, short, flat, starts, nodes)
+    in_order(segments, unknown, short, flat, starts, nodes, tops)
 }
 
 // The verdict on a slice run, with the same lists.
@@ -254,15 +277,17 @@ pub fn check_slice(
     points: usize,
     lengths: usize,
     roles: usize,
-    flat: &mut [u32; 2048],
-    starts: &mut [u32; 2049],
-    nodes: &mut [u32; 2048],
+    flat: &mut [u32],
+    starts: &mut [u32],
+    nodes: &mut [u32],
+    tops: &mut [i32],
 ) -> Verdict
+    requires { ⌜ RoomOf (now segments) (now flat) (now starts) (now nodes) (now tops) ⌝ }
     ensures { λ r. ⌜ (r ≡ verdict (sliceRun (now (segments .entry)) rule direction points lengths roles))
-        × (r ≡ Accepted → NodesOf (now (segments .entry)) (now (flat .exit)) (now (starts .exit)) (now (nodes .exit))) ⌝ }
+        × (r ≡ Accepted → (NodesOf (now (segments .entry)) (now (flat .exit)) (now (starts .exit)) (now (nodes .exit)) × CountedOf (now (segments .entry)) (now (tops .exit)))) ⌝ }
 {
     let n = segm::count(segments);
     let unknown = is_unknown(rule, 3) | is_unknown(direction, 1);
     let short = is_short(points, 4, n) | (is_short(lengths, 2, n) | is_short(roles, 2, n));
-    in_order(segments, unknown, short, flat, starts, nodes)
+    in_order(segments, unknown, short, flat, starts, nodes, tops)
 }

@@ -3,5 +3,4 @@ pub mod Ends
 pub mod Merging
 pub mod Ordered
 pub mod Parts
-pub mod Turns
 pub mod Unique

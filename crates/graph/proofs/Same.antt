@@ -1,6 +1,6 @@
 -- Links with the same ends have the same nodes, whatever their windings and line bits.
 use mathlib.Core.Path.{_≡_, sym, ap, ap₂, subst, _∙_}
-use mathlib.Core.List.{List, _++_, map}
+use mathlib.Core.List.{List, map, _++_}
 use mathlib.Core.Bool.{cond}
 use Prim.Native.Nat.{ℕ, _-_, _*_, _<_}
 use native.Mathlib.Omega.{arith}
@@ -46,6 +46,7 @@ module _ (d e : Drawing) (n : length e ≡ length d) (a : (k : ℕ) → segmentA
     all-ends = omega (arith, n, h .all-ends);
     each-end = omega (arith, n, h .each-end);
     known = λ k l. h .known k (end-of l);
+    few = λ k l. omega (arith, n, h .few k (end-of l));
     same = λ i j k l p. h .same i j (end-of k) (end-of l) (sym (point-same i) ∙ p ∙ point-same j);
     at-one = λ i j k l p. point-same i ∙ h .at-one i j (end-of k) (end-of l) p ∙ sym (point-same j);
     rising = λ k l. h .rising k (end-of l);

@@ -14,13 +14,32 @@ pub struct Check {
     pub place: u64,
 }
 
-// The verdict on a drawing, of a clip run with known choices and lists that are long enough for any.
+// The verdict on a drawing, of a clip run with known choices and lists that are long enough for any; with memory for a small drawing or for any.
 fn verdict_of(segments: &[i32]) -> Verdict
     ensures { λ r. ⌜ r ≡ verdictOf (now (segments .entry)) ⌝ }
 {
+    if segm::count(segments) <= segm::SMALL {
+        let mut flat = [0u32; 256];
+        let mut starts = [0u32; 257];
+        let mut nodes = [0u32; 256];
+        let mut tops = [0i32; segm::SMALL];
+        return checks::check_clip(
+            segments,
+            0,
+            0,
+            0,
+            8192,
+            2048,
+            &mut flat,
+            &mut starts,
+            &mut nodes,
+            &mut tops,
+        );
+    }
     let mut flat = [0u32; 2048];
     let mut starts = [0u32; 2049];
     let mut nodes = [0u32; 2048];
+    let mut tops = [0i32; 1024];
     checks::check_clip(
         segments,
         0,
@@ -31,6 +50,7 @@ fn verdict_of(segments: &[i32]) -> Verdict
         &mut flat,
         &mut starts,
         &mut nodes,
+        &mut tops,
     )
 }
 
@@ -59,9 +79,10 @@ fn is_swept(s: &[i32]) -> bool
     let mut flat = [0u32; 2048];
     let mut starts = [0u32; 2049];
     let mut nodes = [0u32; 2048];
+    let mut tops = [0i32; 1024];
     graph::write_nodes(s, &mut flat, &mut starts, &mut nodes);
     let e = 2 * segm::count(s);
-    meeting_sweep::is_clear(s, &flat[..e])
+    meeting_sweep::is_clear(s, &flat[..e], &mut tops)
 }
 
 // What the sweep says of an accepted drawing: 1, clear, by proof, and the driver looks whether the compiled sweep says so. 2 of a refused one.

@@ -1,17 +1,18 @@
 -- Where no two segments meet wrongly, each test of each event finds what it asks for.
-use mathlib.Core.Path.{_≡_, sym, _∙_, subst}
+use mathlib.Core.Path.{_≡_, sym, ap, _∙_, subst}
 use mathlib.Core.List.{List}
 use mathlib.Core.Logic.{_⊎_, inl, inr}
 use mathlib.Core.Bool.{true, false}
 use Prim.Native.Nat.{ℕ, _+_, _-_, _<_, _≤_}
 use native.Mathlib.Omega.{arith}
-use native.Mathlib.Decide.{decLt}
+use native.Mathlib.Decide.{decLt, ℕ-discrete}
 use lib.ListN.{length, getD, take, drop}
-use lib.IntN.{ℤ}
+use lib.IntN.{ℤ, pos}
 use lib.Signed.{_≤ℤ_, _<ℤ_}
 use Rattle.integers.proofs.Booleans.{clash}
 use Rattle.integers.proofs.Linear.{ints}
 use Rattle.integers.proofs.Order.{order}
+use Rattle.geom.specs.declared.Point.{Point}
 use Rattle.geom.proofs.Points.{before}
 use Rattle.segm.specs.declared.Segment.{Segment}
 use Rattle.segm.specs.Lists.{_∈_, upFrom}
@@ -19,22 +20,23 @@ use Rattle.segm.specs.Segments.{Drawing, segmentAt}
 use Rattle.segm.proofs.Lists.{in-take, in-drop, pairs-take, pairs-drop}
 use Rattle.segm.proofs.Tallies.{cases, upFrom-in}
 use Rattle.ends.specs.Ends.{endPoint}
+use Rattle.ends.proofs.Ends.{end-a, end-b}
 use Rattle.graph.proofs.Flat.{Ordered}
-use Rattle.meetings.specs.Meetings.{NoneMeetWrongly}
+use Rattle.meetings.specs.Meetings.{side, NoneMeetWrongly}
 use Rattle.strip.specs.Strip.{isVertical}
-use Rattle.strip.proofs.Apart.{Over, places-apart}
+use Rattle.strip.proofs.Apart.{Apart, Between, Over, places-apart}
 use Rattle.strip.proofs.Vertical.{not-vertical-wide}
 use Rattle.strip.proofs.Above.{spans-on}
 use Rattle.neighbours.specs.Neighbours.{Ready, Known}
-use Rattle.neighbours.proofs.Upright.{Upright, vertical-upright}
+use Rattle.neighbours.proofs.Upright.{Upright, vertical-upright, in-line}
 use Rattle.neighbours.proofs.Passes.{stands-on}
 use Rattle.neighbours.proofs.Turn.{Coming, turn-quiet}
 use Rattle.open_list.specs.OpenList.{CanLeave, CanEnter, Left, Entered}
-use Rattle.verticals.specs.declared.Edge.the-variants.{Ends, Starts}
-use Rattle.verticals.specs.Verticals.{Stacked, Clears}
-use Rattle.verticals.proofs.ClearOf.{clear-of-ending, clear-of-starting}
+use Rattle.verticals.specs.Verticals.{Clears, Stands, Unbroken}
+use Rattle.verticals.proofs.ClearOf.{clear-of-starting}
+use Rattle.starts.specs.Starts.{CanStart}
 use Rattle.meeting_sweep.specs.Events.{Past, ClearEvent}
-use Rattle.meeting_sweep.proofs.Sweeping.{Along, proper, rising, end-x, coming, block-at, left-later, starts-later, along-known}
+use Rattle.meeting_sweep.proofs.Sweeping.{Along, proper, rising, end-x, coming, block-at, left-later, starts-later, earlier, column, along-known}
 
 module _ (d : Drawing) (flat : List ℕ) (ready : Ready d) (ends : Ordered d flat) (apart : NoneMeetWrongly d) where
   abbrev seg : ℕ → Segment
@@ -92,16 +94,7 @@ module _ (d : Drawing) (flat : List ℕ) (ready : Ready d) (ends : Ordered d fla
       inside = ending;
     }
 
-    -- ---- what enters
-    -- what is open started before
-    earlier : (j : ℕ) → j ∈ l → j < started
-    earlier j m = go (decLt j started) (decLt j started′)
-      where
-        go : Dec (j < started) → Dec (j < started′) → j < started
-        go (yes b) c = b
-        go (no b) (yes c) = absurd (let s = come .here j (omega arith) c in let o = over j m .from in let g = come .later in omega ints)
-        go (no b) (no c) = absurd (let s = come .after j (omega arith) (known j m) in let o = over j m .from in let g = come .later in omega ints)
-
+    -- ---- what starts
     module _ {between : List ℕ} (left : Left d block l between) where
       stays : (i : ℕ) → i ∈ between → Over y (seg i)
       stays i m = record { from = let o = over i (left .kept i m) .from in let g = come .later in omega ints; to = left-later d flat ready ends a more p q left i m }
@@ -113,27 +106,23 @@ module _ (d : Drawing) (flat : List ℕ) (ready : Ready d) (ends : Ordered d fla
       entering = record {
         x = y;
         spanning = record { apart = apart; across = λ i m. spans-on (stays i m) };
-        earlier = λ i m. earlier i (left .kept i m);
+        earlier = λ i m. earlier d flat ready ends a more p q i (left .kept i m);
         starting = λ i f t v. spans-on (starts i f t v);
       }
 
-      -- ---- vertical segments after it
-      after-y : {l′ : List ℕ} → Entered d started started′ between l′ → Clears d Starts started started′ l′
-      after-y entered v f t e i m =
-          let o = cases (stays i) (λ r. starts i (r .0) (r .1) (r .2)) (entered .mine i m) in
-          let h = cases (λ n. known i (left .kept i n)) (λ r. inside i (r .1)) (entered .mine i m) in
-          let s = come .here v f t in let b = o .from in let c = o .to in let u = upright v t e in
-          clear-of-starting u (places-apart d apart v i (inside v t) h (λ same. let g = subst (λ (j : ℕ). Over y (seg j)) (sym same) o .to in let w = u .plumb in omega ints)) (omega ints) (omega ints)
+      -- each list on the way is clear of the vertical segments
+      clears : (m : ℕ) (l′ : List ℕ) → m ≤ started′ → Entered d started m between l′ → Clears d started m l′
+      clears m l′ upto entered v f t e i n =
+          let o = cases (stays i) (λ r. starts i (r .0) (omega (arith, r .1)) (r .2)) (entered .mine i n) in
+          let h = cases (λ k. known i (left .kept i k)) (λ r. inside i (omega (arith, r .1))) (entered .mine i n) in
+          let s = come .here v f (omega arith) in let b = o .from in let c = o .to in let u = upright v (omega arith) e in
+          clear-of-starting u (places-apart d apart v i (inside v (omega arith)) h (λ same. let g = subst (λ (j : ℕ). Over y (seg j)) (sym same) o .to in let w = u .plumb in omega ints)) (omega ints) (omega ints)
 
-    -- ---- vertical segments before it
-    before-y : Clears d Ends started started′ l
-    before-y v f t e i m =
-        let o = over i m in let g = come .later in let s = come .here v f t in let b = come .ends i m in
-        let old : seg i .a .x <ℤ seg v .a .x = let c = o .from in omega ints in
-        clear-of-ending (upright v t e) (places-apart d apart v i (inside v t) (known i m) (λ same. let r = subst (λ (j : ℕ). seg i .a .x <ℤ seg j .a .x) same old in omega ints)) old (omega ints)
+      starting : CanStart d started started′ between
+      starting = record { entering = entering; clears = λ m l′ f t e. clears m l′ t e }
 
     -- ---- vertical segments on each other
-    stack : Stacked d started started′
+    stack : (v w : ℕ) → started ≤ v → v < w → w < started′ → isVertical (seg v) ≡ true → isVertical (seg w) ≡ true → seg v .b .y ≤ℤ seg w .a .y
     stack v w f h t e g =
         stands-on (upright v (omega arith) e) (upright w t g) level (places-apart d apart v w (omega (arith, q .till)) (inside w t) (λ same. omega arith)) (go (order (seg w .a .y) (seg v .a .y)))
       where
@@ -144,11 +133,61 @@ module _ (d : Drawing) (flat : List ℕ) (ready : Ready d) (ends : Ordered d fla
         go (inl l) = absurd (clash (before (inr (level, l))) (rising d flat ready ends v w h (inside w t)))
         go (inr l) = l
 
-    pub clear-event : ClearEvent d block started started′ l
-    clear-event = record {
-      before = before-y;
-      leaving = leaving;
-      entering = λ between left. entering left;
-      after = λ between l′ left. after-y left;
-      stack = stack;
+    -- ---- vertical segments and the ends there
+    starts-at : (v : ℕ) → v ∈ block → Stands d v → (started ≤ v) × (v < started′)
+    starts-at v m s = go (decLt v started) (decLt v started′)
+      where
+        at : seg v .a .x ≡ y
+        at = ap (λ (r : Point). r .x) (sym (end-a d v (s .inside))) ∙ block-at d flat ready ends a more p q v m
+
+        go : Dec (v < started) → Dec (v < started′) → (started ≤ v) × (v < started′)
+        go (yes b) c = absurd (let r = at in let g = come .later in let k = come .begun v b in omega ints)
+        go (no b) (yes c) = (omega arith, c)
+        go (no b) (no c) = absurd (let r = at in let k = come .after v (omega arith) (s .inside) in omega ints)
+
+    -- an end of another segment is not strictly between v's
+    not-within : (v : ℕ) → Upright (seg v) → v < length d → (i : ℕ) → i < length d → (o : Segment → Point) → ((k : Apart (seg v) (seg i)) → side (seg v) (o (seg i)) ≡ pos 0 → Between (seg v) (o (seg i)) → ⊥)
+        → o (seg i) .x ≡ seg v .a .x → ((o (seg i) .y ≡ seg v .a .y) ⊎ (seg v .b .y ≡ o (seg i) .y)) ⊎ (v ≡ i → ⊥) → (o (seg i) .y ≤ℤ seg v .a .y) ⊎ (seg v .b .y ≤ℤ o (seg i) .y)
+    not-within v u hv i hi o on at (inl (inl e)) = inl (omega ints)
+    not-within v u hv i hi o on at (inl (inr e)) = inr (omega ints)
+    not-within v u hv i hi o on at (inr ne) = go (order (seg v .a .y) (o (seg i) .y)) (order (o (seg i) .y) (seg v .b .y))
+      where
+        go : (seg v .a .y <ℤ o (seg i) .y) ⊎ (o (seg i) .y ≤ℤ seg v .a .y) → (o (seg i) .y <ℤ seg v .b .y) ⊎ (seg v .b .y ≤ℤ o (seg i) .y) → (o (seg i) .y ≤ℤ seg v .a .y) ⊎ (seg v .b .y ≤ℤ o (seg i) .y)
+        go (inr h) k = inl h
+        go (inl h) (inr k) = inr k
+        go (inl h) (inl k) = absurd (on (places-apart d apart v i hv hi ne) (in-line u (o (seg i)) at) (inr (sym at, h), inr (at ∙ sym (u .plumb), k)))
+
+    unbroken : Unbroken d block
+    unbroken = record {
+      beside = λ v m s e n. let (f, t) = starts-at v m s in beside v f t (s .vertical) e n (decLt e (length d)) (ℕ-discrete v e);
+      stack = λ v w m n s t ne. let (f, g) = starts-at v m s in let (f′, g′) = starts-at w n t in over v w f g f′ g′ (s .vertical) (t .vertical) ne (decLt v w);
     }
+      where
+        beside : (v : ℕ) → started ≤ v → v < started′ → isVertical (seg v) ≡ true → (e : ℕ) → e ∈ block → Dec (e < length d) → Dec (v ≡ e)
+            → (endPoint d e .y ≤ℤ seg v .a .y) ⊎ (seg v .b .y ≤ℤ endPoint d e .y)
+        beside v f t w e m (yes h) same =
+            let is = end-a d e h in
+            let at = ap (λ (r : Point). r .x) (sym is) ∙ block-at d flat ready ends a more p q e m ∙ sym (come .here v f t) in
+            subst (λ (r : Point). (r .y ≤ℤ seg v .a .y) ⊎ (seg v .b .y ≤ℤ r .y)) (sym is) (not-within v (upright v t w) (inside v t) e h (λ s. s .a) (λ k. k .on-a) at (own same))
+          where
+            own : Dec (v ≡ e) → ((seg e .a .y ≡ seg v .a .y) ⊎ (seg v .b .y ≡ seg e .a .y)) ⊎ (v ≡ e → ⊥)
+            own (yes r) = inl (inl (ap (λ (k : ℕ). seg k .a .y) (sym r)))
+            own (no r) = inr r
+        beside v f t w e m (no h) same =
+            let i = e - length d in
+            let is = end-b d e (omega arith) in
+            let known : i < length d = let b = column d flat ready ends a more p q .known e m in omega arith in
+            let at = ap (λ (r : Point). r .x) (sym is) ∙ block-at d flat ready ends a more p q e m ∙ sym (come .here v f t) in
+            subst (λ (r : Point). (r .y ≤ℤ seg v .a .y) ⊎ (seg v .b .y ≤ℤ r .y)) (sym is) (not-within v (upright v t w) (inside v t) i known (λ s. s .b) (λ k. k .on-b) at (own (ℕ-discrete v i)))
+          where
+            own : Dec (v ≡ e - length d) → ((seg (e - length d) .b .y ≡ seg v .a .y) ⊎ (seg v .b .y ≡ seg (e - length d) .b .y)) ⊎ (v ≡ e - length d → ⊥)
+            own (yes r) = inl (inr (ap (λ (k : ℕ). seg k .b .y) r))
+            own (no r) = inr r
+
+        over : (v w : ℕ) → started ≤ v → v < started′ → started ≤ w → w < started′ → isVertical (seg v) ≡ true → isVertical (seg w) ≡ true → (v ≡ w → ⊥) → Dec (v < w)
+            → (seg v .b .y ≤ℤ seg w .a .y) ⊎ (seg w .b .y ≤ℤ seg v .a .y)
+        over v w f g f′ g′ s t ne (yes h) = inl (stack v w f h g′ s t)
+        over v w f g f′ g′ s t ne (no h) = inr (stack w v f′ (omega arith) g t s)
+
+    pub clear-event : ClearEvent d block started started′ l
+    clear-event = record { unbroken = unbroken; leaving = leaving; starting = λ between left. starting left }

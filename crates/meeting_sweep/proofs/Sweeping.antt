@@ -3,36 +3,55 @@ use mathlib.Core.Path.{_≡_, sym, _∙_, ap, subst}
 use mathlib.Core.List.{List, []}
 use mathlib.Core.Logic.{_⊎_, inl, inr}
 use mathlib.Core.Bool.{true, false}
-use Prim.Native.Nat.{ℕ, suc, _+_, _-_, _*_, _≤_, _<_}
+use Prim.Native.Nat.{ℕ, suc, _+_, _-_, _≤_, _<_}
 use native.Mathlib.Omega.{arith}
 use native.Mathlib.Decide.{decLt}
 use lib.ListN.{length, getD, take, drop, length-drop}
 use lib.Seq.{getD-take, getD-drop, length-take-le}
 use lib.IntN.{ℤ, pos, negℤ}
 use lib.Signed.{_≤ℤ_, _<ℤ_, ≤ℤ-refl}
+use Rattle.integers.proofs.Booleans.{clash}
 use Rattle.integers.proofs.Linear.{ints, of-pos, of-neg, of-abs}
 use Rattle.integers.proofs.Order.{order}
 use Rattle.geom.specs.declared.Point.{Point}
 use Rattle.geom.specs.Points.{ltP, inRange}
-use Rattle.geom.proofs.Points.{near-x, Before, before, before-le, ltP-true, not-less-x}
+use Rattle.geom.proofs.Points.{near-x, Before, before, not-before, before-le, ltP-true, not-less-x}
 use Rattle.segm.specs.declared.Segment.{Segment}
 use Rattle.segm.specs.Lists.{_∈_, upFrom}
 use Rattle.segm.specs.Segments.{Drawing, segmentAt, nowhere}
-use Rattle.segm.proofs.Lists.{Stands, stands, pairs-of, pairs-places, in-after, in-at}
-use Rattle.segm.proofs.Tallies.{cases, in-upFrom}
+use Rattle.segm.proofs.Lists as lists
+use Rattle.segm.proofs.Lists.{stands, pairs-of, pairs-places, pairs-map, pairs-take, pairs-drop, in-after, in-at, in-take, in-drop}
+use Rattle.segm.proofs.Tallies.{cases, in-upFrom, upFrom-in}
 use Rattle.ends.specs.Ends.{endPoint}
 use Rattle.ends.proofs.Ends.{end-a, end-b}
 use Rattle.graph.proofs.Flat.{Ordered}
 use Rattle.meetings.specs.Meetings.{meetsWrongly, NoneMeetWrongly}
 use Rattle.strip.specs.Strip.{isVertical}
 use Rattle.strip.proofs.Apart.{Over, over-wide}
-use Rattle.strip.proofs.Vertical.{vertical-by, not-vertical-by, not-vertical-ends, wide-not-vertical}
-use Rattle.neighbours.specs.Neighbours.{Ready, Known, Distinct}
+use Rattle.strip.proofs.Gap.{side-at-a, side-at-b}
+use Rattle.strip.proofs.Above.{spans-on, spans-over}
+use Rattle.strip.proofs.Vertical.{vertical-by, not-vertical-by, not-vertical-wide, not-vertical-ends, wide-not-vertical}
+use Rattle.neighbours.specs.Neighbours.{Ready, Known, Distinct, Passes}
 use Rattle.neighbours.proofs.Lists.{Holds, holds-distinct}
 use Rattle.neighbours.proofs.Event.{Swept}
+use Rattle.neighbours.proofs.Event.{cut-after}
 use Rattle.neighbours.proofs.Turn.{Coming, Tested, first-turn, turn-holds, turn, last-turn}
+use Rattle.neighbours.proofs.Upright.{Upright}
+use Rattle.neighbours.proofs.Passes.{passes-under, passes-above, passes-through}
+use Rattle.count_up.specs.CountUp.{Held}
+use Rattle.count_up.proofs.Lists.{held-holds}
 use Rattle.open_list.specs.OpenList.{Left}
+use Rattle.verticals.proofs.Columns.{end-near}
+use Rattle.verticals.specs.Verticals.{Stands, Column}
+use Rattle.starts.specs.Starts.{Splits, Gapped}
+use Rattle.starts.proofs.Nodes.{rise}
+use Rattle.starts.proofs.Held.{entered-held}
 use Rattle.meeting_sweep.specs.Events.{Past, Happened}
+
+-- of two points at one x the later is the higher
+not-higher : {p q : Point} → q .x ≡ p .x → Before p q → q .y ≤ℤ p .y → ⊥
+not-higher e (inl b) k = omega ints
+not-higher e (inr (b, c)) k = omega ints
 
 -- ---- a drawing with its ordered ends
 module _ (d : Drawing) (flat : List ℕ) where
@@ -64,8 +83,7 @@ module _ (d : Drawing) (flat : List ℕ) where
         go (no l) = let e : t ≡ u = omega arith in subst (λ (v : ℕ). at t ≤ℤ at v) e (≤ℤ-refl (at t))
 
     pub rising : (i j : ℕ) → i < j → j < length d → ltP (seg j .a) (seg i .a) ≡ false
-    unfolding segmentAt
-    rising i j h k = pairs-places (λ s t. ltP (t .a) (s .a) ≡ false) d nowhere (ready .rising) i (omega arith) (seg j) (in-after d nowhere i j h k)
+    rising i j h k = rise ready i j (omega arith) k
 
     starts-rise : (i j : ℕ) → i ≤ j → j < length d → seg i .a .x ≤ℤ seg j .a .x
     starts-rise i j h k = go (decLt i j)
@@ -75,14 +93,17 @@ module _ (d : Drawing) (flat : List ℕ) where
         go (no l) = let e : i ≡ j = omega arith in subst (λ (m : ℕ). seg i .a .x ≤ℤ seg m .a .x) e (≤ℤ-refl (seg i .a .x))
 
     -- where the ends of a segment stand among the ordered ends
-    start-stands : (i : ℕ) → i < length d → Stands flat 0 i
+    start-stands : (i : ℕ) → i < length d → lists.Stands flat 0 i
     start-stands i h = stands flat 0 i (ends .has i (omega arith))
 
-    end-stands : (i : ℕ) → i < length d → Stands flat 0 (length d + i)
+    end-stands : (i : ℕ) → i < length d → lists.Stands flat 0 (length d + i)
     end-stands i h = stands flat 0 (length d + i) (ends .has (length d + i) (omega arith))
 
     at-start : (i : ℕ) (h : i < length d) → at (start-stands i h .place) ≡ seg i .a .x
     at-start i h = ap (λ (e : ℕ). endPoint d e .x) (start-stands i h .is) ∙ ap (λ (p : Point). p .x) (end-a d i h)
+
+    end-y : (i : ℕ) → endPoint d (length d + i) .y ≡ seg i .b .y
+    end-y i = let e : length d + i - length d ≡ i = omega arith in ap (λ (p : Point). p .y) (end-b d (length d + i) (omega arith)) ∙ ap (λ (k : ℕ). seg k .b .y) e
 
     pub end-x : (i : ℕ) → endPoint d (length d + i) .x ≡ seg i .b .x
     end-x i = let e : length d + i - length d ≡ i = omega arith in ap (λ (p : Point). p .x) (end-b d (length d + i) (omega arith)) ∙ ap (λ (k : ℕ). seg k .b .x) e
@@ -98,13 +119,6 @@ module _ (d : Drawing) (flat : List ℕ) where
     unfolding far
     beyond p e = omega (ints, near-x p e, of-abs (p .x), of-neg (pos 16777217), of-pos 16777217)
 
-    end-near : (e : ℕ) → e < 2 * length d → inRange (endPoint d e) ≡ true
-    end-near e h = go (decLt e (length d))
-      where
-        go : Dec (e < length d) → inRange (endPoint d e) ≡ true
-        go (yes l) = ap inRange (end-a d e l) ∙ ready .proper e l .near-a
-        go (no l) = ap inRange (end-b d e (omega arith)) ∙ ready .proper (e - length d) (omega arith) .near-b
-
     pub along-first : Along 0 0 []
     along-first = record {
       x = far;
@@ -112,7 +126,7 @@ module _ (d : Drawing) (flat : List ℕ) where
       begun = λ i h. absurd (omega arith);
       waiting = λ i h k. beyond (seg i .a) (ready .proper i k .near-a);
       behind = λ t h. absurd (omega arith);
-      ahead = λ t h k. beyond (endPoint d (getD flat t 0)) (end-near (getD flat t 0) (ends .below (getD flat t 0) (in-at flat 0 t k)));
+      ahead = λ t h k. beyond (endPoint d (getD flat t 0)) (end-near d ready (getD flat t 0) (ends .below (getD flat t 0) (in-at flat 0 t k)));
     }
 
     -- ---- one event
@@ -237,22 +251,128 @@ module _ (d : Drawing) (flat : List ℕ) where
           go (inl g) = g
           go (inr g) = absurd (not-vertical-ends (seg i) v (let b = before-le (proper i (omega (arith, t, q .till))) in let r = here-starts i f t in omega ints))
 
-      module _ {l′ : List ℕ} (h : Happened d (take (passed′ - passed) (drop passed flat)) started started′ l l′) where
+      -- what is open started before
+      pub earlier : (i : ℕ) → i ∈ l → i < started
+      earlier i m = go (decLt i started)
+        where
+          go : Dec (i < started) → i < started
+          go (yes u) = u
+          go (no u) = absurd (let w = a .waiting i (omega arith) (mine i m) in let f = a .swept .holds .mine i m .1 .from in omega ints)
+
+      -- the list of strip y, before any has started there
+      pub left-held : {m : List ℕ} → Left d block l m → Held d started y m
+      left-held {m} left = record {
+        order = left .order;
+        mine = λ i n. (earlier i (left .kept i n), spans-on (record { from = let o = a .swept .holds .mine i (left .kept i n) .1 .from in let g = later in omega ints; to = left-later left i n }));
+        every = λ i u s. stays i (spans-over s) (left .rest i (open-before i u (spans-over s)));
+      }
+        where
+          open-before : (i : ℕ) → i < started → Over y (seg i) → i ∈ l
+          open-before i u o =
+              let f = q .from in let t = q .till in
+              a .swept .holds .every i (upFrom-in i 0 (length d) (omega arith) (omega arith)) (record { from = a .begun i u; to = let g = later in let t = o .to in omega ints })
+
+          stays : (i : ℕ) → Over y (seg i) → (i ∈ m) ⊎ (length d + i ∈ block) → i ∈ m
+          stays i o (inl n) = n
+          stays i o (inr n) = absurd (let e = end-x i in let r = block-at (length d + i) n in let t = o .to in omega ints)
+
+      -- those that have started, and those that start at y, start before those that come later
+      pub splits-before : Splits d started
+      splits-before i j h k m = before (inl (let b = a .begun i h in let w = a .waiting j k m in omega ints))
+
+      pub splits-after : Splits d started′
+      splits-after i j h k m = before (inl (let w = after-starts j k m in go-start i h w (decLt i started)))
+        where
+          go-start : (i : ℕ) → i < started′ → y <ℤ seg j .a .x → Dec (i < started) → seg i .a .x <ℤ seg j .a .x
+          go-start i h w (yes u) = let b = a .begun i u in let g = later in omega ints
+          go-start i h w (no u) = let e = here-starts i (omega arith) h in omega ints
+
+      -- the ends at y, in order of their height
+      pub column : Column d block
+      column = record {
+        known = λ e m. ends .below e (in-drop passed flat e (in-take (passed′ - passed) (drop passed flat) e m));
+        rise = pairs-map {R = λ e f. ltP (endPoint d f) (endPoint d e) ≡ false} block (λ e f m n h. not-lower (block-at e m ∙ sym (block-at f n)) h) (pairs-take (λ e f. ltP (endPoint d f) (endPoint d e) ≡ false) (passed′ - passed) (drop passed flat) (pairs-drop (λ e f. ltP (endPoint d f) (endPoint d e) ≡ false) passed flat (ends .rise)));
+        distinct = pairs-take (λ e f. e ≡ f → ⊥) (passed′ - passed) (drop passed flat) (pairs-drop (λ e f. e ≡ f → ⊥) passed flat (ends .distinct));
+      }
+        where
+          not-lower : {p r : Point} → p .x ≡ r .x → ltP r p ≡ false → p .y ≤ℤ r .y
+          not-lower {p} {r} e h = go (order (r .y) (p .y))
+            where
+              go : (r .y <ℤ p .y) ⊎ (p .y ≤ℤ r .y) → p .y ≤ℤ r .y
+              go (inl l) = absurd (clash (before (inr (sym e, l))) h)
+              go (inr l) = l
+
+      pub start-in : (i : ℕ) → i < length d → seg i .a .x ≡ y → i ∈ block
+      start-in i k e = let s = start-stands i k in subst (λ (f : ℕ). f ∈ block) (s .is) (in-block (s .place) (s .inside) (at-start i k ∙ e))
+
+      module _ {l′ : List ℕ} {tops tops′ : List ℤ} (h : Happened d (take (passed′ - passed) (drop passed flat)) started started′ l l′ tops tops′) where
         stays : (i : ℕ) → i ∈ l′ → (y <ℤ seg i .b .x) × ((i ∈ l) ⊎ ((started ≤ i) × (i < started′)))
-        stays i m = cases (λ n. (left-later (h .left) i n, inl (h .left .kept i n))) (λ o. (starts-later i (o .0) (o .1) (o .2), inr (o .0, o .1))) (h .entered .mine i m)
+        stays i m = cases (λ n. (left-later (h .left) i n, inl (h .left .kept i n))) (λ o. (starts-later i (o .0) (o .1) (o .2), inr (o .0, o .1))) (h .started .entered .mine i m)
 
         comes : (i : ℕ) → y <ℤ seg i .b .x → (i ∈ l) ⊎ ((started ≤ i) × (i < started′)) → i ∈ l′
-        comes i g (inl m) = cases (h .entered .kept i) (λ n. absurd (let e = end-x i in let r = block-at (length d + i) n in omega ints)) (h .left .rest i m)
-        comes i g (inr (f, t)) = h .entered .came i f t (not-vertical-by (seg i) (λ e. let r = here-starts i f t in omega ints))
+        comes i g (inl m) = cases (h .started .entered .kept i) (λ n. absurd (let e = end-x i in let r = block-at (length d + i) n in omega ints)) (h .left .rest i m)
+        comes i g (inr (f, t)) = h .started .entered .came i f t (not-vertical-by (seg i) (λ e. let r = here-starts i f t in omega ints))
 
         holds : Holds seg (upFrom 0 (length d)) y l′
-        holds = turn-holds seg (length d) proper coming (a .swept .holds) (h .entered .order) stays comes
+        holds = turn-holds seg (length d) proper coming (a .swept .holds) (h .started .entered .order) stays comes
+
+        -- ---- the vertical ones
+        module _ (v : ℕ) (f : started ≤ v) (t : v < started′) (u : Upright (seg v)) where
+          inside : v < length d
+          inside = omega (arith, q .till)
+
+          at-y : seg v .a .x ≡ y
+          at-y = here-starts v f t
+
+          foot : Stands d v
+          foot = record { inside = inside; vertical = vertical-by (seg v) (sym (u .plumb)) }
+
+          gap : Gapped d started started′ (h .between) v
+          gap = h .started .gaps v f t (foot .vertical)
+
+          -- the list as it was when v's node was complete: all of it pass v with their starts
+          partly : Held d (gap .m) y (gap .between)
+          partly = entered-held ready (omega (arith, gap .own)) (omega (arith, gap .till, q .till)) (left-held (h .left)) (λ i g k. here-starts i g (omega (arith, gap .till))) (gap .entered)
+
+          passed-by : (i : ℕ) → i ∈ gap .between → Passes (λ s. s .a) (seg v) (seg i)
+          passed-by = cut-after seg (upFrom 0 (gap .m)) u (held-holds d (gap .m) (subst (λ z. Held d (gap .m) z (gap .between)) (sym at-y) partly)) 0 (gap .cut)
+
+          beside : (e : ℕ) → e ∈ block → (endPoint d e .y ≤ℤ seg v .a .y) ⊎ (seg v .b .y ≤ℤ endPoint d e .y)
+          beside = h .unbroken .beside v (start-in v inside at-y) foot
+
+          before-passes : (i : ℕ) → i ∈ l → Passes (λ s. s .b) (seg v) (seg i)
+          before-passes i m = cases stays-on ends-here (h .left .rest i m)
+            where
+              over : Over (a .x) (seg i)
+              over = a .swept .holds .mine i m .1
+
+              stays-on : i ∈ h .between → Passes (λ s. s .b) (seg v) (seg i)
+              stays-on n = passes-through (λ s. s .b) u (let g = later in let o = over .from in let r = at-y in omega ints) (passed-by i (gap .entered .kept i n))
+
+              ends-here : length d + i ∈ block → Passes (λ s. s .b) (seg v) (seg i)
+              ends-here n =
+                  let at : seg i .b .x ≡ seg v .a .x = sym (end-x i) ∙ block-at (length d + i) n ∙ sym at-y in
+                  let height : endPoint d (length d + i) .y ≡ seg i .b .y = end-y i in
+                  cases (λ k. inl (passes-under (λ s. s .b) u (over-wide over) at (side-at-b (seg i)) (omega ints))) (λ k. inr (passes-above (λ s. s .b) u (over-wide over) at (side-at-b (seg i)) (omega ints))) (beside (length d + i) n)
+
+          after-passes : (i : ℕ) → i ∈ l′ → Passes (λ s. s .a) (seg v) (seg i)
+          after-passes i m = cases (λ n. passed-by i (gap .entered .kept i n)) (λ o. came-later (o .0) (o .1) (o .2) (decLt i (gap .m))) (h .started .entered .mine i m)
+            where
+              came-later : started ≤ i → i < started′ → isVertical (seg i) ≡ false → Dec (i < gap .m) → Passes (λ s. s .a) (seg v) (seg i)
+              came-later g k s (yes b) = passed-by i (gap .entered .came i g b s)
+              came-later g k s (no b) =
+                  let known : i < length d = omega (arith, q .till) in
+                  let at : seg i .a .x ≡ seg v .a .x = here-starts i g k ∙ sym at-y in
+                  let height : endPoint d i .y ≡ seg i .a .y = ap (λ (p : Point). p .y) (end-a d i known) in
+                  let wide = not-vertical-wide (seg i) (proper i known) s in
+                  let higher = gap .splits v i (gap .own) (omega arith) known in
+                  cases (λ r. absurd (clash (higher) (not-before (λ b. not-higher at b (omega ints))))) (λ r. inr (passes-above (λ s. s .a) u wide at (side-at-a (seg i)) (omega ints))) (beside i (start-in i known (here-starts i g k)))
 
         tested : Tested seg y started started′ l l′
         tested = record {
-          before = λ v f t e. h .before v f t (vertical-by (seg v) (here-starts v f t ∙ sym e));
-          after = λ v f t e. h .after v f t (vertical-by (seg v) (here-starts v f t ∙ sym e));
-          stack = λ v w f k t e g. h .stack v w f k t (vertical-by (seg v) (here-starts v f (omega arith) ∙ sym e)) (vertical-by (seg w) (here-starts w (omega arith) t ∙ sym g));
+          before = before-passes;
+          after = after-passes;
+          stack = λ v w f t f′ t′ u o ne. h .unbroken .stack v w (start-in v (inside v f t u) (at-y v f t u)) (start-in w (inside w f′ t′ o) (at-y w f′ t′ o)) (foot v f t u) (foot w f′ t′ o) ne;
         }
 
         pub along-next : Along passed′ started′ l′
@@ -281,7 +401,14 @@ module _ (d : Drawing) (flat : List ℕ) where
       pub along-distinct : Distinct l
       along-distinct = holds-distinct seg (upFrom 0 (length d)) (a .swept .holds)
 
-      -- all ends were passed
+      -- all ends were passed: so all have started, and none meet wrongly
+      pub all-started : length flat ≤ passed → (i : ℕ) → i < length d → i < started
+      all-started h i u = go (decLt i started)
+        where
+          go : Dec (i < started) → i < started
+          go (yes n) = n
+          go (no n) = let s = start-stands i u in let e = at-start i u in let b = a .behind (s .place) (omega (arith, s .inside)) in let w = a .waiting i (omega arith) u in absurd (omega ints)
+
       pub along-last : length flat ≤ passed → NoneMeetWrongly d
       unfolding segmentAt
       along-last h = pairs-of (λ s t. meetsWrongly s t ≡ false) d nowhere each

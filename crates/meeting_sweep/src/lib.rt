@@ -3,32 +3,36 @@
 //
 // The open segments, those that span the strip just right of x and are not vertical, are a list of their places in the drawing, the lowest first. At each x where
 // something ends or starts, one event:
-// 1. each vertical segment there stands in a gap of the list, whose segments may touch it with their ends b only;
+// 1. no end there lies strictly between the ends of a vertical segment that starts there, and these do not overlap;
 // 2. what ends there leaves the list, and the two beside it are tested as new neighbours;
-// 3. what starts there and is not vertical enters the list, in order of place, and is tested against both neighbours;
-// 4. each vertical segment there stands in a gap of the new list, whose segments may touch it with their starts a only;
-// 5. the vertical segments there stand on each other, in order of place.
+// 3. what starts there, node by node in order of their points: what is not vertical enters the list and is tested against both neighbours; a vertical segment
+//    stands in a gap of the list as it then is, whose segments may touch it with their starts a only. What enters later starts at its head or above it.
 // The first test that is not passed ends the sweep. It takes vertical segments, any number of segments at one point, and segments on one line that touch at an end.
+//
+// The top count of a segment is that of the one below it in the list, and its own winding; it is written when its node is complete, because all that starts at one
+// point stands side by side then. So a drawing that is clear has its top counts too.
 //
 // `flat` has the ordered ends (end e below n is the a of segment e, end n + i the b of segment i), `list[..count]` the open segments; `passed` ends and `started`
 // segments are behind the sweep, and `near` is a place to look at first.
 use open_list::Held;
-use verticals::Edge;
 ghost use mathlib.Core.Path.{_≡_};
 ghost use mathlib.Core.Logic.{_↔_};
 ghost use mathlib.Core.Bool.{true, false};
-ghost use Prim.Native.Nat.{ℕ, _*_, _≤_, _<_};
+ghost use Prim.Native.Nat.{_*_, _≤_, _<_};
 ghost use lib.ListN.{length, getD, take};
 ghost use Rattle.geom.specs.Points.{eqZ};
-ghost use Rattle.segm.specs.Lists.{_∈_, upFrom};
+ghost use Rattle.segm.specs.Lists.{upFrom};
 ghost use Rattle.segm.specs.Segments.{segments};
 ghost use Rattle.ends.specs.Ends.{endPoint, endBefore};
 ghost use Rattle.ends.specs.Ordering.{ordering};
 ghost use Rattle.meetings.specs.Meetings.{NoneMeetWrongly};
 ghost use Rattle.neighbours.specs.Neighbours.{Ready, Known, Ordered, Distinct};
+ghost use Rattle.count_up.specs.CountUp.{Within, Counted};
+ghost use Rattle.verticals.specs.Verticals.{Column};
+ghost use Rattle.starts.specs.Starts.{Splits};
 ghost use Rattle.meeting_sweep.specs.Events.{Past, Happened, ClearEvent};
 
-// All that is at one x: the ends there are passed, then the starts, with the tests of the vertical segments before and after. Places are sought near a guess.
+// All that is at one x: the ends there are passed, then the starts. Places are sought near a guess.
 fn event(
     s: &[i32],
     ends: &[u32],
@@ -37,39 +41,34 @@ fn event(
     list: &mut [u32],
     count: usize,
     guess: usize,
+    tops: &mut [i32],
 ) -> Held
     requires { ⌜ (let d = segments (now s) in let l = take count (now list) in
         Ready d
-        × ((e : ℕ) → e ∈ now ends → e < 2 * length d)
+        × Column d (now ends)
         × (from ≤ to)
         × (to ≤ length d)
         × (count ≤ from)
         × (length d ≤ length (now list))
+        × (length d ≤ length (now tops))
         × Known d l
         × Ordered d l
-        × Distinct l) ⌝ }
-    ensures { λ r. ⌜ (let d = segments (now (s .entry)) in let l = take count (now (list .entry)) in
-        (r .clear ≡ true → ((r .count ≤ to) × Happened d (now (ends .entry)) from to l (take (r .count) (now (list .exit)))))
+        × Distinct l
+        × Splits d from
+        × Splits d to
+        × Within (2048000 * from) (now tops)) ⌝ }
+    ensures { λ r. ⌜ (let d = segments (now (s .entry)) in let l = take count (now (list .entry)) in let l′ = take (r .count) (now (list .exit)) in
+        (r .clear ≡ true → ((r .count ≤ to) × Happened d (now (ends .entry)) from to l l′ (now (tops .entry)) (now (tops .exit)) × Within (2048000 * to) (now (tops .exit))))
         × (ClearEvent d (now (ends .entry)) from to l → r .clear ≡ true)) ⌝ }
 {
-    if !verticals::are_cut(s, Edge::Ends, from, to, &list[..count], guess) {
+    if !verticals::are_unbroken(s, ends) {
         return open_list::unclear();
     }
     let left = open_list::leave_all(s, ends, list, count, guess);
     if !left.clear {
         return open_list::unclear();
     }
-    let entered = open_list::enter_all(s, from, to, list, left.count, left.near);
-    if !entered.clear {
-        return open_list::unclear();
-    }
-    if !verticals::are_cut(s, Edge::Starts, from, to, &list[..entered.count], left.near) {
-        return open_list::unclear();
-    }
-    if !verticals::are_stacked(s, from, to) {
-        return open_list::unclear();
-    }
-    entered
+    starts::start_all(s, from, to, list, left.count, left.near, tops)
 }
 
 // Whether ends e and f lie at one x.
@@ -114,13 +113,15 @@ fn starts_past(s: &[i32], k: usize, e: usize) -> usize
     j
 }
 
-// The sweep, from x to x of the ordered ends. The list is working memory.
-fn sweep(s: &[i32], flat: &[u32], list: &mut [u32]) -> bool
+// The sweep, from x to x of the ordered ends. The list is working memory; the tops are 0 before it.
+fn sweep(s: &[i32], flat: &[u32], list: &mut [u32], tops: &mut [i32]) -> bool
     requires { ⌜ (let d = segments (now s) in
         Ready d
         × (now flat ≡ ordering (endBefore d) (upFrom 0 (2 * length d)))
-        × (length (now list) ≡ 1024)) ⌝ }
-    ensures { λ r. ⌜ (r ≡ true) ↔ NoneMeetWrongly (segments (now (s .entry))) ⌝ }
+        × (length d ≤ length (now list))
+        × (length d ≤ length (now tops))
+        × Within 0 (now tops)) ⌝ }
+    ensures { λ r. ⌜ ((r ≡ true) ↔ NoneMeetWrongly (segments (now (s .entry)))) × (r ≡ true → Counted (segments (now (s .entry))) (now (tops .exit))) ⌝ }
 {
     let mut passed: usize = 0;
     let mut started: usize = 0;
@@ -129,7 +130,16 @@ fn sweep(s: &[i32], flat: &[u32], list: &mut [u32]) -> bool
     while passed < flat.len() {
         let ends = ends_past(s, flat, passed);
         let starts = starts_past(s, started, flat[passed] as usize);
-        let held = event(s, &flat[passed..ends], started, starts, list, count, near);
+        let held = event(
+            s,
+            &flat[passed..ends],
+            started,
+            starts,
+            list,
+            count,
+            near,
+            tops,
+        );
         if !held.clear {
             return false;
         }
@@ -141,13 +151,19 @@ fn sweep(s: &[i32], flat: &[u32], list: &mut [u32]) -> bool
     true
 }
 
-// Whether no two segments meet wrongly, of a drawing with its ordered ends.
-pub fn is_clear(s: &[i32], flat: &[u32]) -> bool
+// Whether no two segments meet wrongly, of a drawing with its ordered ends. Where none do the tops, which are 0 before, are their top counts.
+pub fn is_clear(s: &[i32], flat: &[u32], tops: &mut [i32]) -> bool
     requires { ⌜ (let d = segments (now s) in
         Ready d
-        × (now flat ≡ ordering (endBefore d) (upFrom 0 (2 * length d)))) ⌝ }
-    ensures { λ r. ⌜ (r ≡ true) ↔ NoneMeetWrongly (segments (now (s .entry))) ⌝ }
+        × (now flat ≡ ordering (endBefore d) (upFrom 0 (2 * length d)))
+        × (length d ≤ length (now tops))
+        × Within 0 (now tops)) ⌝ }
+    ensures { λ r. ⌜ ((r ≡ true) ↔ NoneMeetWrongly (segments (now (s .entry)))) × (r ≡ true → Counted (segments (now (s .entry))) (now (tops .exit))) ⌝ }
 {
+    if segm::count(s) <= segm::SMALL {
+        let mut list = [0u32; segm::SMALL];
+        return sweep(s, flat, &mut list, tops);
+    }
     let mut list = [0u32; 1024];
-    sweep(s, flat, &mut list)
+    sweep(s, flat, &mut list, tops)
 }

@@ -1,24 +1,24 @@
 -- The sweep's invariant, from event to event: strips before are in order, and verticals met so far meet nothing wrongly.
-use mathlib.Core.Path.{_≡_, refl, sym, _∙_, subst}
+use mathlib.Core.Path.{_≡_, refl, sym, _∙_}
 use mathlib.Core.List.{List, []}
 use mathlib.Core.Logic.{_⊎_, inl, inr}
-use lib.IntN.{ℤ, pos, _+ℤ_, _-ℤ_}
+use lib.IntN.{ℤ, pos, _-ℤ_}
 use lib.Signed.{_≤ℤ_, _<ℤ_}
-use Rattle.integers.proofs.Linear.{ints, of-pos, of-+, of--}
+use Rattle.integers.proofs.Linear.{ints, of-pos, of--}
 use Rattle.integers.proofs.Order.{order, lt-le}
 use Rattle.geom.proofs.Points.{Before, before-le}
 use Rattle.segm.specs.declared.Segment.{Segment}
 use Rattle.segm.specs.Lists.{_∈_, Pairs}
 use Rattle.segm.proofs.Lists.{pairs-map}
-use Rattle.strip.proofs.Apart.{Apart, turned, Wide, Over, over-wide}
+use Rattle.strip.proofs.Apart.{Apart, turned, Wide, over-wide}
 use Rattle.strip.proofs.Tiers.{At, Tier}
 use Rattle.neighbours.specs.Neighbours.{Passes, Cut}
 use Rattle.neighbours.proofs.Lists.{Holds, Fine, Quiet, holds-tiers, holds-on, fine-apart, start, onward, finish}
 use Rattle.neighbours.proofs.Upright.{Upright, wide-or-upright, beside, stacked, passes-apart, cut-all}
 
 module _ {A : Type 0} (seg : A → Segment) (d : List A) where
-  -- heights at the left edge of the list's strip, and at the next event
-  pub starts-at : {y : ℤ} {l : List A} → Holds seg d y l → Pairs (λ i j. At (λ s. s .a) y (seg i) (seg j)) l
+  -- heights at the left edge of the list's strip
+  starts-at : {y : ℤ} {l : List A} → Holds seg d y l → Pairs (λ i j. At (λ s. s .a) y (seg i) (seg j)) l
   starts-at {y} {l} h = pairs-map {R = λ i j. Tier y (seg i) (seg j)} l (λ i j m n t. t .left) (holds-tiers seg d h)
 
   -- the cut of a vertical after its event
@@ -29,17 +29,6 @@ module _ {A : Type 0} (seg : A → Segment) (d : List A) where
     -- the strip before y
     pub before : Holds seg d (y -ℤ pos 1) l
     before = holds-on seg d q h (omega (ints, of-- y (pos 1), of-pos 1)) (omega (ints, of-- y (pos 1), of-pos 1))
-
-    pub ends-at : Pairs (λ i j. At (λ s. s .b) y (seg i) (seg j)) l
-    ends-at = pairs-map {R = λ i j. Tier (y -ℤ pos 1) (seg i) (seg j)} l (λ i j m n t. subst (λ z. At (λ s. s .b) z (seg i) (seg j)) e (t .right)) (holds-tiers seg d before)
-      where
-        e : (y -ℤ pos 1) +ℤ pos 1 ≡ y
-        e = omega (ints, of-+ (y -ℤ pos 1) (pos 1), of-- y (pos 1), of-pos 1)
-
-    -- and before it
-    pub cut-before : {v : Segment} → Upright v → v .a .x ≡ y → (z : A) → Cut (λ s. s .b) seg z v l → (i : A) → i ∈ l → Passes (λ s. s .b) v (seg i)
-    cut-before {v} u e z c =
-        cut-all (λ s. s .b) (λ s. inr refl) seg z u l (subst (λ w. Pairs (λ i j. At (λ s. s .b) w (seg i) (seg j)) l) (sym e) ends-at) (λ i m. over-wide (h .mine i m .1)) c
 
 -- at y the list l becomes l′: everything passes v, before and after, and the other verticals there are over or under it
 pub record Clearance {A : Type 0} (seg : A → Segment) (d : List A) (y : ℤ) (l l′ : List A) (v : A) : Type 0 where

@@ -1,6 +1,6 @@
 -- A vertical segment and another that do not meet wrongly: the other passes under its foot or above its head, and of two vertical ones the one stands on the other.
 -- The converse of `passes-apart` and of `stacked`.
-use mathlib.Core.Path.{_≡_, refl, sym, _∙_}
+use mathlib.Core.Path.{_≡_, refl, sym, ap, _∙_}
 use mathlib.Core.Logic.{_⊎_, inl, inr, ⊎-elim}
 use lib.IntN.{ℤ, pos, _-ℤ_, _*ℤ_}
 use lib.Signed.{_≤ℤ_, _<ℤ_}
@@ -8,14 +8,15 @@ use Rattle.integers.proofs.Booleans.{clash}
 use Rattle.integers.proofs.Linear.{ints, of-pos, of--}
 use Rattle.integers.proofs.Order.{order, lt-ltZ, le-ltZ, lt-le}
 use Rattle.geom.specs.declared.Point.{Point}
+use Rattle.geom.proofs.Points.{point}
 use Rattle.segm.specs.declared.Segment.{Segment}
 use Rattle.meetings.specs.Meetings.{side}
 use Rattle.strip.specs.Strip.{reach}
-use Rattle.strip.proofs.Signs.{Sign, minus, nil, plus, sign, down-neg, down-pos}
+use Rattle.strip.proofs.Signs.{Sign, minus, nil, plus, sign, up-pos, up-neg, down-neg, down-pos}
 use Rattle.strip.proofs.Gap.{side-at-a, side-at-b}
 use Rattle.strip.proofs.Apart.{Between, Apart, Wide, wide, vertical-one-side}
 use Rattle.strip.proofs.Visits.{First, earlier, lower, first-total}
-use Rattle.neighbours.specs.Neighbours.{Under, Above}
+use Rattle.neighbours.specs.Neighbours.{Under, Above, Passes}
 use Rattle.neighbours.proofs.Upright.{Upright, in-line, end-at}
 
 -- ---- s at y
@@ -89,3 +90,26 @@ stands-on {v} {w} u o e k l = go (order (w .a .y) (v .b .y)) (first-total k (inr
     go (inl m) (inr (earlier (inl b))) = absurd (omega ints)
     go (inl m) (inr (earlier (inr b))) = absurd (let c = b .1 in omega ints)
     go (inl m) (inr (lower q h)) = absurd (let z = in-w in omega ints)
+
+-- ---- s has its end e at v's x, not strictly between v's ends: it passes
+module _ (e : Segment → Point) {v s : Segment} (u : Upright v) (w : Wide s) (at : e s .x ≡ v .a .x) (side-at : (p : Point) → p .x ≡ e s .x → side s p ≡ reach s *ℤ (p .y -ℤ e s .y)) where
+  pub passes-under : e s .y ≤ℤ v .a .y → Under e (v .a) s
+  passes-under h = go (order (e s .y) (v .a .y))
+    where
+      go : (e s .y <ℤ v .a .y) ⊎ (v .a .y ≤ℤ e s .y) → Under e (v .a) s
+      go (inl l) = inl (up-pos (wide w) (side-at (v .a) (sym at)) (omega (ints, of-- (v .a .y) (e s .y), of-pos 0)))
+      go (inr l) = inr (point at (omega ints))
+
+  pub passes-above : v .b .y ≤ℤ e s .y → Above e (v .b) s
+  passes-above h = go (order (v .b .y) (e s .y))
+    where
+      go : (v .b .y <ℤ e s .y) ⊎ (e s .y ≤ℤ v .b .y) → Above e (v .b) s
+      go (inl l) = inl (up-neg (wide w) (side-at (v .b) (u .plumb ∙ sym at)) (omega (ints, of-- (v .b .y) (e s .y), of-pos 0)))
+      go (inr l) = inr (point (at ∙ sym (u .plumb)) (omega ints))
+
+-- what starts left of v's x passes it strictly, so with either end
+pub passes-through : {v s : Segment} (e : Segment → Point) → Upright v → s .a .x <ℤ v .a .x → Passes (λ t. t .a) v s → Passes e v s
+passes-through e u left (inl (inl h)) = inl (inl h)
+passes-through {v} {s} e u left (inl (inr q)) = absurd (let r = ap (λ (p : Point). p .x) q in omega ints)
+passes-through e u left (inr (inl h)) = inr (inl h)
+passes-through {v} {s} e u left (inr (inr q)) = absurd (let r = ap (λ (p : Point). p .x) q in let b = u .plumb in omega ints)

@@ -1,5 +1,5 @@
 -- One event of the sweep, as code has it: places are numbers, k of them have started.
-use mathlib.Core.Path.{_≡_, sym, _∙_, subst}
+use mathlib.Core.Path.{_≡_}
 use mathlib.Core.List.{List, []}
 use mathlib.Core.Logic.{_⊎_, inl, inr, ⊎-elim}
 use mathlib.Core.Bool.{false}
@@ -16,10 +16,10 @@ use Rattle.segm.proofs.Tallies.{in-upFrom, upFrom-in}
 use Rattle.meetings.specs.Meetings.{meetsWrongly}
 use Rattle.strip.specs.Strip.{Next}
 use Rattle.strip.proofs.Clear.{apart-clear}
-use Rattle.neighbours.specs.Neighbours.{Chain, Cut}
+use Rattle.neighbours.specs.Neighbours.{Chain, Passes}
 use Rattle.neighbours.proofs.Lists.{Holds, Quiet, holds-next}
 use Rattle.neighbours.proofs.Upright.{Upright}
-use Rattle.neighbours.proofs.Event.{Swept, cut-before, cut-after, quiet-by, swept-start, swept-next, swept-done}
+use Rattle.neighbours.proofs.Event.{Swept, quiet-by, swept-start, swept-next, swept-done}
 
 -- y is the next event: places k to k′ start there
 pub record Coming (seg : ℕ → Segment) (n : ℕ) (x y : ℤ) (k k′ : ℕ) (l : List ℕ) : Type 0 where
@@ -30,11 +30,11 @@ pub record Coming (seg : ℕ → Segment) (n : ℕ) (x y : ℤ) (k k′ : ℕ) (
   pub after : (i : ℕ) → k′ ≤ i → i < n → y <ℤ seg i .a .x
   pub ends : (i : ℕ) → i ∈ l → y ≤ℤ seg i .b .x
 
--- what was tested there of the vertical ones: their cuts before and after, and that they stand on each other
+-- what was tested there of the vertical ones: all of the lists before and after pass them, and they stand on each other
 pub record Tested (seg : ℕ → Segment) (y : ℤ) (k k′ : ℕ) (l l′ : List ℕ) : Type 0 where
-  pub before : (v : ℕ) → k ≤ v → v < k′ → seg v .b .x ≡ y → Cut (λ s. s .b) seg 0 (seg v) l
-  pub after : (v : ℕ) → k ≤ v → v < k′ → seg v .b .x ≡ y → Cut (λ s. s .a) seg 0 (seg v) l′
-  pub stack : (v w : ℕ) → k ≤ v → v < w → w < k′ → seg v .b .x ≡ y → seg w .b .x ≡ y → seg v .b .y ≤ℤ seg w .a .y
+  pub before : (v : ℕ) → k ≤ v → v < k′ → Upright (seg v) → (i : ℕ) → i ∈ l → Passes (λ s. s .b) (seg v) (seg i)
+  pub after : (v : ℕ) → k ≤ v → v < k′ → Upright (seg v) → (i : ℕ) → i ∈ l′ → Passes (λ s. s .a) (seg v) (seg i)
+  pub stack : (v w : ℕ) → k ≤ v → v < k′ → k ≤ w → w < k′ → Upright (seg v) → Upright (seg w) → (v ≡ w → ⊥) → (seg v .b .y ≤ℤ seg w .a .y) ⊎ (seg w .b .y ≤ℤ seg v .a .y)
 
 -- the places of n segments
 placed : (i n : ℕ) → i ∈ upFrom 0 n → i < n
@@ -73,15 +73,11 @@ module _ (seg : ℕ → Segment) (n : ℕ) (proper : (i : ℕ) → i < n → Bef
         (λ i t o. g i t (⊎-elim inl (λ a. inr (starts i (a .0) (a .1))) o))
 
     pub turn : {l′ : List ℕ} → Swept seg (upFrom 0 n) x l → Holds seg (upFrom 0 n) y l′ → Tested seg y k k′ l l′ → Swept seg (upFrom 0 n) y l′
-    turn {l′} s h t = swept-next seg (upFrom 0 n) proper′ s (c .later) (turn-quiet (s .holds)) h (λ v m u e. let (a, b) = starts v m e in record {
-      ends = cut-before seg (upFrom 0 n) (turn-quiet (s .holds)) (s .holds) (c .later) u e 0 (t .before v a b (u .plumb ∙ e));
-      starts = cut-after seg (upFrom 0 n) u (subst (λ z. Holds seg (upFrom 0 n) z l′) (sym e) h) 0 (t .after v a b (u .plumb ∙ e));
-      stack = λ w o r f ne. let (a′, b′) = starts w o f in order v w a b (u .plumb ∙ e) a′ b′ (r .plumb ∙ f) ne (decLt v w);
+    turn s h t = swept-next seg (upFrom 0 n) proper′ s (c .later) (turn-quiet (s .holds)) h (λ v m u e. let (a, b) = starts v m e in record {
+      ends = t .before v a b u;
+      starts = t .after v a b u;
+      stack = λ w o r f ne. let (a′, b′) = starts w o f in t .stack v w a b a′ b′ u r ne;
     })
-      where
-        order : (v w : ℕ) → k ≤ v → v < k′ → seg v .b .x ≡ y → k ≤ w → w < k′ → seg w .b .x ≡ y → (v ≡ w → ⊥) → Dec (v < w) → (seg v .b .y ≤ℤ seg w .a .y) ⊎ (seg w .b .y ≤ℤ seg v .a .y)
-        order v w a b e a′ b′ f ne (yes h) = inl (t .stack v w a h b′ e f)
-        order v w a b e a′ b′ f ne (no h) = inr (t .stack w v a′ (omega arith) b f e)
 
   -- all has ended
   pub last-turn : {x : ℤ} {l : List ℕ} → Swept seg (upFrom 0 n) x l → ((i : ℕ) → i < n → seg i .b .x ≤ℤ x) → (i j : ℕ) → i < n → j < n → (i ≡ j → ⊥) → meetsWrongly (seg i) (seg j) ≡ false

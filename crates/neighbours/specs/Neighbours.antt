@@ -5,7 +5,7 @@ use mathlib.Core.Logic.{_⊎_}
 use mathlib.Core.Bool.{false}
 use Prim.Native.Nat.{ℕ, suc, _≤_, _<_}
 use lib.ListN.{length, getD}
-use lib.IntN.{ℤ, pos}
+use lib.IntN.{pos, natAbs}
 use lib.Signed.{_<ℤ_}
 use Rattle.geom.specs.declared.Point.{Point}
 use Rattle.geom.specs.Points.{ltP}
@@ -58,6 +58,7 @@ pub record Ready (d : Drawing) : Type 0 where
   pub few : length d ≤ 1024
   pub proper : (i : ℕ) → i < length d → Proper (segmentAt d i)
   pub rising : Pairs (λ s t. ltP (t .a) (s .a) ≡ false) d
+  pub winding : (i : ℕ) → i < length d → natAbs (segmentAt d i .winding) ≤ 1000
 
 -- all are places of the drawing
 abbrev pub Known : Drawing → List ℕ → Type 0

@@ -6,24 +6,23 @@ use mathlib.Core.Bool.{true, false}
 use Prim.Native.Nat.{ℕ, _+_, _-_, _<_, _≤_}
 use native.Mathlib.Omega.{arith}
 use native.Mathlib.Decide.{decLt}
-use lib.ListN.{length, getD, take}
-use lib.Seq.{length-take-le}
+use lib.ListN.{length, getD, take, drop}
+use lib.Seq.{length-take-le, getD-at}
 use Rattle.integers.proofs.Booleans.{clash}
 use Rattle.segm.specs.Lists.{_∈_, written}
 use Rattle.segm.specs.Segments.{Drawing, segmentAt}
 use Rattle.segm.proofs.Lists.{in-at, take-written}
 use Rattle.segm.proofs.Tallies.{cases, in-++, in-left, in-right}
-use Rattle.meetings.specs.Meetings.{Proper}
 use Rattle.strip.specs.Strip.{isVertical, Next}
 use Rattle.neighbours.specs.Neighbours.{Ready, Known, Ordered, Distinct}
 use Rattle.neighbours.proofs.Chain.{chain-put, chain-take}
-use Rattle.scan.specs.Scan.{putAt, outAt}
+use Rattle.scan.specs.Scan.{putAt, outAt, Listed}
 use Rattle.scan.proofs.Laws.{put-in, in-put, length-put, length-out, out-in, in-out, not-out, pairs-out}
-use Rattle.open_list.specs.OpenList.{FitsAt, ClosesAt, Left, Entered}
+use Rattle.open_list.specs.OpenList.{FitsAt, ClosesAt, Left, Entered, Marked, Marks}
 
--- a place of the list has a proper segment
-pub known-proper : {d : Drawing} (l : List ℕ) → Ready d → Known d l → (k : ℕ) → k < length l → Proper (segmentAt d (getD l k 0))
-known-proper l r f k h = r .proper _ (f _ (in-at l 0 k h))
+-- what stands in the list is a place of the drawing with a proper segment
+pub listed : {d : Drawing} (l : List ℕ) → Ready d → Known d l → (k : ℕ) → k < length l → Listed d (getD l k 0)
+listed l r f k h = let i = f (getD l k 0) (in-at l 0 k h) in record { inside = i; proper = r .proper (getD l k 0) i }
 
 -- ---- leaving
 -- nothing leaves at a start, nor at the end of a vertical segment
@@ -83,15 +82,15 @@ one-enters {d} {l} k i o v f = record {
   mine = λ j m. cases (λ e. inr (omega arith, omega arith, ap (λ z. isVertical (segmentAt d z)) e ∙ v)) inl (put-in k i l j m);
 }
 
-pub entered-more : {d : Drawing} {l l′ l″ : List ℕ} (from i : ℕ) → from ≤ i → Entered d from i l l′ → Entered d i (i + 1) l′ l″ → Entered d from (i + 1) l l″
-entered-more {d} {l″ = l″} from i h p q = record {
+pub entered-more : {d : Drawing} {l l′ l″ : List ℕ} (from i to : ℕ) → from ≤ i → i ≤ to → Entered d from i l l′ → Entered d i to l′ l″ → Entered d from to l l″
+entered-more {d} {l″ = l″} from i to h t p q = record {
   order = q .order;
   kept = λ j m. q .kept j (p .kept j m);
   came = λ j k k′ v. go j k k′ v (decLt j i);
   mine = λ j m. cases (λ n. cases inl (λ o. inr (o .0, omega (arith, o .1), o .2)) (p .mine j n)) (λ o. inr (omega (arith, o .0), o .1, o .2)) (q .mine j m);
 }
   where
-    go : (j : ℕ) → from ≤ j → j < i + 1 → isVertical (segmentAt d j) ≡ false → Dec (j < i) → j ∈ l″
+    go : (j : ℕ) → from ≤ j → j < to → isVertical (segmentAt d j) ≡ false → Dec (j < i) → j ∈ l″
     go j k k′ v (yes a) = q .kept j (p .came j k a v)
     go j k k′ v (no a) = q .came j (omega arith) k′ v
 
@@ -107,6 +106,16 @@ put-into old list count k i r e =
     ap (take (count + 1)) e ∙ take-written (putAt k i (take count old)) old (count + 1) (omega (arith, long, length-put k i (take count old)))
 
 -- ---- places of the drawing
+-- i stands at place k then
+pub put-at : (k i : ℕ) (l : List ℕ) → k ≤ length l → getD (putAt k i l) (k + 1 - 1) 0 ≡ i
+unfolding putAt
+put-at k i l h = let e : k + 1 - 1 ≡ k = omega arith in ap (λ (n : ℕ). getD (take k l ++ (i ∷ drop k l)) n 0) e ∙ getD-at (take k l) i (drop k l) 0 k (length-take-le k l h)
+
+-- the mark moves on with each that enters
+pub marks-more : {from i near near′ : ℕ} {l l′ : List ℕ} → from ≤ i → Marks from near l → Marked i near l near′ l′ → Marks from near′ l′
+marks-more {from} {i} {near} {near′} {l} {l′} h m (inl (e, q)) j n k = subst (λ (a : ℕ). (0 < a) × (a ≤ length l′) × (from ≤ getD l′ (a - 1) 0)) (sym q) (subst (λ (a : List ℕ). Marks from near a) (sym e) m j n k)
+marks-more {from} h m (inr (some, inside, is)) j n k = (some, inside, omega (arith, is))
+
 pub left-known : {d : Drawing} {ends l l′ : List ℕ} → Known d l → Left d ends l l′ → Known d l′
 left-known k p i m = k i (p .kept i m)
 

@@ -97,9 +97,9 @@ can-leave-next d ends l l′ k h w p = record {
         cases (λ m. m) (λ m. absurd (pairs-before (λ i j. i ≡ j → ⊥) ends 0 (w .distinct) k h (length d + i) m e)) (p .rest i (w .inside i (subst (λ (n : ℕ). n ∈ ends) (sym e) (in-at ends 0 k h)) v))
     still i (inr m) v = absurd m
 
--- the next place, after those from..i
-pub can-enter-next : (d : Drawing) (from i to : ℕ) (l l′ : List ℕ) → from ≤ i → i < to → CanEnter d from to l → Entered d from i l l′ → CanEnter d i (i + 1) l′
-can-enter-next d from i to l l′ h k w p = record {
+-- the next places, after those from..i
+pub can-enter-next : (d : Drawing) (from i next to : ℕ) (l l′ : List ℕ) → from ≤ i → i ≤ next → next ≤ to → CanEnter d from to l → Entered d from i l l′ → CanEnter d i next l′
+can-enter-next d from i next to l l′ h k t w p = record {
   x = w .x;
   spanning = record { apart = w .spanning .apart; across = λ j m. cases (w .spanning .across j) (λ o. w .starting j (o .0) (omega (arith, o .1)) (o .2)) (p .mine j m) };
   earlier = λ j m. cases (λ n. omega (arith, w .earlier j n)) (λ o. o .1) (p .mine j m);

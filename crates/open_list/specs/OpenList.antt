@@ -3,7 +3,7 @@ use mathlib.Core.Path.{_≡_}
 use mathlib.Core.List.{List}
 use mathlib.Core.Logic.{_⊎_}
 use mathlib.Core.Bool.{true, false}
-use Prim.Native.Nat.{ℕ, suc, _+_, _<_, _≤_}
+use Prim.Native.Nat.{ℕ, suc, _+_, _-_, _<_, _≤_}
 use lib.ListN.{length, getD}
 use lib.IntN.{ℤ}
 use Rattle.segm.specs.Lists.{_∈_}
@@ -66,3 +66,16 @@ pub record Entered (d : Drawing) (from to : ℕ) (l l′ : List ℕ) : Type 0 wh
   pub kept : (i : ℕ) → i ∈ l → i ∈ l′
   pub came : (i : ℕ) → from ≤ i → i < to → isVertical (segmentAt d i) ≡ false → i ∈ l′
   pub mine : (i : ℕ) → i ∈ l′ → (i ∈ l) ⊎ ((from ≤ i) × (i < to) × (isVertical (segmentAt d i) ≡ false))
+
+-- ---- where they stand
+-- all are places before this one
+abbrev pub Older : ℕ → List ℕ → Type 0
+Older from l = (i : ℕ) → i ∈ l → i < from
+
+-- l became l′ and the place near became near′: nothing changed, or i stands right before near′
+abbrev pub Marked : (i near : ℕ) (l : List ℕ) (near′ : ℕ) (l′ : List ℕ) → Type 0
+Marked i near l near′ l′ = ((l′ ≡ l) × (near′ ≡ near)) ⊎ ((0 < near′) × (near′ ≤ length l′) × (getD l′ (near′ - 1) 0 ≡ i))
+
+-- where the list has places from `from` on, one of them stands right before near
+abbrev pub Marks : (from near : ℕ) → List ℕ → Type 0
+Marks from near l = (i : ℕ) → i ∈ l → from ≤ i → (0 < near) × (near ≤ length l) × (from ≤ getD l (near - 1) 0)

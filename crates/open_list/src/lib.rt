@@ -15,7 +15,8 @@ ghost use Rattle.segm.specs.Segments.{segments, segmentAt};
 ghost use Rattle.meetings.specs.Meetings.{Proper};
 ghost use Rattle.strip.specs.Strip.{Next};
 ghost use Rattle.neighbours.specs.Neighbours.{Ready, Known, Ordered, Distinct};
-ghost use Rattle.open_list.specs.OpenList.{StandsOver, StandsUnder, FitsAt, ClosesAt, Spanning, CanLeave, CanEnter, Left, Entered};
+ghost use Rattle.scan.specs.Scan.{Listed};
+ghost use Rattle.open_list.specs.OpenList.{StandsOver, StandsUnder, FitsAt, ClosesAt, Spanning, CanLeave, CanEnter, Left, Entered, Older, Marked, Marks};
 
 // How many segments are open, a place of the list, and whether all tests were passed so far. The place is where a segment left or entered: at one x ends and
 // starts come in order, so that of the next one is near; and what changes at the next x is often near the first that changed at this one.
@@ -36,17 +37,52 @@ pub fn unclear() -> Held
     }
 }
 
+// Whether u may stand right over t: t is the lower, and the two do not meet wrongly. Where the later start and its other end lie on one side of the other
+// segment, or the two have one end or one start, nothing more has to be looked at.
+fn follows(t: Segment, u: Segment) -> bool
+    requires { ⌜ Proper t × Proper u ⌝ }
+    ensures { λ r. ⌜ (r ≡ true) ↔ Next t u ⌝ }
+{
+    let a = t.a;
+    let b = t.b;
+    let c = u.a;
+    let d = u.b;
+    if geom::less(a, c) {
+        if geom::cross(a, b, c) <= 0 {
+            return false;
+        }
+        if 0 < geom::cross(a, b, d) {
+            return true;
+        }
+        if geom::same(b, d) {
+            return true;
+        }
+        return !meetings::meets_wrongly(t, u);
+    }
+    if geom::less(c, a) {
+        if 0 <= geom::cross(c, d, a) {
+            return false;
+        }
+        if geom::cross(c, d, b) < 0 {
+            return true;
+        }
+        if geom::same(d, b) {
+            return true;
+        }
+        return !meetings::meets_wrongly(t, u);
+    }
+    0 < geom::cross(a, b, d)
+}
+
 // Whether the segment at place i may stand right under that at place j.
 fn is_next(s: &[i32], i: u32, j: u32) -> bool
-    requires { ⌜ Proper (segmentAt (segments (now s)) i) × Proper (segmentAt (segments (now s)) j) ⌝ }
+    requires { ⌜ Listed (segments (now s)) i × Listed (segments (now s)) j ⌝ }
     ensures { λ r. ⌜ (r ≡ true) ↔ Next (segmentAt (segments (now (s .entry))) i) (segmentAt (segments (now (s .entry))) j) ⌝ }
 {
-    let t = segm::segment_at(s, i as usize);
-    let u = segm::segment_at(s, j as usize);
-    if !scan::is_lower(t, u) {
-        return false;
-    }
-    !meetings::meets_wrongly(t, u)
+    follows(
+        segm::segment_in(s, i as usize),
+        segm::segment_in(s, j as usize),
+    )
 }
 
 // Whether the segment at place i may stand right over the one before place k of the list, if there is one.
@@ -110,7 +146,7 @@ fn leave_one(s: &[i32], e: u32, list: &mut [u32], count: usize, near: usize) -> 
         };
     }
     let i = end - n;
-    let t = segm::segment_at(s, i);
+    let t = segm::segment_in(s, i);
     if scan::is_vertical(t) {
         return Held {
             count: count,
@@ -121,7 +157,8 @@ fn leave_one(s: &[i32], e: u32, list: &mut [u32], count: usize, near: usize) -> 
     take_out(s, t, i, list, count, near)
 }
 
-// A place of the list for i, whose segment is t: where the last one left, if it stands there, else by search. Without a wrong meeting it stands there.
+// A place of the list for i, whose segment is t: where the last one left or before it, if it stands there, else by search. Without a wrong meeting it stands
+// there.
 fn place_to_leave(s: &[i32], t: Segment, i: usize, list: &[u32], near: usize) -> usize
     requires { ⌜ (let d = segments (now s) in
         Ready d
@@ -135,6 +172,13 @@ fn place_to_leave(s: &[i32], t: Segment, i: usize, list: &[u32], near: usize) ->
     if near < list.len() {
         if list[near] as usize == i {
             return near;
+        }
+    }
+    if 0 < near {
+        if near <= list.len() {
+            if list[near - 1] as usize == i {
+                return near - 1;
+            }
         }
     }
     scan::place_near(s, list, near, Sought::Along(t))
@@ -174,7 +218,7 @@ fn take_out(s: &[i32], t: Segment, i: usize, list: &mut [u32], count: usize, nea
 }
 
 // Where the first one left or entered: here, if none has before.
-fn first_place(none_before: bool, first: usize, here: usize) -> usize {
+pub fn first_place(none_before: bool, first: usize, here: usize) -> usize {
     if none_before { here } else { first }
 }
 
@@ -261,11 +305,11 @@ fn enter_one(s: &[i32], i: usize, list: &mut [u32], count: usize, near: usize) -
         × (count < length (now list))
         × Known d l
         × Ordered d l) ⌝ }
-    ensures { λ r. ⌜ (let d = segments (now (s .entry)) in let l = take count (now (list .entry)) in
-        (r .clear ≡ true → ((r .count ≤ count + 1) × Entered d i (i + 1) l (take (r .count) (now (list .exit)))))
+    ensures { λ r. ⌜ (let d = segments (now (s .entry)) in let l = take count (now (list .entry)) in let l′ = take (r .count) (now (list .exit)) in
+        (r .clear ≡ true → ((r .count ≤ count + 1) × Entered d i (i + 1) l l′ × Marked i near l (r .near) l′))
         × (CanEnter d i (i + 1) l → r .clear ≡ true)) ⌝ }
 {
-    let t = segm::segment_at(s, i);
+    let t = segm::segment_in(s, i);
     if scan::is_vertical(t) {
         return Held {
             count: count,
@@ -288,7 +332,7 @@ fn enter_one(s: &[i32], i: usize, list: &mut [u32], count: usize, near: usize) -
     }
 }
 
-// The segments from one place up to another are passed. The place told is that after the first one that entered, or the guess.
+// The segments from one place up to another are passed. The place told is that after the last one that entered, or the guess.
 pub fn enter_all(
     s: &[i32],
     from: usize,
@@ -305,13 +349,12 @@ pub fn enter_all(
         × (length d ≤ length (now list))
         × Known d l
         × Ordered d l) ⌝ }
-    ensures { λ r. ⌜ (let d = segments (now (s .entry)) in let l = take count (now (list .entry)) in
-        (r .clear ≡ true → ((r .count ≤ to) × Entered d from to l (take (r .count) (now (list .exit)))))
+    ensures { λ r. ⌜ (let d = segments (now (s .entry)) in let l = take count (now (list .entry)) in let l′ = take (r .count) (now (list .exit)) in
+        (r .clear ≡ true → ((r .count ≤ to) × Entered d from to l l′ × (Older from l → Marks from (r .near) l′)))
         × (CanEnter d from to l → r .clear ≡ true)) ⌝ }
 {
     let mut held = count;
     let mut near = guess;
-    let mut first = guess;
     let mut i = from;
     while i < to {
         let entered = enter_one(s, i, list, held, near);
@@ -319,13 +362,12 @@ pub fn enter_all(
             return unclear();
         }
         near = entered.near;
-        first = first_place(held == count, first, near);
         held = entered.count;
         i += 1;
     }
     Held {
         count: held,
-        near: first,
+        near: near,
         clear: true,
     }
 }

@@ -1,4 +1,4 @@
--- The list in place: those from a place on move up one by one, from the back, and those that stay move to the front.
+-- The list in place: those from a place on move up one by one, from the back, or down.
 use mathlib.Core.Path.{_≡_, refl, sym, _∙_, ap, ap₂}
 use mathlib.Core.List.{List, [], _∷_, _++_, append-assoc, append-nil}
 use Prim.Native.Nat.{ℕ, zero, suc, _+_, _-_, _<_, _≤_}
@@ -68,7 +68,7 @@ pub written-own : (old : List ℕ) (n : ℕ) → n ≤ length old → written (t
 unfolding written
 written-own old n h = ap (λ m. take n old ++ drop m old) (length-take-le n old h) ∙ take-append-drop n old
 
--- ---- moving to the front: what was not yet written over is as it was
+-- ---- moving down: what was not yet written over is as it was
 pub unwritten : (answer old : List ℕ) (k : ℕ) → length answer ≤ k → getD (written answer old) k 0 ≡ getD old k 0
 unfolding written
 unwritten answer old k h =
@@ -80,7 +80,7 @@ unwritten answer old k h =
     ∙ getD-drop n old (k - n) 0
     ∙ ap (λ m. getD old m 0) e
 
--- ---- moving down: one is taken out at place k, and the rest up to place j have moved
+-- one is taken out at place k, and the rest up to place j have moved
 length-moved : (old : List ℕ) (k j : ℕ) → k < j → j ≤ length old → j - 1 ≡ length (outAt k (take j old))
 length-moved old k j h l = omega (arith, length-out k (take j old) (omega (arith, length-take-le j old l)), length-take-le j old l)
 

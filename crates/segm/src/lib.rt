@@ -3,7 +3,7 @@
 use geom::Point;
 ghost use mathlib.Core.Path.{_≡_};
 ghost use mathlib.Core.List.{_++_};
-ghost use Prim.Native.Nat.{_+_, _*_, _≤_};
+ghost use Prim.Native.Nat.{_+_, _*_, _≤_, _<_};
 ghost use lib.ListN.{length, take, drop};
 ghost use Rattle.segm.specs.Segments.{width, count, whole, segments, segmentAt, numbersOf};
 
@@ -21,6 +21,9 @@ pub const WIDTH: usize = 6;
 // How many numbers the largest drawing has, of 1,024 segments.
 pub const MOST: usize = 1024 * WIDTH;
 
+// How many segments a small drawing has at most. Working memory is cleared before use, and a small drawing has less of it.
+pub const SMALL: usize = 128;
+
 // How many segments s holds.
 pub fn count(s: &[i32]) -> usize
     ensures { λ r. ⌜ r ≡ count (now (s .entry)) ⌝ }
@@ -35,19 +38,11 @@ pub fn is_whole(s: &[i32]) -> bool
     s.len() % WIDTH == 0
 }
 
-// The segment at place i, all zeros past the last one.
-pub fn segment_at(s: &[i32], i: usize) -> Segment
+// The segment at place i of those that s has. Without a test, as the sweep takes most of its time for these reads.
+pub fn segment_in(s: &[i32], i: usize) -> Segment
+    requires { ⌜ i < length (segments (now s)) ⌝ }
     ensures { λ r. ⌜ r ≡ segmentAt (segments (now (s .entry))) i ⌝ }
 {
-    if s.len() / WIDTH <= i {
-        let o = Point { x: 0, y: 0 };
-        return Segment {
-            a: o,
-            b: o,
-            winding: 0,
-            bits: 0,
-        };
-    }
     let k = i * WIDTH;
     let a = Point {
         x: s[k],
@@ -63,6 +58,22 @@ pub fn segment_at(s: &[i32], i: usize) -> Segment
         winding: s[k + 4],
         bits: s[k + 5],
     }
+}
+
+// The segment at place i, all zeros past the last one.
+pub fn segment_at(s: &[i32], i: usize) -> Segment
+    ensures { λ r. ⌜ r ≡ segmentAt (segments (now (s .entry))) i ⌝ }
+{
+    if s.len() / WIDTH <= i {
+        let o = Point { x: 0, y: 0 };
+        return Segment {
+            a: o,
+            b: o,
+            winding: 0,
+            bits: 0,
+        };
+    }
+    segment_in(s, i)
 }
 
 // How many numbers n segments have.

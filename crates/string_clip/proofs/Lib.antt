@@ -10,3 +10,4 @@ pub mod OnePath
 pub mod AllPaths
 pub mod NoLines
 pub mod Masked
+pub mod Answers

@@ -144,7 +144,7 @@ module _ (d : Drawing) (g : Good d) (rule : Rule) (boundary : ℤ) where
 
 -- ---- by verdicts
 module _ (numbers : List ℤ) (rule invert boundary : ℤ) (xs : List ℤ) (ns : List ℕ) (e : verdict (clipRun numbers rule invert boundary (length xs) (length ns)) ≡ Accepted) where
-  accepted-drawing : Good (segments numbers)
+  pub accepted-drawing : Good (segments numbers)
   unfolding clipRun
   accepted-drawing = verdict-good _ e
 

@@ -9,15 +9,22 @@ use checks::Verdict;
 use fill_rule::Rule;
 use run::clip_links;
 ghost use mathlib.Core.Path.{_≡_};
+ghost use mathlib.Core.Bool.{true};
+ghost use mathlib.Core.Logic.{_↔_};
 ghost use Prim.Native.Nat.{_*_, _≤_};
 ghost use lib.ListN.{length};
+ghost use lib.IntN.{pos};
 ghost use Rattle.segm.specs.Segments.{width, segments};
 ghost use Rattle.contour.specs.Points.{Writes};
 ghost use Rattle.graph.specs.Nodes.{NodesIn};
+ghost use Rattle.count_up.specs.CountUp.{Counted};
 ghost use Rattle.checks.specs.Accepted.{Good};
+ghost use Rattle.checks.specs.Search.{RoomOf};
+ghost use Rattle.string_clip.specs.declared.Totals.{Totals};
+ghost use Rattle.string_clip.specs.declared.Clipped.the-variants.{Done};
 ghost use Rattle.string_clip.specs.Paths.{clipPaths};
 ghost use Rattle.string_clip.specs.Run.{totals, outcome, clipOutcome};
-ghost use Rattle.string_clip.specs.Claim.{Together};
+ghost use Rattle.string_clip.specs.Claim.{Room, Together};
 
 // How many paths, points and steps a run found, and their travel.
 pub struct Totals {
@@ -39,7 +46,7 @@ pub struct Both {
     pub outside: Clipped,
 }
 
-// Clips an accepted drawing with its nodes. The lists `fills` and `links` are working memory.
+// Clips an accepted drawing with its nodes and top counts. The list `links` is working memory.
 fn clip_with(
     s: &[i32],
     rule: Rule,
@@ -47,44 +54,62 @@ fn clip_with(
     flat: &[u32],
     starts: &[u32],
     nodes: &[u32],
-    fills: &mut [u8],
+    tops: &[i32],
     links: &mut [i32],
     points: &mut [i32],
     lengths: &mut [u32],
 ) -> Totals
     requires { ⌜ Good (segments (now s))
         × NodesIn (segments (now s)) (now flat) (now starts) (now nodes)
-        × (1024 ≤ length (now fills))
-        × (1024 * width ≤ length (now links))
+        × Counted (segments (now s)) (now tops)
+        × (length (segments (now s)) ≤ length (now tops))
+        × (length (segments (now s)) * width ≤ length (now links))
         × (8 * length (segments (now s)) ≤ length (now points))
         × (2 * length (segments (now s)) ≤ length (now lengths)) ⌝ }
     ensures { λ r. ⌜ (r ≡ totals (clipPaths rule filter (segments (now (s .entry)))))
         × Writes (clipPaths rule filter (segments (now (s .entry)))) (now (points .entry)) (now (lengths .entry)) (now (points .exit)) (now (lengths .exit)) ⌝ }
 {
-    build::masked_links(s, rule, filter, fills, links);
+    build::masked_links(s, rule, filter, tops, links);
     let n = segm::size(segm::count(s));
     clip_links(&links[..n], flat, starts, nodes, points, lengths)
 }
 
-// Clips an accepted drawing with its nodes.
+// Clips an accepted drawing with its nodes and top counts, with memory for a small drawing or for any.
 fn clip_accepted(
     s: &[i32],
     rule: Rule,
     filter: Filter,
-    flat: &[u32; 2048],
-    starts: &[u32; 2049],
-    nodes: &[u32; 2048],
+    flat: &[u32],
+    starts: &[u32],
+    nodes: &[u32],
+    tops: &[i32],
     points: &mut [i32],
     lengths: &mut [u32],
 ) -> Totals
     requires { ⌜ Good (segments (now s))
         × NodesIn (segments (now s)) (now flat) (now starts) (now nodes)
+        × Counted (segments (now s)) (now tops)
+        × (length (segments (now s)) ≤ length (now tops))
         × (8 * length (segments (now s)) ≤ length (now points))
         × (2 * length (segments (now s)) ≤ length (now lengths)) ⌝ }
     ensures { λ r. ⌜ (r ≡ totals (clipPaths rule filter (segments (now (s .entry)))))
         × Writes (clipPaths rule filter (segments (now (s .entry)))) (now (points .entry)) (now (lengths .entry)) (now (points .exit)) (now (lengths .exit)) ⌝ }
 {
-    let mut fills = [0u8; 1024];
+    if segm::count(s) <= segm::SMALL {
+        let mut links = [0i32; 768];
+        return clip_with(
+            s,
+            rule,
+            filter,
+            flat,
+            starts,
+            nodes,
+            tops,
+            &mut links,
+            points,
+            lengths,
+        );
+    }
     let mut links = [0i32; segm::MOST];
     clip_with(
         s,
@@ -93,11 +118,55 @@ fn clip_accepted(
         flat,
         starts,
         nodes,
-        &mut fills,
+        tops,
         &mut links,
         points,
         lengths,
     )
+}
+
+// The clip run, with memory for the nodes and the top counts. Those of an accepted drawing are left there.
+fn clip_in(
+    s: &[i32],
+    rule: i32,
+    invert: i32,
+    boundary: i32,
+    flat: &mut [u32],
+    starts: &mut [u32],
+    nodes: &mut [u32],
+    tops: &mut [i32],
+    points: &mut [i32],
+    lengths: &mut [u32],
+) -> Clipped
+    requires { ⌜ RoomOf (now s) (now flat) (now starts) (now nodes) (now tops) ⌝ }
+    ensures { λ r. ⌜ (outcome r (now (points .exit)) (now (lengths .exit)) ≡ clipOutcome (now (s .entry)) rule invert boundary (now (points .entry)) (now (lengths .entry)))
+        × ((t : Totals) → r ≡ Done t → NodesIn (segments (now (s .entry))) (now (flat .exit)) (now (starts .exit)) (now (nodes .exit)) × Counted (segments (now (s .entry))) (now (tops .exit))) ⌝ }
+{
+    match checks::check_clip(
+        s,
+        rule,
+        invert,
+        boundary,
+        points.len(),
+        lengths.len(),
+        flat,
+        starts,
+        nodes,
+        tops,
+    ) {
+        Verdict::Accepted => Clipped::Done(clip_accepted(
+            s,
+            fill_rule::rule_of(rule),
+            build::filter_of(invert, boundary),
+            flat,
+            starts,
+            nodes,
+            tops,
+            points,
+            lengths,
+        )),
+        Verdict::Refused(number, place) => Clipped::Refused(number, place),
+    }
 }
 
 // The cut lines inside (invert 0) or outside (invert 1), as x, y pairs and one length a path, or the refusal.
@@ -111,35 +180,155 @@ pub fn clip(
 ) -> Clipped
     ensures { λ r. ⌜ outcome r (now (points .exit)) (now (lengths .exit)) ≡ clipOutcome (now (segments .entry)) rule invert boundary (now (points .entry)) (now (lengths .entry)) ⌝ }
 {
+    if segm::count(segments) <= segm::SMALL {
+        let mut flat = [0u32; 256];
+        let mut starts = [0u32; 257];
+        let mut nodes = [0u32; 256];
+        let mut tops = [0i32; segm::SMALL];
+        return clip_in(
+            segments,
+            rule,
+            invert,
+            boundary,
+            &mut flat,
+            &mut starts,
+            &mut nodes,
+            &mut tops,
+            points,
+            lengths,
+        );
+    }
     let mut flat = [0u32; 2048];
     let mut starts = [0u32; 2049];
     let mut nodes = [0u32; 2048];
-    match checks::check_clip(
+    let mut tops = [0i32; 1024];
+    clip_in(
         segments,
         rule,
         invert,
         boundary,
-        points.len(),
-        lengths.len(),
         &mut flat,
         &mut starts,
         &mut nodes,
-    ) {
-        Verdict::Accepted => Clipped::Done(clip_accepted(
-            segments,
+        &mut tops,
+        points,
+        lengths,
+    )
+}
+
+// Whether lent lists are long enough for a drawing. By quotients, as a product could be too large.
+fn has_room(s: &[i32], points: &[i32], lengths: &[u32]) -> bool
+    ensures { λ r. ⌜ (r ≡ true) ↔ Room (now (s .entry)) (now (points .entry)) (now (lengths .entry)) ⌝ }
+{
+    let n = segm::count(s);
+    (n <= points.len() / 8) & (n <= lengths.len() / 2)
+}
+
+// Both clip runs by one check, with memory for the nodes and the top counts. No lent list is too short, so the runs have one verdict.
+fn both_in(
+    s: &[i32],
+    rule: i32,
+    boundary: i32,
+    flat: &mut [u32],
+    starts: &mut [u32],
+    nodes: &mut [u32],
+    tops: &mut [i32],
+    inside_points: &mut [i32],
+    inside_lengths: &mut [u32],
+    outside_points: &mut [i32],
+    outside_lengths: &mut [u32],
+) -> Both
+    requires { ⌜ RoomOf (now s) (now flat) (now starts) (now nodes) (now tops)
+        × Room (now s) (now «inside_points») (now «inside_lengths»)
+        × Room (now s) (now «outside_points») (now «outside_lengths») ⌝ }
+    ensures { λ r. ⌜ (outcome (r .inside) (now («inside_points» .exit)) (now («inside_lengths» .exit)) ≡ clipOutcome (now (s .entry)) rule (pos 0) boundary (now («inside_points» .entry)) (now («inside_lengths» .entry)))
+        × (outcome (r .outside) (now («outside_points» .exit)) (now («outside_lengths» .exit)) ≡ clipOutcome (now (s .entry)) rule (pos 1) boundary (now («outside_points» .entry)) (now («outside_lengths» .entry))) ⌝ }
+{
+    let inside = clip_in(
+        s,
+        rule,
+        0,
+        boundary,
+        flat,
+        starts,
+        nodes,
+        tops,
+        inside_points,
+        inside_lengths,
+    );
+    let outside = match inside {
+        Clipped::Done(_) => Clipped::Done(clip_accepted(
+            s,
             fill_rule::rule_of(rule),
-            build::filter_of(invert, boundary),
-            &flat,
-            &starts,
-            &nodes,
-            points,
-            lengths,
+            build::filter_of(1, boundary),
+            flat,
+            starts,
+            nodes,
+            tops,
+            outside_points,
+            outside_lengths,
         )),
-        Verdict::Refused(number, place) => Clipped::Refused(number, place),
+        Clipped::Refused(number, place) => Clipped::Refused(number, place),
+    };
+    Both {
+        inside: inside,
+        outside: outside,
     }
 }
 
-// Both clip runs, inside and outside, with one drawing, rule and boundary.
+// The same, with memory for a small drawing or for any.
+fn both_at_once(
+    segments: &[i32],
+    rule: i32,
+    boundary: i32,
+    inside_points: &mut [i32],
+    inside_lengths: &mut [u32],
+    outside_points: &mut [i32],
+    outside_lengths: &mut [u32],
+) -> Both
+    requires { ⌜ Room (now segments) (now «inside_points») (now «inside_lengths») × Room (now segments) (now «outside_points») (now «outside_lengths») ⌝ }
+    ensures { λ r. ⌜ (outcome (r .inside) (now («inside_points» .exit)) (now («inside_lengths» .exit)) ≡ clipOutcome (now (segments .entry)) rule (pos 0) boundary (now («inside_points» .entry)) (now («inside_lengths» .entry)))
+        × (outcome (r .outside) (now («outside_points» .exit)) (now («outside_lengths» .exit)) ≡ clipOutcome (now (segments .entry)) rule (pos 1) boundary (now («outside_points» .entry)) (now («outside_lengths» .entry))) ⌝ }
+{
+    if segm::count(segments) <= segm::SMALL {
+        let mut flat = [0u32; 256];
+        let mut starts = [0u32; 257];
+        let mut nodes = [0u32; 256];
+        let mut tops = [0i32; segm::SMALL];
+        return both_in(
+            segments,
+            rule,
+            boundary,
+            &mut flat,
+            &mut starts,
+            &mut nodes,
+            &mut tops,
+            inside_points,
+            inside_lengths,
+            outside_points,
+            outside_lengths,
+        );
+    }
+    let mut flat = [0u32; 2048];
+    let mut starts = [0u32; 2049];
+    let mut nodes = [0u32; 2048];
+    let mut tops = [0i32; 1024];
+    both_in(
+        segments,
+        rule,
+        boundary,
+        &mut flat,
+        &mut starts,
+        &mut nodes,
+        &mut tops,
+        inside_points,
+        inside_lengths,
+        outside_points,
+        outside_lengths,
+    )
+}
+
+// Both clip runs, inside and outside, with one drawing, rule and boundary, by one check; where a list is too short, which one run may be refused for, by two.
 pub fn clip_both(
     segments: &[i32],
     rule: i32,
@@ -153,6 +342,19 @@ pub fn clip_both(
         (outcome (r .inside) (now («inside_points» .exit)) (now («inside_lengths» .exit))) (now («inside_points» .entry)) (now («inside_lengths» .entry))
         (outcome (r .outside) (now («outside_points» .exit)) (now («outside_lengths» .exit))) (now («outside_points» .entry)) (now («outside_lengths» .entry)) ⌝ }
 {
+    if has_room(segments, inside_points, inside_lengths)
+        & has_room(segments, outside_points, outside_lengths)
+    {
+        return both_at_once(
+            segments,
+            rule,
+            boundary,
+            inside_points,
+            inside_lengths,
+            outside_points,
+            outside_lengths,
+        );
+    }
     let inside = clip(segments, rule, 0, boundary, inside_points, inside_lengths);
     let outside = clip(segments, rule, 1, boundary, outside_points, outside_lengths);
     Both {

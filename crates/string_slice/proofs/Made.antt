@@ -98,12 +98,12 @@ module _ (rule : Rule) (d : Drawing) (good : Good d) {n : ℕ} {points : List �
   pub few-points : length (flatten (pathsIn points (take n lengths))) ≤ 2 * length d
   few-points = omega (arith, ap (λ (l : List (List Point)). length (flatten l)) (m .paths-are), length-all d (m .found), walks-few d (sideBits rule d) (m .found) (m .are), bits-left)
 
-  pub stand : 4096 ≤ length points → Stand points (take n lengths)
+  pub stand : 4 * length d ≤ length points → Stand points (take n lengths)
   stand room =
       let sum : tally (λ k. k) (take n lengths) ≡ length (flatten (pathsIn points (take n lengths))) =
       ap (tally (λ k. k)) (m .lengths-are) ∙ tally-lengths (allPoints d (m .found)) ∙ sym (ap (λ (l : List (List Point)). length (flatten l)) (m .paths-are)) in
       record {
-        inside = omega (arith, sum, few-points, good .few, room);
+        inside = omega (arith, sum, few-points, room);
         few = omega (arith, sum, few-points, good .few);
         near = subst (λ (l : List (List Point)). AllInRange (flatten l)) (sym (m .paths-are)) (near-all (allPoints d (m .found)) (λ l i. let r = in-map (walkPoints d) l (m .found) i in subst AllInRange (sym (r .2)) (walk-near d (proper d good) (r .0))));
       }

@@ -13,9 +13,18 @@ ghost use Prim.Native.Nat.{_*_, _≤_};
 ghost use lib.ListN.{length};
 ghost use Rattle.segm.specs.Segments.{segments};
 ghost use Rattle.graph.specs.Nodes.{NodesIn};
+ghost use Rattle.count_up.specs.CountUp.{Counted};
 ghost use Rattle.checks.specs.Accepted.{Good};
+ghost use Rattle.checks.specs.Search.{RoomOf};
 ghost use Rattle.string_slice.specs.Contours.{sliceContours};
 ghost use Rattle.string_slice.specs.Run.{outcome, handedOver, sliceOutcome};
+
+// What is asked of contours: the rule that fills, their direction, and the least area.
+struct Asked {
+    rule: Rule,
+    clockwise: bool,
+    least: u64,
+}
 
 // What a slice run answers: what it found, or a refusal's number and place.
 pub enum Sliced {
@@ -23,53 +32,172 @@ pub enum Sliced {
     Refused(u32, usize),
 }
 
-// Slices an accepted drawing with its nodes. All walks are made before the first contour is written, so that a walk that finds no move leaves the lists as they were.
-fn slice_accepted(
+// Slices an accepted drawing with its nodes and top counts. All walks are made before the first contour is written, so that a walk that finds no move leaves the
+// lists as they were. The lists from `walks` to `directions` are working memory.
+fn slice_with(
     s: &[i32],
-    rule: Rule,
-    clockwise: bool,
-    min_area: u64,
-    flat: &[u32; 2048],
-    starts: &[u32; 2049],
-    nodes: &[u32; 2048],
+    asked: Asked,
+    flat: &[u32],
+    starts: &[u32],
+    nodes: &[u32],
+    tops: &[i32],
+    walks: &mut [i32],
+    walk_lengths: &mut [u32],
+    directions: &mut [u8],
     points: &mut [i32],
     lengths: &mut [u32],
     roles: &mut [u8],
 ) -> Sliced
     requires { ⌜ Good (segments (now s))
         × NodesIn (segments (now s)) (now flat) (now starts) (now nodes)
+        × Counted (segments (now s)) (now tops)
+        × (length (segments (now s)) ≤ length (now tops))
+        × (4 * length (segments (now s)) ≤ length (now walks))
+        × (2 * length (segments (now s)) ≤ length (now «walk_lengths»))
+        × (2 * length (segments (now s)) ≤ length (now directions))
         × (4 * length (segments (now s)) ≤ length (now points))
         × (2 * length (segments (now s)) ≤ length (now lengths))
         × (2 * length (segments (now s)) ≤ length (now roles)) ⌝ }
     ensures { λ r. ⌜ outcome r (now (points .exit)) (now (lengths .exit)) (now (roles .exit))
-        ≡ handedOver (sliceContours rule clockwise «min_area» (segments (now (s .entry)))) (now (points .entry)) (now (lengths .entry)) (now (roles .entry)) ⌝ }
+        ≡ handedOver (sliceContours (asked .rule) (asked .clockwise) (asked .least) (segments (now (s .entry)))) (now (points .entry)) (now (lengths .entry)) (now (roles .entry)) ⌝ }
 {
-    let mut walks = [0i32; 4096];
-    let mut walk_lengths = [0u32; 2048];
-    let mut directions = [0u8; 2048];
+    let rule = asked.rule;
     let made = make_walks(
         s,
         rule,
         flat,
         starts,
         nodes,
-        &mut walks,
-        &mut walk_lengths,
-        &mut directions,
+        tops,
+        walks,
+        walk_lengths,
+        directions,
     );
     let Walks::Done(n) = made else {
         return Sliced::Refused(12, 0);
     };
     Sliced::Done(cut_walks(
-        &walks,
+        walks,
         &walk_lengths[..n],
         &directions[..n],
-        clockwise,
-        min_area,
+        asked.clockwise,
+        asked.least,
         points,
         lengths,
         roles,
     ))
+}
+
+// The same, with memory for a small drawing or for any.
+fn slice_accepted(
+    s: &[i32],
+    asked: Asked,
+    flat: &[u32],
+    starts: &[u32],
+    nodes: &[u32],
+    tops: &[i32],
+    points: &mut [i32],
+    lengths: &mut [u32],
+    roles: &mut [u8],
+) -> Sliced
+    requires { ⌜ Good (segments (now s))
+        × NodesIn (segments (now s)) (now flat) (now starts) (now nodes)
+        × Counted (segments (now s)) (now tops)
+        × (length (segments (now s)) ≤ length (now tops))
+        × (4 * length (segments (now s)) ≤ length (now points))
+        × (2 * length (segments (now s)) ≤ length (now lengths))
+        × (2 * length (segments (now s)) ≤ length (now roles)) ⌝ }
+    ensures { λ r. ⌜ outcome r (now (points .exit)) (now (lengths .exit)) (now (roles .exit))
+        ≡ handedOver (sliceContours (asked .rule) (asked .clockwise) (asked .least) (segments (now (s .entry)))) (now (points .entry)) (now (lengths .entry)) (now (roles .entry)) ⌝ }
+{
+    if segm::count(s) <= segm::SMALL {
+        let mut walks = [0i32; 512];
+        let mut walk_lengths = [0u32; 256];
+        let mut directions = [0u8; 256];
+        return slice_with(
+            s,
+            asked,
+            flat,
+            starts,
+            nodes,
+            tops,
+            &mut walks,
+            &mut walk_lengths,
+            &mut directions,
+            points,
+            lengths,
+            roles,
+        );
+    }
+    let mut walks = [0i32; 4096];
+    let mut walk_lengths = [0u32; 2048];
+    let mut directions = [0u8; 2048];
+    slice_with(
+        s,
+        asked,
+        flat,
+        starts,
+        nodes,
+        tops,
+        &mut walks,
+        &mut walk_lengths,
+        &mut directions,
+        points,
+        lengths,
+        roles,
+    )
+}
+
+// The slice run, with memory for the nodes and the top counts.
+fn slice_in(
+    segments: &[i32],
+    rule: i32,
+    direction: i32,
+    min_area: u64,
+    flat: &mut [u32],
+    starts: &mut [u32],
+    nodes: &mut [u32],
+    tops: &mut [i32],
+    points: &mut [i32],
+    lengths: &mut [u32],
+    roles: &mut [u8],
+) -> Sliced
+    requires { ⌜ RoomOf (now segments) (now flat) (now starts) (now nodes) (now tops) ⌝ }
+    ensures { λ r. ⌜ outcome r (now (points .exit)) (now (lengths .exit)) (now (roles .exit))
+        ≡ sliceOutcome (now (segments .entry)) rule direction «min_area» (now (points .entry)) (now (lengths .entry)) (now (roles .entry)) ⌝ }
+{
+    match checks::check_slice(
+        segments,
+        rule,
+        direction,
+        points.len(),
+        lengths.len(),
+        roles.len(),
+        flat,
+        starts,
+        nodes,
+        tops,
+    ) {
+        Verdict::Accepted => {
+            let asked = Asked {
+                rule: fill_rule::rule_of(rule),
+                clockwise: direction == 1,
+                least: min_area,
+            };
+            slice_accepted(
+                segments,
+                asked,
+                flat,
+                starts,
+                nodes,
+                tops,
+                points,
+                lengths,
+                roles,
+            )
+        }
+        Verdict::Refused(number, place) => Sliced::Refused(number, place),
+    }
 }
 
 // The contours of a drawing's filled area, as x, y pairs and one length and one role a contour, or the refusal.
@@ -85,32 +213,40 @@ pub fn slice(
     ensures { λ r. ⌜ outcome r (now (points .exit)) (now (lengths .exit)) (now (roles .exit))
         ≡ sliceOutcome (now (segments .entry)) rule direction «min_area» (now (points .entry)) (now (lengths .entry)) (now (roles .entry)) ⌝ }
 {
-    let mut flat = [0u32; 2048];
-    let mut starts = [0u32; 2049];
-    let mut nodes = [0u32; 2048];
-    match checks::check_slice(
-        segments,
-        rule,
-        direction,
-        points.len(),
-        lengths.len(),
-        roles.len(),
-        &mut flat,
-        &mut starts,
-        &mut nodes,
-    ) {
-        Verdict::Accepted => slice_accepted(
+    if segm::count(segments) <= segm::SMALL {
+        let mut flat = [0u32; 256];
+        let mut starts = [0u32; 257];
+        let mut nodes = [0u32; 256];
+        let mut tops = [0i32; segm::SMALL];
+        return slice_in(
             segments,
-            fill_rule::rule_of(rule),
-            direction == 1,
+            rule,
+            direction,
             min_area,
-            &flat,
-            &starts,
-            &nodes,
+            &mut flat,
+            &mut starts,
+            &mut nodes,
+            &mut tops,
             points,
             lengths,
             roles,
-        ),
-        Verdict::Refused(number, place) => Sliced::Refused(number, place),
+        );
     }
+    let mut flat = [0u32; 2048];
+    let mut starts = [0u32; 2049];
+    let mut nodes = [0u32; 2048];
+    let mut tops = [0i32; 1024];
+    slice_in(
+        segments,
+        rule,
+        direction,
+        min_area,
+        &mut flat,
+        &mut starts,
+        &mut nodes,
+        &mut tops,
+        points,
+        lengths,
+        roles,
+    )
 }

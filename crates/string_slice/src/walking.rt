@@ -7,6 +7,7 @@ ghost use Prim.Native.Nat.{_*_, _%_, _≤_, _<_};
 ghost use lib.ListN.{length};
 ghost use Rattle.segm.specs.Segments.{segments};
 ghost use Rattle.graph.specs.Nodes.{NodesIn};
+ghost use Rattle.count_up.specs.CountUp.{Counted};
 ghost use Rattle.checks.specs.Accepted.{Good};
 ghost use Rattle.slice_walk.specs.Walk.{walks};
 ghost use Rattle.slice_walk.specs.Writing.{WalksAre};
@@ -23,29 +24,32 @@ fn keep_sides(fills: &mut [u8])
     }
 }
 
-// The walks, by the nodes of the drawing. The list `bits` is working memory.
+// The walks, by the nodes and the top counts of the drawing. The list `bits` is working memory.
 fn walk_links(
     s: &[i32],
     rule: Rule,
-    bits: &mut [u8],
     flat: &[u32],
     starts: &[u32],
     nodes: &[u32],
+    tops: &[i32],
+    bits: &mut [u8],
     points: &mut [i32],
     lengths: &mut [u32],
     directions: &mut [u8],
 ) -> Walks
     requires { ⌜ Good (segments (now s))
-        × (1024 ≤ length (now bits))
         × NodesIn (segments (now s)) (now flat) (now starts) (now nodes)
-        × (4096 ≤ length (now points))
-        × (2048 ≤ length (now lengths))
-        × (2048 ≤ length (now directions)) ⌝ }
+        × Counted (segments (now s)) (now tops)
+        × (length (segments (now s)) ≤ length (now tops))
+        × (length (segments (now s)) ≤ length (now bits))
+        × (4 * length (segments (now s)) ≤ length (now points))
+        × (2 * length (segments (now s)) ≤ length (now lengths))
+        × (2 * length (segments (now s)) ≤ length (now directions)) ⌝ }
     ensures { λ r. ⌜ WalksAre (segments (now (s .entry))) (walks (segments (now (s .entry))) (sideBits rule (segments (now (s .entry))))) (now (points .entry)) (now (lengths .entry)) (now (directions .entry)) r (now (points .exit)) (now (lengths .exit)) (now (directions .exit)) ⌝ }
 {
     let m = segm::count(s);
     let e = 2 * m;
-    fill_sweep::write_fills(s, rule, &mut bits[..m]);
+    top_fills::write_fills(s, rule, tops, &mut bits[..m]);
     keep_sides(&mut bits[..m]);
     slice_walk::write_walks(
         s,
@@ -59,32 +63,36 @@ fn walk_links(
     )
 }
 
-// The walks of an accepted drawing with its nodes: their points, how many each has, and its direction.
+// The walks of an accepted drawing with its nodes and top counts: their points, how many each has, and its direction.
 pub fn make_walks(
     s: &[i32],
     rule: Rule,
     flat: &[u32],
     starts: &[u32],
     nodes: &[u32],
+    tops: &[i32],
     points: &mut [i32],
     lengths: &mut [u32],
     directions: &mut [u8],
 ) -> Walks
     requires { ⌜ Good (segments (now s))
         × NodesIn (segments (now s)) (now flat) (now starts) (now nodes)
-        × (4096 ≤ length (now points))
-        × (2048 ≤ length (now lengths))
-        × (2048 ≤ length (now directions)) ⌝ }
+        × Counted (segments (now s)) (now tops)
+        × (length (segments (now s)) ≤ length (now tops))
+        × (4 * length (segments (now s)) ≤ length (now points))
+        × (2 * length (segments (now s)) ≤ length (now lengths))
+        × (2 * length (segments (now s)) ≤ length (now directions)) ⌝ }
     ensures { λ r. ⌜ WalksAre (segments (now (s .entry))) (walks (segments (now (s .entry))) (sideBits rule (segments (now (s .entry))))) (now (points .entry)) (now (lengths .entry)) (now (directions .entry)) r (now (points .exit)) (now (lengths .exit)) (now (directions .exit)) ⌝ }
 {
     let mut bits = [0u8; 1024];
     walk_links(
         s,
         rule,
-        &mut bits,
         flat,
         starts,
         nodes,
+        tops,
+        &mut bits,
         points,
         lengths,
         directions,

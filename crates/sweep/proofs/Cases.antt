@@ -7,16 +7,15 @@ use Rattle.geom.specs.Points.{eqZ, ltP, eqP, cross}
 use Rattle.segm.specs.Lists.{sum, keep, written, upFrom}
 use Rattle.segm.specs.Segments.{front, segmentsOf, count, segments, segmentAt, total}
 use Rattle.segm.specs.CaseA.{segment, A}
-use Rattle.ends.specs.Ends.{turnBefore}
 use Rattle.ends.specs.Ordering.{insert, ordering}
 use Rattle.meetings.specs.Meetings.{side}
 use Rattle.strip.specs.Strip.{isVertical, spans, above, clockwise, reach, height, gap, falls, under}
-use Rattle.scan.specs.Scan.{stillOpen, bisect, placeBy, isBelow, placeOf, putAt}
+use Rattle.scan.specs.Scan.{bisect, isBelow, putAt}
 use Rattle.fill_rule.specs.FillRule.{filled, ruleOf, fillOf}
 use Rattle.ray.specs.Ray.{met, bottom, top, fill, fills}
-use Rattle.sweep.specs.Sweep.{startingAt, nodeSize, nodeFrom, visit, visitNode, sweepFrom, sweepWith}
+use Rattle.sweep.specs.Sweep.{startingAt, nodeSize, nodeFrom, turnBefore, visit, visitNode, sweepFrom, sweepWith}
 use Rattle.sweep.specs.Stored.{isUnder, higher, highest, countOf, storedCount, storeTop, sweepInto, sweep}
-use Rattle.sweep.specs.Open.{seekOpen, countOpen, storeOpen, openSweep}
+use Rattle.sweep.specs.Open.{stillOpen, placeBy, placeOf, seekOpen, countOpen, storeOpen, openSweep}
 
 -- three triangles about the origin, with counts -1, 1 and 2 from the lowest; its four segments do not stand in turn
 abbrev triangles : List ℤ

@@ -4,6 +4,7 @@ pub mod StoredScan
 pub mod OpenList
 pub mod OpenScan
 pub mod Nodes
+pub mod Turns
 pub mod VisitOrder
 pub mod Bottoms
 pub mod AsRay

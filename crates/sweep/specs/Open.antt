@@ -1,16 +1,31 @@
--- The sweep with an ordered list of the segments still open, as the code has it: nothing is looked at twice that has ended, and the highest one under a point
--- is found by bisection. Assumes nothing.
+-- The sweep with an ordered list of the segments still open: nothing is looked at twice that has ended, and the highest one under a point is found by bisection.
+-- Assumes nothing.
 use mathlib.Core.List.{List, []}
-use mathlib.Core.Bool.{cond}
+use mathlib.Core.Bool.{Bool, cond}
 use Prim.Native.Nat.{ℕ, suc, _-_}
 use lib.Dec.{eqb}
-use lib.ListN.{getD, set}
+use lib.ListN.{length, getD, set}
 use lib.IntN.{ℤ, pos}
+use lib.Signed.{ltZ}
 use Rattle.geom.specs.declared.Point.{Point}
-use Rattle.segm.specs.Segments.{Drawing}
-use Rattle.scan.specs.Scan.{stillOpen, placeOf, putAt}
+use Rattle.segm.specs.Lists.{keep}
+use Rattle.segm.specs.Segments.{Drawing, segmentAt}
+use Rattle.scan.specs.declared.Sought.the-variants.{At}
+use Rattle.scan.specs.Scan.{bisect, isBelow, putAt}
 use Rattle.fill_rule.specs.declared.Rule.{Rule}
 use Rattle.sweep.specs.Sweep.{sweepWith}
+
+-- those that do not end at or before x
+unfoldable pub stillOpen : Drawing → ℤ → List ℕ → List ℕ
+stillOpen d x l = keep (λ i. ltZ x (segmentAt d i .b .x)) l
+
+-- the place of what is sought: how many of an ordered list are below it
+unfoldable pub placeBy : (ℕ → Bool) → List ℕ → ℕ
+placeBy below l = bisect (λ k. below (getD l k 0)) (length l) 0 (length l)
+
+-- the place of p
+unfoldable pub placeOf : Drawing → Point → List ℕ → ℕ
+placeOf d p l = placeBy (isBelow d (At p)) l
 
 -- the scan: the ordered list of the open segments
 pub record Opened : Type 0 where

@@ -1,16 +1,16 @@
 -- The sweep of the Rust's build/sweep.rs, line by line: nodes of one start in order, each with its segments counter-clockwise from the lowest, the scan asked once a node.
 -- As there, the scan is any collection that can be asked for the count under a point and that stores a segment with its top count. Assumes nothing.
 use mathlib.Core.List.{List, [], _∷_}
-use mathlib.Core.Bool.{cond}
+use mathlib.Core.Bool.{Bool, cond}
 use Prim.Native.Nat.{ℕ, zero, suc, _+_}
 use lib.Dec.{ltb}
 use lib.ListN.{length, drop, set}
-use lib.IntN.{ℤ, _+ℤ_}
+use lib.IntN.{ℤ, pos, _+ℤ_}
+use lib.Signed.{ltZ}
 use Rattle.geom.specs.declared.Point.{Point}
-use Rattle.geom.specs.Points.{eqP}
+use Rattle.geom.specs.Points.{eqP, cross}
 use Rattle.segm.specs.Lists.{upFrom}
 use Rattle.segm.specs.Segments.{Drawing, segmentAt}
-use Rattle.ends.specs.Ends.{turnBefore}
 use Rattle.ends.specs.Ordering.{ordering}
 use Rattle.strip.specs.Strip.{isVertical}
 use Rattle.fill_rule.specs.declared.Rule.{Rule}
@@ -28,6 +28,10 @@ nodeSize d i = suc (startingAt (segmentAt d i .a) (drop (suc i) d))
 -- the places of that node
 unfoldable pub nodeFrom : Drawing → ℕ → List ℕ
 nodeFrom d i = upFrom i (nodeSize d i)
+
+-- of segments that start at one point: the direction of e is clockwise of that of f, so that order is counter-clockwise from the lowest
+unfoldable pub turnBefore : Drawing → ℕ → ℕ → Bool
+turnBefore d e f = ltZ (pos 0) (cross (segmentAt d e .a) (segmentAt d e .b) (segmentAt d f .b))
 
 -- what the sweep has made: the scan, and the list of fills that it writes to
 pub record Swept (S : Type 0) : Type 0 where

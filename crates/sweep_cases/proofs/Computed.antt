@@ -8,14 +8,13 @@ use Rattle.geom.specs.Points.{eqZ, eqP, cross}
 use Rattle.segm.specs.Lists.{upFrom, keep}
 use Rattle.segm.specs.Segments.{front, segmentsOf, count, segments, segmentAt}
 use Rattle.meetings.specs.Meetings.{side}
-use Rattle.ends.specs.Ends.{turnBefore}
 use Rattle.ends.specs.Ordering.{insert, ordering}
 use Rattle.strip.specs.Strip.{isVertical, above, reach, height, gap, falls, under}
-use Rattle.scan.specs.Scan.{stillOpen, bisect, placeBy, isBelow, placeOf, putAt}
+use Rattle.scan.specs.Scan.{bisect, isBelow, putAt}
 use Rattle.fill_rule.specs.FillRule.{filled, ruleOf, fillOf}
-use Rattle.sweep.specs.Sweep.{startingAt, nodeSize, nodeFrom, visit, visitNode, sweepFrom, sweepWith}
+use Rattle.sweep.specs.Sweep.{startingAt, nodeSize, nodeFrom, turnBefore, visit, visitNode, sweepFrom, sweepWith}
 use Rattle.sweep.specs.Stored.{isUnder, higher, highest, countOf, storedCount, storeTop, sweepInto, sweep}
-use Rattle.sweep.specs.Open.{seekOpen, countOpen, storeOpen, openSweep}
+use Rattle.sweep.specs.Open.{stillOpen, placeBy, placeOf, seekOpen, countOpen, storeOpen, openSweep}
 use Rattle.sweep_cases.proofs.Drawings.{Drawn, drawings}
 
 abbrev drawnFills : List (List ℕ)

@@ -107,10 +107,27 @@ fn show(v: Verdict) {
     }
 }
 
+fn show_fills(d: &[i32], rule: i32, fills: usize) {
+    let mut flat = [0u32; 2048];
+    let mut starts = [0u32; 2049];
+    let mut nodes = [0u32; 2048];
+    let mut tops = [0i32; 1024];
+    show(checks::check_fills(
+        d,
+        rule,
+        fills,
+        &mut flat,
+        &mut starts,
+        &mut nodes,
+        &mut tops,
+    ));
+}
+
 fn show_clip(d: &[i32], rule: i32, invert: i32, boundary: i32, points: usize, lengths: usize) {
     let mut flat = [0u32; 2048];
     let mut starts = [0u32; 2049];
     let mut nodes = [0u32; 2048];
+    let mut tops = [0i32; 1024];
     show(checks::check_clip(
         d,
         rule,
@@ -121,6 +138,26 @@ fn show_clip(d: &[i32], rule: i32, invert: i32, boundary: i32, points: usize, le
         &mut flat,
         &mut starts,
         &mut nodes,
+        &mut tops,
+    ));
+}
+
+fn show_slice(d: &[i32], rule: i32, direction: i32, points: usize, lengths: usize, roles: usize) {
+    let mut flat = [0u32; 2048];
+    let mut starts = [0u32; 2049];
+    let mut nodes = [0u32; 2048];
+    let mut tops = [0i32; 1024];
+    show(checks::check_slice(
+        d,
+        rule,
+        direction,
+        points,
+        lengths,
+        roles,
+        &mut flat,
+        &mut starts,
+        &mut nodes,
+        &mut tops,
     ));
 }
 
@@ -208,7 +245,7 @@ fn fills_run(d: &[i32], rule: i32, fills: usize) {
     size(d.len());
     number(rule);
     size(fills);
-    show(checks::check_fills(d, rule, fills));
+    show_fills(d, rule, fills);
 }
 
 fn clip_run(d: &[i32], rule: i32, invert: i32, boundary: i32, points: usize, lengths: usize) {
@@ -230,20 +267,7 @@ fn slice_run(d: &[i32], rule: i32, direction: i32, points: usize, lengths: usize
     size(points);
     size(lengths);
     size(roles);
-    let mut flat = [0u32; 2048];
-    let mut starts = [0u32; 2049];
-    let mut nodes = [0u32; 2048];
-    show(checks::check_slice(
-        d,
-        rule,
-        direction,
-        points,
-        lengths,
-        roles,
-        &mut flat,
-        &mut starts,
-        &mut nodes,
-    ));
+    show_slice(d, rule, direction, points, lengths, roles);
 }
 
 // Each choice at its limits and past them.

@@ -1,4 +1,4 @@
 pub mod Sides
 pub mod Gaps
-pub mod Stacks
 pub mod ClearOf
+pub mod Columns

@@ -11,8 +11,6 @@ use Rattle.geom.specs.declared.Point.{Point}
 use Rattle.geom.specs.Points.{eqP, cross}
 use Rattle.segm.specs.declared.Segment.{Segment}
 use Rattle.meetings.specs.Meetings.{side}
-use Rattle.verticals.specs.declared.Edge.{Edge}
-use Rattle.verticals.specs.Verticals.{endOf}
 
 module _ {s t : Segment} (q : s ≡ t) (p : Point) where
   -- the cross product is the side
@@ -20,6 +18,6 @@ module _ {s t : Segment} (q : s ≡ t) (p : Point) where
   unfolding side
   side-got z h e = got w64 z h (e ∙ ap (λ (u : Segment). side u p) q)
 
-  -- where the first test failed, the end decides
-  pub end-got : (edge : Edge) {strict r : Bool} {o : Point} → strict ≡ false → o ≡ endOf edge s → r ≡ eqP o p → r ≡ (strict || eqP (endOf edge t) p)
-  end-got edge n f e = e ∙ ap (λ (o : Point). eqP o p) (f ∙ ap (endOf edge) q) ∙ sym (ap (λ (b : Bool). b || eqP (endOf edge t) p) n)
+  -- where the first test failed, the start decides
+  pub start-got : {strict r : Bool} → strict ≡ false → r ≡ eqP (s .a) p → r ≡ (strict || eqP (t .a) p)
+  start-got n e = e ∙ ap (λ (u : Segment). eqP (u .a) p) q ∙ sym (ap (λ (b : Bool). b || eqP (t .a) p) n)

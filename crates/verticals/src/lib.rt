@@ -1,57 +1,64 @@
-// The tests of vertical segments: beside the ordered list of the open ones, and among themselves. Every function here is proved, and the crate assumes nothing of its own.
-// Each promise has two halves: what holds where the tests were passed, and where they are: the list is clear of the vertical ones, and they stand on each other.
+// The tests of vertical segments: beside the ordered list of the open ones, and beside the ends at their x; and their top counts. Every function here is proved, and
+// the crate assumes nothing of its own. Each promise has two halves: what holds where the tests were passed, and where they are.
 use geom::Point;
 use scan::Sought;
 use segm::Segment;
 ghost use mathlib.Core.Path.{_≡_};
 ghost use mathlib.Core.Logic.{_↔_};
-ghost use mathlib.Core.Bool.{true};
-ghost use Prim.Native.Nat.{_≤_, _<_};
-ghost use lib.ListN.{length};
+ghost use mathlib.Core.Bool.{true, false};
+ghost use Prim.Native.Nat.{ℕ, _+_, _-_, _*_, _≤_, _<_};
+ghost use lib.ListN.{length, take, set};
+ghost use lib.IntN.{_+ℤ_};
+ghost use lib.Signed.{_<ℤ_};
 ghost use Rattle.geom.specs.Points.{inRange};
 ghost use Rattle.segm.specs.Segments.{segments, segmentAt};
+ghost use Rattle.ends.specs.Ends.{endPoint};
 ghost use Rattle.meetings.specs.Meetings.{Proper};
 ghost use Rattle.neighbours.specs.Neighbours.{Ready, Known};
-ghost use Rattle.verticals.specs.Verticals.{endOf, liesUnder, liesAbove, CutAt, CutIn, Cuts, Stacked, ClearIn, Clears};
+ghost use Rattle.scan.specs.Scan.{Listed};
+ghost use Rattle.count_up.specs.CountUp.{lastIn, Within};
+ghost use Rattle.verticals.specs.Verticals.{liesUnder, liesAbove, CutAt, AllStand, Column, Stands, Beyond, Unbroken, ClearIn, Clears};
 
-// Which ends of the list's segments may touch a vertical one: before those that end there have left, their ends b; after those that start there have come, their starts a.
-pub enum Edge {
-    Ends,
-    Starts,
-}
-
-// The end of t that may touch a vertical segment.
-fn end_of(edge: Edge, t: Segment) -> Point
-    ensures { λ r. ⌜ r ≡ endOf edge t ⌝ }
+// Whether the segment at place i lies under p: strictly, or with its start there.
+fn lies_under(s: &[i32], i: u32, p: Point) -> bool
+    requires { ⌜ Listed (segments (now s)) i × (inRange p ≡ true) ⌝ }
+    ensures { λ r. ⌜ r ≡ liesUnder p (segmentAt (segments (now (s .entry))) i) ⌝ }
 {
-    match edge {
-        Edge::Ends => t.b,
-        Edge::Starts => t.a,
-    }
-}
-
-// Whether the segment at place i lies under p: strictly, or with its end there.
-fn lies_under(s: &[i32], edge: Edge, i: u32, p: Point) -> bool
-    requires { ⌜ Proper (segmentAt (segments (now s)) i) × (inRange p ≡ true) ⌝ }
-    ensures { λ r. ⌜ r ≡ liesUnder edge p (segmentAt (segments (now (s .entry))) i) ⌝ }
-{
-    let t = segm::segment_at(s, i as usize);
+    let t = segm::segment_in(s, i as usize);
     if 0 < geom::cross(t.a, t.b, p) {
         return true;
     }
-    geom::same(end_of(edge, t), p)
+    geom::same(t.a, p)
 }
 
 // The same, above.
-fn lies_above(s: &[i32], edge: Edge, i: u32, p: Point) -> bool
-    requires { ⌜ Proper (segmentAt (segments (now s)) i) × (inRange p ≡ true) ⌝ }
-    ensures { λ r. ⌜ r ≡ liesAbove edge p (segmentAt (segments (now (s .entry))) i) ⌝ }
+fn lies_above(s: &[i32], i: u32, p: Point) -> bool
+    requires { ⌜ Listed (segments (now s)) i × (inRange p ≡ true) ⌝ }
+    ensures { λ r. ⌜ r ≡ liesAbove p (segmentAt (segments (now (s .entry))) i) ⌝ }
 {
-    let t = segm::segment_at(s, i as usize);
+    let t = segm::segment_in(s, i as usize);
     if geom::cross(t.a, t.b, p) < 0 {
         return true;
     }
-    geom::same(end_of(edge, t), p)
+    geom::same(t.a, p)
+}
+
+// Whether the one before place k of the list lies under v, and the one at place k above it.
+fn is_cut(s: &[i32], v: Segment, list: &[u32], k: usize) -> bool
+    requires { ⌜ Ready (segments (now s)) × Proper v × Known (segments (now s)) (now list) × (k ≤ length (now list)) ⌝ }
+    ensures { λ r. ⌜ (r ≡ true) ↔ CutAt (segments (now (s .entry))) v k (now (list .entry)) ⌝ }
+{
+    let a = v.a;
+    let b = v.b;
+    if 0 < k {
+        if !lies_under(s, list[k - 1], a) {
+            return false;
+        }
+    }
+    if k < list.len() {
+        return lies_above(s, list[k], b);
+    }
+    true
 }
 
 // A place in the list, and whether a vertical segment stands in the gap there.
@@ -60,51 +67,76 @@ struct Gap {
     clear: bool,
 }
 
-// Where the vertical segment v stands in a gap of the list, if it does; near the place of the one below it.
-fn gap_of(s: &[i32], edge: Edge, v: Segment, list: &[u32], near: usize) -> Gap
+// Where the vertical segment v stands in a gap of the list, if it does: at the guess, else by search.
+fn gap_of(s: &[i32], v: Segment, list: &[u32], guess: usize) -> Gap
     requires { ⌜ Ready (segments (now s)) × Proper v × Known (segments (now s)) (now list) ⌝ }
-    ensures { λ r. ⌜ (r .clear ≡ true → CutIn (segments (now (s .entry))) edge v (now (list .entry)))
-        × (ClearIn (segments (now (s .entry))) edge v (now (list .entry)) → r .clear ≡ true) ⌝ }
+    ensures { λ r. ⌜ (r .clear ≡ true → CutAt (segments (now (s .entry))) v (r .place) (now (list .entry)))
+        × (ClearIn (segments (now (s .entry))) v (now (list .entry)) → r .clear ≡ true) ⌝ }
 {
-    let b = v.b;
-    let k = scan::place_near(s, list, near, Sought::At(b));
-    Gap {
-        place: k,
-        clear: is_cut(s, edge, v, list, k),
-    }
-}
-
-// Whether the one before place k of the list lies under v, and the one at place k above it.
-fn is_cut(s: &[i32], edge: Edge, v: Segment, list: &[u32], k: usize) -> bool
-    requires { ⌜ Ready (segments (now s)) × Proper v × Known (segments (now s)) (now list) × (k ≤ length (now list)) ⌝ }
-    ensures { λ r. ⌜ (r ≡ true) ↔ CutAt (segments (now (s .entry))) edge v k (now (list .entry)) ⌝ }
-{
-    let a = v.a;
-    let b = v.b;
-    if 0 < k {
-        if !lies_under(s, edge, list[k - 1], a) {
-            return false;
+    if guess <= list.len() {
+        if is_cut(s, v, list, guess) {
+            return Gap {
+                place: guess,
+                clear: true,
+            };
         }
     }
-    if k < list.len() {
-        return lies_above(s, edge, list[k], b);
+    let b = v.b;
+    let k = scan::place_near(s, list, guess, Sought::At(b));
+    Gap {
+        place: k,
+        clear: is_cut(s, v, list, k),
     }
-    true
 }
 
-// Whether every vertical segment from one place up to another stands in a gap of the list, the first one's sought near a guess.
-pub fn are_cut(s: &[i32], edge: Edge, from: usize, to: usize, list: &[u32], guess: usize) -> bool
+// The vertical segment v, at place i of the drawing, stands in a gap of the list, if it does; its top count is that of the one below the gap, and its own winding.
+fn stand_one(s: &[i32], v: Segment, i: usize, list: &[u32], guess: usize, tops: &mut [i32]) -> Gap
     requires { ⌜ (let d = segments (now s) in
-        Ready d × (to ≤ length d) × Known d (now list)) ⌝ }
-    ensures { λ r. ⌜ (r ≡ true → Cuts (segments (now (s .entry))) edge from to (now (list .entry)))
-        × (Clears (segments (now (s .entry))) edge from to (now (list .entry)) → r ≡ true) ⌝ }
+        Ready d
+        × (v ≡ segmentAt d i)
+        × (i < length d)
+        × Known d (now list)
+        × (length d ≤ length (now tops))
+        × Within 2110000000 (now tops)) ⌝ }
+    ensures { λ r. ⌜ (let d = segments (now (s .entry)) in let l = now (list .entry) in let tops₀ = now (tops .entry) in
+        (r .clear ≡ true → (CutAt d v (r .place) l × (now (tops .exit) ≡ set tops₀ i (lastIn tops₀ (take (r .place) l) +ℤ v .winding))))
+        × (r .clear ≡ false → now (tops .exit) ≡ tops₀)
+        × (ClearIn d v l → r .clear ≡ true)) ⌝ }
+{
+    let gap = gap_of(s, v, list, guess);
+    if gap.clear {
+        let k = gap.place;
+        tops[i] = count_up::count_below(&list[..k], tops) + v.winding;
+    }
+    gap
+}
+
+// Whether every vertical segment from one place up to another stands in a gap of the list, the first one's sought near a guess. Their top counts are written.
+pub fn stand_all(
+    s: &[i32],
+    from: usize,
+    to: usize,
+    list: &[u32],
+    guess: usize,
+    tops: &mut [i32],
+) -> bool
+    requires { ⌜ (let d = segments (now s) in
+        Ready d
+        × (to ≤ length d)
+        × Known d (now list)
+        × (length d ≤ length (now tops))
+        × Within 2100000000 (now tops)) ⌝ }
+    ensures { λ r. ⌜ (let d = segments (now (s .entry)) in let l = now (list .entry) in
+        (r ≡ true → AllStand d from to l (now (tops .entry)) (now (tops .exit)))
+        × ((b : ℕ) → Within b (now (tops .entry)) → Within (b + 1000 * (to - from)) (now (tops .exit)))
+        × (Clears d from to l → r ≡ true)) ⌝ }
 {
     let mut near = guess;
     let mut i = from;
     while i < to {
-        let v = segm::segment_at(s, i);
+        let v = segm::segment_in(s, i);
         if scan::is_vertical(v) {
-            let gap = gap_of(s, edge, v, list, near);
+            let gap = stand_one(s, v, i, list, near, tops);
             if !gap.clear {
                 return false;
             }
@@ -115,24 +147,63 @@ pub fn are_cut(s: &[i32], edge: Edge, from: usize, to: usize, list: &[u32], gues
     true
 }
 
-// Whether each vertical segment from one place up to another starts no lower than those before it end.
-pub fn are_stacked(s: &[i32], from: usize, to: usize) -> bool
-    requires { ⌜ Ready (segments (now s)) × (to ≤ length (segments (now s))) ⌝ }
-    ensures { λ r. ⌜ (r ≡ true) ↔ Stacked (segments (now (s .entry))) from to ⌝ }
+// The last vertical segment of a column of ends, by the heights of its foot and head, and whether all tests were passed so far.
+struct Last {
+    foot: i32,
+    top: i32,
+    clear: bool,
+}
+
+// End e is passed: it does not lie strictly between foot and top, and if a vertical segment starts there it is not below the top.
+fn pass_end(s: &[i32], e: usize, foot: i32, top: i32) -> Last
+    requires { ⌜ e < 2 * length (segments (now s)) ⌝ }
+    ensures { λ r. ⌜ (let d = segments (now (s .entry)) in let y = endPoint d e .y in
+        (r .clear ≡ true → Beyond d e foot top (r .foot) (r .top))
+        × ((foot <ℤ y → y <ℤ top → ⊥) → (Stands d e → y <ℤ top → ⊥) → r .clear ≡ true)) ⌝ }
 {
-    let mut top: i32 = -2147483648;
-    let mut i = from;
-    while i < to {
-        let v = segm::segment_at(s, i);
-        if scan::is_vertical(v) {
-            let a = v.a;
-            let b = v.b;
-            if a.y < top {
-                return false;
-            }
-            top = b.y;
+    let p = ends::end_point(s, e);
+    let y = p.y;
+    if (foot < y) & (y < top) {
+        return Last {
+            foot: foot,
+            top: top,
+            clear: false,
+        };
+    }
+    if e < segm::count(s) {
+        let t = segm::segment_in(s, e);
+        if scan::is_vertical(t) {
+            let b = t.b;
+            return Last {
+                foot: y,
+                top: b.y,
+                clear: !(y < top),
+            };
         }
-        i += 1;
+    }
+    Last {
+        foot: foot,
+        top: top,
+        clear: true,
+    }
+}
+
+// Whether no end of a column lies within a vertical segment that starts in it, and these do not overlap.
+pub fn are_unbroken(s: &[i32], ends: &[u32]) -> bool
+    requires { ⌜ Ready (segments (now s)) × Column (segments (now s)) (now ends) ⌝ }
+    ensures { λ r. ⌜ (r ≡ true) ↔ Unbroken (segments (now (s .entry))) (now (ends .entry)) ⌝ }
+{
+    let mut foot: i32 = -2147483648;
+    let mut top: i32 = -2147483648;
+    let mut k: usize = 0;
+    while k < ends.len() {
+        let last = pass_end(s, ends[k] as usize, foot, top);
+        if !last.clear {
+            return false;
+        }
+        foot = last.foot;
+        top = last.top;
+        k += 1;
     }
     true
 }

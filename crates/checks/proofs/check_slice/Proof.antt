@@ -29,21 +29,34 @@ is-short-requires-3 c κs = search needs
 in-order-requires : tie.Need-in-order-requires
 in-order-requires c κs = search needs
 
+same-length : tie.Need-same-length
+same-length c = search needs
+
+same-length-2 : tie.Need-same-length-2
+same-length-2 c = search needs
+
+same-length-3 : tie.Need-same-length-3
+same-length-3 c = search needs
+
+same-length-4 : tie.Need-same-length-4
+same-length-4 c = search needs
+
 returns : tie.Need-returns
 unfolding sliceRun any
 returns c =
-    let t₃ = c .before .before .before .before in
+    let o = c .before .before .before .before .before .before .before in
+    let t₃ = o .before .before .before .before .before in
     let t₂ = t₃ .before in
     let t₁ = t₂ .before in
     let u₂ = t₁ .before in
     let u₁ = u₂ .before in
     let n = u₁ .before in
-    let s = n .before in
+    let s = n .before .before .before .before in
     let a = s .args in (
-      by-flags (sliceRun (a .segments .now) (a .rule) (a .direction) (a .points) (a .lengths) (a .roles)) (c .in-order .ensures .0)
+      by-flags (sliceRun (a .segments .now) (a .rule) (a .direction) (a .points) (a .lengths) (a .roles)) (o .in-order .ensures .0)
           (simp (u₁ .is-unknown .ensures, u₂ .is-unknown2 .ensures, toZ-ofZ (s .fits .rule), toZ-ofZ (s .fits .direction), or-false))
           (simp (t₁ .is-short .ensures, t₂ .is-short2 .ensures, t₃ .is-short3 .ensures, n .count .ensures, or-false)),
-      c .in-order .ensures .1,
+      o .in-order .ensures .1,
     )
 
 pub check-slice-spec : {M : Type 1} → statement M
@@ -57,4 +70,8 @@ check-slice-spec =
     is-short-requires-2
     is-short-requires-3
     in-order-requires
+    same-length
+    same-length-2
+    same-length-3
+    same-length-4
     returns)

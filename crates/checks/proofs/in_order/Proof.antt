@@ -7,8 +7,10 @@ use native.Mathlib.Omega.{arith}
 use Prim.Native.Nat.{_*_, _≤_}
 use lib.ListN.{length, take}
 use lib.Seq.{length-take-le}
+use lib.IntN.{natAbs}
 use Rattle.segm.specs.Segments.{Drawing, count, segments}
 use Rattle.segm.proofs.Segments.{length-segments}
+use Rattle.keys.proofs.Keyed.{near-ends}
 use Rattle.graph.specs.Nodes.{Nodes}
 use Rattle.balance.proofs.Nodes.{numbered}
 use Rattle.checks.specs.declared.Verdict.{Verdict}
@@ -17,7 +19,7 @@ use Rattle.checks.specs.Drawing.{faultAt, meetingAt, unbalancedAt}
 use Rattle.checks.specs.Verdict.{wrongLength, first, _then_, inOrder}
 use Rattle.checks.specs.Search.{Sound, OrderedIn, NumberedIn}
 use Rattle.checks.proofs.Places.{first-none, not-both}
-use Rattle.checks.proofs.Faults.{at, rising-starts}
+use Rattle.checks.proofs.Faults.{at, proper-at, rising-starts}
 use Rattle.checks.proofs.Order.{refused-then}
 use Rattle.checks.proofs.in_order.Statement.{statement}
 use Rattle.checks.proofs.in_order.Tie as tie
@@ -101,7 +103,7 @@ write-nodes-requires c κs =
     let e = c .before .before .before in
     let h = s (f e) .pre in
     let few = sound e .few in
-    (rising-starts (d (f e)) (at (d (f e)) (sound e)), few, omega (arith, few, h .0), omega (arith, few, h .1), omega (arith, few, h .2))
+    (rising-starts (d (f e)) (at (d (f e)) (sound e)), near-ends (d (f e)) (λ i l. let p = proper-at (d (f e)) (sound e) i l in (p .near-a, p .near-b)), few, h .flat-room few, h .starts-room few, h .nodes-room few)
 
 -- the nodes were written
 module _ (w : tie.After-write-nodes) where
@@ -121,16 +123,18 @@ module _ (w : tie.After-write-nodes) where
   written = w .write-nodes .ensures
 
   ordered : OrderedIn dw (w .write-nodes .last .1 .0)
-  ordered = record { all-ends = omega (arith, few, h .pre .0, w .write-nodes .kept .1 .0); order = written .order }
+  ordered = record { all-ends = omega (arith, h .pre .flat-room few, w .write-nodes .kept .1 .0); order = written .order }
 
   each-end : 2 * length dw ≤ length (w .write-nodes .last .1 .1 .1 .0)
-  each-end = omega (arith, few, h .pre .2, w .write-nodes .kept .1 .1 .1 .0)
+  each-end = omega (arith, h .pre .nodes-room few, w .write-nodes .kept .1 .1 .1 .0)
 
   numbers : NumberedIn dw (w .write-nodes .last .1 .1 .1 .0)
-  numbers = record { each-end = each-end; numbered = numbered written (w .write-nodes .kept .1 .1 .0 ∙ h .pre .1) (length-take-le _ _ each-end) }
+  numbers = record { each-end = each-end; numbered = numbered written (length-take-le _ _ each-end) }
 
 find-by-ends-requires : tie.Need-find-by-ends-requires
-find-by-ends-requires c κs = let w = c .before .before .before .before .before .before .before .before in (sound (a w), ordered w, numbers w)
+find-by-ends-requires c κs =
+    let w = c .before .before .before .before .before .before .before .before .before in
+    (sound (a w), ordered w, numbers w, h w .pre .tops-room (few w), λ i. omega (arith, ap natAbs (h w .pre .blank i)))
 
 same-length : tie.Need-same-length
 same-length c = search needs
@@ -141,8 +145,11 @@ same-length-2 c = search needs
 same-length-3 : tie.Need-same-length-3
 same-length-3 c = search needs
 
+same-length-4 : tie.Need-same-length-4
+same-length-4 c = search needs
+
 returns-6 : tie.Need-returns-6
-returns-6 c = let w = c .before .before .before .before .before .before .before .before .before in (c .find-by-ends .ensures ∙ sym (two-left (a w)), λ _. written w)
+returns-6 c = let w = c .before .before .before .before .before .before .before .before .before .before .before in (c .before .find-by-ends .ensures .0 ∙ sym (two-left (a w)), λ e. (written w, c .before .find-by-ends .ensures .1 e))
 
 pub in-order-spec : {M : Type 1} → statement M
 in-order-spec =
@@ -163,4 +170,5 @@ in-order-spec =
     same-length
     same-length-2
     same-length-3
+    same-length-4
     returns-6)

@@ -6,7 +6,7 @@ use Prim.Native.Nat.{ℕ, suc, _-_, _+_}
 use lib.ListN.{getD}
 use Rattle.segm.specs.Segments.{segments, segmentAt}
 use Rattle.strip.specs.Strip.{Next}
-use Rattle.open_list.proofs.Laws.{known-proper}
+use Rattle.open_list.proofs.Laws.{listed}
 use Rattle.open_list.proofs.closes_at.Statement.{statement}
 use Rattle.open_list.proofs.closes_at.Tie as tie
 
@@ -40,7 +40,7 @@ shared-slice-read-is-next-2 c = search needs
 is-next-requires : tie.Need-is-next-requires
 is-next-requires c κs =
     let s = c .before .before .before .before .before in
-    (known-proper (s .args .list .now) (s .pre .0) (s .pre .1) (s .args .k - 1) (omega arith), known-proper (s .args .list .now) (s .pre .0) (s .pre .1) (s .args .k + 1) (omega arith))
+    (listed (s .args .list .now) (s .pre .0) (s .pre .1) (s .args .k - 1) (omega arith), listed (s .args .list .now) (s .pre .0) (s .pre .1) (s .args .k + 1) (omega arith))
 
 returns-3 : tie.Need-returns-3
 returns-3 c =

@@ -4,33 +4,34 @@ use borrow.Author.Tests.{not-false, not-true}
 use mathlib.Core.Path.{_≡_, refl, subst}
 use mathlib.Core.List.{List}
 use native.Mathlib.Omega.{arith}
-use Prim.Native.Nat.{ℕ, _-_, _≤_}
+use Prim.Native.Nat.{ℕ, _+_, _-_, _≤_}
 use lib.ListN.{length, take}
 use Rattle.integers.proofs.Booleans.{clash}
 use Rattle.segm.specs.Segments.{Drawing, segments}
-use Rattle.open_list.specs.OpenList.{Entered}
-use Rattle.open_list.proofs.Laws.{none-entered, entered-more, entered-known}
+use Rattle.open_list.specs.OpenList.{Entered, Older, Marks}
+use Rattle.open_list.proofs.Laws.{none-entered, entered-more, entered-known, marks-more}
 use Rattle.open_list.proofs.Spanning.{can-enter-next}
 use Rattle.open_list.proofs.enter_all.Statement.{statement}
 use Rattle.open_list.proofs.enter_all.Tie as tie
 
-record Passed (d : Drawing) (from to : ℕ) (old : List ℕ) (count : ℕ) (list : List ℕ) (held i : ℕ) : Type 0 where
+record Passed (d : Drawing) (from to : ℕ) (old : List ℕ) (count : ℕ) (list : List ℕ) (held near i : ℕ) : Type 0 where
   since : from ≤ i
   until : i ≤ to
   fewer : held ≤ i
   room : length list ≡ length old
   entered : Entered d from i (take count old) (take held list)
+  marks : Older from (take count old) → Marks from near (take held list)
 
 abbrev Inv-loop : tie.InvT-loop
-Inv-loop s from to list₀ count guess held₀ near₀ first₀ i₀ list held near first i = Passed (segments s) from to list₀ count list held i
+Inv-loop s from to list₀ count guess held₀ near₀ i₀ list held near i = Passed (segments s) from to list₀ count list held near i
 
 abbrev μ-loop : tie.MeasureT-loop
-μ-loop s from to list₀ count guess held₀ near₀ first₀ i₀ list held near first i = to - i
+μ-loop s from to list₀ count guess held₀ near₀ i₀ list held near i = to - i
 
 loop-holds : tie.Need-loop-holds Inv-loop μ-loop
 loop-holds c =
     let s = c .before in
-    record { since = omega arith; until = s .pre .1; fewer = s .pre .3; room = omega arith; entered = none-entered (s .args .from) (s .pre .6) }
+    record { since = omega arith; until = s .pre .1; fewer = s .pre .3; room = omega arith; entered = none-entered (s .args .from) (s .pre .6); marks = λ older i m k. absurd (let h = older i m in omega arith) }
 
 enter-one-requires : tie.Need-enter-one-requires Inv-loop μ-loop
 enter-one-requires c κs =
@@ -49,11 +50,8 @@ returns c =
     let l = c .before .before .before .before .before .before .before .before .loop in
     let s = c .before .before .before .before .before .before .before .before .before .before in
     let one = c .before .before .before .before .before .enter-one in
-    let next = can-enter-next (segments (s .args .s .now)) (s .args .from) (l .i) (s .args .to) (take (s .args .count) (s .args .list .now)) (take (l .held) (l .list)) (l .inv .since) (omega arith) in
+    let next = can-enter-next (segments (s .args .s .now)) (s .args .from) (l .i) (l .i + 1) (s .args .to) (take (s .args .count) (s .args .list .now)) (take (l .held) (l .list)) (l .inv .since) (omega arith) (omega arith) in
     (λ t. absurd (clash t (c .unclear .ensures)), λ w. absurd (clash (one .ensures .1 (next w (l .inv .entered))) (not-true _ (c .before .if1 .taken))))
-
-first-place-requires : tie.Need-first-place-requires Inv-loop μ-loop
-first-place-requires c κs = search needs
 
 add-i : tie.Need-add-i Inv-loop μ-loop
 add-i c = search needs
@@ -63,15 +61,16 @@ loop-less c = search needs
 
 loop-again : tie.Need-loop-again Inv-loop μ-loop
 loop-again c =
-    let l = c .before .before .before .before .before .before .before .before .loop in
-    let one = c .before .before .before .before .before .enter-one in
-    let r = one .ensures .0 (not-false _ (c .before .if1 .left)) in
+    let l = c .before .before .before .before .before .before .before .loop in
+    let one = c .before .before .before .before .enter-one in
+    let r = one .ensures .0 (not-false _ (c .if1 .left)) in
     record {
       since = omega (arith, l .inv .since);
       until = omega arith;
       fewer = omega (arith, r .0, l .inv .fewer);
       room = omega (arith, one .kept, l .inv .room);
-      entered = entered-more (c .before .before .before .before .before .before .before .before .before .before .args .from) (l .i) (l .inv .since) (l .inv .entered) (r .1);
+      entered = entered-more (c .before .before .before .before .before .before .before .before .before .args .from) (l .i) (l .i + 1) (l .inv .since) (omega arith) (l .inv .entered) (r .1);
+      marks = λ older. marks-more (l .inv .since) (l .inv .marks older) (r .2);
     }
 
 same-length-2 : tie.Need-same-length-2 Inv-loop μ-loop
@@ -82,7 +81,7 @@ returns-2 c =
     let l = c .before .loop in
     let s = c .before .before .before in
     let there : l .i ≡ s .args .to = omega (arith, l .inv .until) in
-    (λ t. (omega (arith, l .inv .fewer), subst (λ (i : ℕ). Entered (segments (s .args .s .now)) (s .args .from) i (take (s .args .count) (s .args .list .now)) (take (l .held) (l .list))) there (l .inv .entered)), λ w. refl)
+    (λ t. (omega (arith, l .inv .fewer), subst (λ (i : ℕ). Entered (segments (s .args .s .now)) (s .args .from) i (take (s .args .count) (s .args .list .now)) (take (l .held) (l .list))) there (l .inv .entered), l .inv .marks), λ w. refl)
 
 pub enter-all-spec : {M : Type 1} → statement M
 enter-all-spec =
@@ -95,7 +94,6 @@ enter-all-spec =
     unclear-requires
     same-length
     returns
-    first-place-requires
     add-i
     loop-less
     loop-again

@@ -3,21 +3,24 @@ use borrow.Author.Needs.{needs}
 use borrow.Author.Tests.{not-false, not-true}
 use mathlib.Core.Path.{_≡_, refl, sym, ap, subst, _∙_}
 use mathlib.Core.Bool.{false}
+use mathlib.Core.List.{List}
+use mathlib.Core.Logic.{inl, inr}
 use native.Mathlib.Omega.{arith}
-use Prim.Native.Nat.{ℕ, _+_, _≤_}
-use lib.ListN.{take}
+use Prim.Native.Nat.{ℕ, _+_, _-_, _≤_}
+use lib.ListN.{length, getD, take}
 use lib.Seq.{length-take-le}
 use Rattle.integers.proofs.Booleans.{clash}
 use Rattle.segm.specs.Segments.{segments, segmentAt}
 use Rattle.strip.specs.Strip.{isVertical}
+use Rattle.scan.proofs.Laws.{length-put}
 use Rattle.open_list.specs.OpenList.{FitsAt, Entered}
-use Rattle.open_list.proofs.Laws.{none-enters, one-enters, put-into}
+use Rattle.open_list.proofs.Laws.{none-enters, one-enters, put-into, put-at}
 use Rattle.open_list.proofs.Spanning.{spanning-with}
 use Rattle.open_list.proofs.enter_one.Statement.{statement}
 use Rattle.open_list.proofs.enter_one.Tie as tie
 
-segment-at-requires : tie.Need-segment-at-requires
-segment-at-requires c κs = search needs
+segment-in-requires : tie.Need-segment-in-requires
+segment-in-requires c κs = search needs
 
 is-vertical-requires : tie.Need-is-vertical-requires
 is-vertical-requires c κs = search needs
@@ -25,7 +28,7 @@ is-vertical-requires c κs = search needs
 returns : tie.Need-returns
 returns c =
     let s = c .before .before .before .before in
-    (λ t. (omega arith, none-enters (s .args .i) (s .pre .4) (ap isVertical (sym (c .before .before .segment-at .ensures)) ∙ sym (c .before .is-vertical .ensures) ∙ c .if1 .taken)), λ w. refl)
+    (λ t. (omega arith, none-enters (s .args .i) (s .pre .4) (ap isVertical (sym (c .before .before .segment-in .ensures)) ∙ sym (c .before .is-vertical .ensures) ∙ c .if1 .taken), inl (refl, refl)), λ w. refl)
 
 cast-place-to-enter : tie.Need-cast-place-to-enter
 cast-place-to-enter c = search needs
@@ -39,7 +42,7 @@ slice-aggregate-place-to-enter c = let s = c .before .before .before .before .be
 place-to-enter-requires : tie.Need-place-to-enter-requires
 place-to-enter-requires c κs =
     let s = c .before .before .before .before .before in
-    (s .pre .0, c .before .before .before .segment-at .ensures, s .pre .3, s .pre .1)
+    (s .pre .0, c .before .before .before .segment-in .ensures, s .pre .3, s .pre .1)
 
 -- the place that was found
 module _ (c : tie.Else2) where
@@ -64,7 +67,7 @@ same-length c = search needs
 returns-2 : tie.Need-returns-2
 returns-2 c =
     let s = c .before .before .before .before .before .before .before .before .before in
-    let slanted = ap isVertical (sym (c .before .before .before .before .before .before .before .segment-at .ensures)) ∙ sym (c .before .before .before .before .before .before .is-vertical .ensures) ∙ c .before .before .before .before .before .if1 .left in (
+    let slanted = ap isVertical (sym (c .before .before .before .before .before .before .before .segment-in .ensures)) ∙ sym (c .before .before .before .before .before .before .is-vertical .ensures) ∙ c .before .before .before .before .before .if1 .left in (
       (λ t. absurd (clash t (c .unclear .ensures))),
       (λ w. absurd (clash (c .before .before .before .place-to-enter .ensures .1 (w .x) (spanning-with (w .spanning) (s .args .i) (w .starting (s .args .i) (omega arith) (omega arith) slanted)) (λ m. let h = w .earlier (s .args .i) m in omega arith)) (not-true _ (c .before .if2 .taken)))),
     )
@@ -90,11 +93,13 @@ returns-3 c =
     let s = start e in
     let d = segments (s .args .s .now) in
     let old = s .args .list .now in
-    let slanted : isVertical (segmentAt d (s .args .i)) ≡ false = ap isVertical (sym (c .before .before .before .before .before .before .before .before .before .before .segment-at .ensures)) ∙ sym (c .before .before .before .before .before .before .before .before .before .is-vertical .ensures) ∙ c .before .before .before .before .before .before .before .before .if1 .left in (
+    let l = take (s .args .count) old in
+    let put = put-into old (c .before .before .insert .last .0) (s .args .count) (k e) (s .args .i) (s .pre .2) (c .before .before .insert .ensures) in
+    let slanted : isVertical (segmentAt d (s .args .i)) ≡ false = ap isVertical (sym (c .before .before .before .before .before .before .before .before .before .before .segment-in .ensures)) ∙ sym (c .before .before .before .before .before .before .before .before .before .is-vertical .ensures) ∙ c .before .before .before .before .before .before .before .before .if1 .left in (
       (λ t. (
         omega arith,
-        subst (Entered d (s .args .i) (s .args .i + 1) (take (s .args .count) old)) (sym (put-into old (c .before .before .insert .last .0) (s .args .count) (k e) (s .args .i) (s .pre .2) (c .before .before .insert .ensures)))
-            (one-enters (k e) (s .args .i) (s .pre .4) slanted (fits e)),
+        subst (Entered d (s .args .i) (s .args .i + 1) (take (s .args .count) old)) (sym put) (one-enters (k e) (s .args .i) (s .pre .4) slanted (fits e)),
+        inr (omega arith, subst (λ (l : List ℕ). k e + 1 ≤ length l) (sym put) (omega (arith, length-put (k e) (s .args .i) l, fits e .inside)), ap (λ (l : List ℕ). getD l (k e + 1 - 1) 0) put ∙ put-at (k e) (s .args .i) l (fits e .inside)),
       )),
       (λ w. refl),
     )
@@ -103,7 +108,7 @@ pub enter-one-spec : {M : Type 1} → statement M
 enter-one-spec =
     tie.close
     (tie.spec
-    segment-at-requires
+    segment-in-requires
     is-vertical-requires
     returns
     cast-place-to-enter

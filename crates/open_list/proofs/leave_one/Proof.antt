@@ -24,8 +24,8 @@ returns c =
     let s = c .before .before .before in
     (λ t. (omega arith, none-leaves (s .args .e) (s .pre .4) (s .pre .5) (λ i q v. omega (arith, c .if1 .taken, c .before .count .ensures, length-segments (s .args .s .now)))), λ w. refl)
 
-segment-at-requires : tie.Need-segment-at-requires
-segment-at-requires c κs = search needs
+segment-in-requires : tie.Need-segment-in-requires
+segment-in-requires c κs = let s = c .before .before .before in omega (arith, s .pre .1, c .before .count .ensures, length-segments (s .args .s .now), c .if1 .left)
 
 is-vertical-requires : tie.Need-is-vertical-requires
 is-vertical-requires c κs = search needs
@@ -37,13 +37,13 @@ returns-2 c =
     let n = c .before .before .before .before .count .result in
     let many : n ≡ length d = c .before .before .before .before .count .ensures ∙ sym (length-segments (s .args .s .now)) in
     let upright : isVertical (segmentAt d (s .args .e - n)) ≡ true =
-    ap isVertical (sym (c .before .before .segment-at .ensures)) ∙ sym (c .before .is-vertical .ensures) ∙ c .if2 .taken in
+    ap isVertical (sym (c .before .before .segment-in .ensures)) ∙ sym (c .before .is-vertical .ensures) ∙ c .if2 .taken in
     (λ t. (omega arith, none-leaves (s .args .e) (s .pre .4) (s .pre .5) (λ i q v. let same : i ≡ s .args .e - n = omega arith in clash (ap (λ (z : ℕ). isVertical (segmentAt d z)) same ∙ upright) v)), λ w. refl)
 
 take-out-requires : tie.Need-take-out-requires
 take-out-requires c κs =
     let s = c .before .before .before .before .before .before .before in
-    (s .pre .0, c .before .before .before .segment-at .ensures, omega (arith, s .pre .1, c .before .before .before .before .before .count .ensures, length-segments (s .args .s .now)), s .pre .2, s .pre .3, s .pre .4, s .pre .5)
+    (s .pre .0, c .before .before .before .segment-in .ensures, omega (arith, s .pre .1, c .before .before .before .before .before .count .ensures, length-segments (s .args .s .now)), s .pre .2, s .pre .3, s .pre .4, s .pre .5)
 
 same-length : tie.Need-same-length
 same-length c = search needs
@@ -56,7 +56,7 @@ returns-3 c =
     let many : n ≡ length d = c .before .before .before .before .before .before .before .before .count .ensures ∙ sym (length-segments (s .args .s .now)) in
     let there : length d + (s .args .e - n) ≡ s .args .e = omega (arith, c .before .before .before .before .before .before .before .if1 .left) in
     let slanted : isVertical (segmentAt d (s .args .e - n)) ≡ false =
-    ap isVertical (sym (c .before .before .before .before .before .before .segment-at .ensures)) ∙ sym (c .before .before .before .before .before .is-vertical .ensures) ∙ c .before .before .before .before .if2 .left in
+    ap isVertical (sym (c .before .before .before .before .before .before .segment-in .ensures)) ∙ sym (c .before .before .before .before .before .is-vertical .ensures) ∙ c .before .before .before .before .if2 .left in
     let r = c .before .before .take-out .ensures in
     (λ t. (r .0 t .0, subst (λ (e : ℕ). Left d (e ∷ []) (take (s .args .count) (s .args .list .now)) (take (c .before .before .take-out .result .count) (c .before .before .take-out .last .1 .1 .1 .0))) there (r .0 t .1)), λ w. r .1 (w .x) (w .spanning) (w .inside (s .args .e - n) (inl there) slanted))
 
@@ -66,7 +66,7 @@ leave-one-spec =
     (tie.spec
     count-requires
     returns
-    segment-at-requires
+    segment-in-requires
     is-vertical-requires
     returns-2
     take-out-requires

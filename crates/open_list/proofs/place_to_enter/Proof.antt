@@ -18,7 +18,7 @@ returns : tie.Need-returns
 returns c = (λ t. c .before .fits-at .ensures .0 (c .if2 .taken), λ x w n. refl)
 
 place-near-requires : tie.Need-place-near-requires
-place-near-requires c κs = let s = c .before .before in (λ i m. s .pre .0 .proper i (s .pre .2 i m), subst Proper (sym (s .pre .1)) (s .pre .0 .proper (s .args .i) (s .pre .3)))
+place-near-requires c κs = let s = c .before .before in (λ i m. record { inside = s .pre .2 i m; proper = s .pre .0 .proper i (s .pre .2 i m) }, subst Proper (sym (s .pre .1)) (s .pre .0 .proper (s .args .i) (s .pre .3)))
 
 fits-at-requires-2 : tie.Need-fits-at-requires-2
 fits-at-requires-2 c κs = let s = c .before .before .before in (s .pre .0, s .pre .2, s .pre .3, c .place-near .ensures .till)

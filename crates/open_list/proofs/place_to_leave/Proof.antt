@@ -1,5 +1,6 @@
 -- The place by search is the segment's own, if it is in a list that spans one strip. Assumes nothing.
 use borrow.Author.Needs.{needs}
+use Prim.Native.Nat.{_-_}
 use mathlib.Core.Path.{sym, subst}
 use native.Mathlib.Omega.{arith}
 use lib.ListN.{length}
@@ -24,12 +25,30 @@ cast-if2 c = omega (arith, c .shared-slice-known2 .given (c .before .before .bef
 returns : tie.Need-returns
 returns c x w m = (omega arith, omega (arith, c .if2 .taken))
 
-place-near-requires : tie.Need-place-near-requires
-place-near-requires c κs = let s = c .before .before in (λ i m. s .pre .0 .proper i (s .pre .3 i m), subst Proper (sym (s .pre .1)) (s .pre .0 .proper (s .args .i) (s .pre .2)))
+sub-if5 : tie.Need-sub-if5
+sub-if5 c = search needs
+
+mul-if5 : tie.Need-mul-if5
+mul-if5 c = search needs
+
+shared-slice-read-if5 : tie.Need-shared-slice-read-if5
+shared-slice-read-if5 c = search needs
+
+cast-if5 : tie.Need-cast-if5
+cast-if5 c = omega (arith, c .shared-slice-known3 .given (c .before .before .before .before .before .args .near - 1))
+
+sub-result : tie.Need-sub-result
+sub-result c = search needs
 
 returns-2 : tie.Need-returns-2
-returns-2 c x w m =
-    let s = c .before .before .before in
+returns-2 c x w m = (omega arith, omega (arith, c .if5 .taken))
+
+place-near-requires : tie.Need-place-near-requires
+place-near-requires c κs = let s = c .before .before .before in (λ i m. record { inside = s .pre .3 i m; proper = s .pre .0 .proper i (s .pre .3 i m) }, subst Proper (sym (s .pre .1)) (s .pre .0 .proper (s .args .i) (s .pre .2)))
+
+returns-3 : tie.Need-returns-3
+returns-3 c x w m =
+    let s = c .before .before .before .before in
     let d = segments (s .args .s .now) in
     let l = s .args .list .now in
     let changes = subst (λ (t : Segment). Changes (belowAt d (Along t) l) 0 (length l) (c .place-near .result)) (s .pre .1) (c .place-near .ensures) in
@@ -38,4 +57,4 @@ returns-2 c x w m =
 pub place-to-leave-spec : {M : Type 1} → statement M
 place-to-leave-spec =
     tie.close
-    (tie.spec mul-if2 shared-slice-read-if2 cast-if2 returns place-near-requires returns-2)
+    (tie.spec mul-if2 shared-slice-read-if2 cast-if2 returns sub-if5 mul-if5 shared-slice-read-if5 cast-if5 sub-result returns-2 place-near-requires returns-3)

@@ -6,7 +6,7 @@ use Prim.Native.Nat.{ℕ, _-_}
 use lib.ListN.{getD}
 use Rattle.segm.specs.Segments.{segments, segmentAt}
 use Rattle.strip.specs.Strip.{Next}
-use Rattle.open_list.proofs.Laws.{known-proper}
+use Rattle.open_list.proofs.Laws.{listed}
 use Rattle.open_list.proofs.stands_over.Statement.{statement}
 use Rattle.open_list.proofs.stands_over.Tie as tie
 
@@ -25,7 +25,7 @@ shared-slice-read-is-next c = search needs
 is-next-requires : tie.Need-is-next-requires
 is-next-requires c κs =
     let s = c .before .before .before in
-    (known-proper (s .args .list .now) (s .pre .0) (s .pre .1) (s .args .k - 1) (omega arith), s .pre .0 .proper (s .args .i) (s .pre .2))
+    (listed (s .args .list .now) (s .pre .0) (s .pre .1) (s .args .k - 1) (omega arith), record { inside = s .pre .2; proper = s .pre .0 .proper (s .args .i) (s .pre .2) })
 
 returns-2 : tie.Need-returns-2
 returns-2 c =

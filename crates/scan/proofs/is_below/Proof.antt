@@ -14,8 +14,8 @@ use Rattle.scan.specs.Scan.{isBelow, SoughtInRange}
 use Rattle.scan.proofs.is_below.Statement.{statement}
 use Rattle.scan.proofs.is_below.Tie as tie
 
-segment-at-requires : tie.Need-segment-at-requires
-segment-at-requires c κs = search needs
+segment-in-requires : tie.Need-segment-in-requires
+segment-in-requires c κs = c .pre .0 .inside
 
 enum-known-sought : tie.Need-enum-known-sought
 enum-known-sought c = search needs
@@ -23,7 +23,7 @@ enum-known-sought c = search needs
 cross-requires : tie.Need-cross-requires
 cross-requires c κs =
     let f = c .before .before .before in
-    let t = subst Proper (sym (f .segment-at .ensures)) (f .before .pre .0) in
+    let t = subst Proper (sym (f .segment-in .ensures)) (f .before .pre .0 .proper) in
     (t .near-a, t .near-b, subst SoughtInRange (c .before .sought .given .1) (f .before .pre .1))
 
 enum-known-sought-2 : tie.Need-enum-known-sought-2
@@ -32,7 +32,7 @@ enum-known-sought-2 c = search needs
 is-lower-requires : tie.Need-is-lower-requires
 is-lower-requires c κs =
     let f = c .before .before .before in
-    (subst Proper (sym (f .segment-at .ensures)) (f .before .pre .0), subst SoughtInRange (c .before .sought2 .given .1) (f .before .pre .1))
+    (subst Proper (sym (f .segment-in .ensures)) (f .before .pre .0 .proper), subst SoughtInRange (c .before .sought2 .given .1) (f .before .pre .1))
 
 returns : tie.Need-returns
 unfolding isBelow above side
@@ -41,7 +41,7 @@ returns c =
     let f = k .before .before in
     let a = f .before .args in
     ap (ltZ (pos 0)) (got w64 (c .cross .result) (c .cross .ok) (c .cross .ensures))
-    ∙ ap (λ (t : Segment). above t (k .sought .given .0 .0)) (f .segment-at .ensures)
+    ∙ ap (λ (t : Segment). above t (k .sought .given .0 .0)) (f .segment-in .ensures)
     ∙ ap (λ (w : Sought). isBelow (segments (a .s .now)) w (a .i)) (sym (k .sought .given .1))
 
 returns-2 : tie.Need-returns-2
@@ -51,14 +51,14 @@ returns-2 c =
     let f = k .before .before in
     let a = f .before .args in
     c .is-lower .ensures
-    ∙ ap (λ (t : Segment). underBySide t (k .sought2 .given .0 .0)) (f .segment-at .ensures)
+    ∙ ap (λ (t : Segment). underBySide t (k .sought2 .given .0 .0)) (f .segment-in .ensures)
     ∙ ap (λ (w : Sought). isBelow (segments (a .s .now)) w (a .i)) (sym (k .sought2 .given .1))
 
 pub is-below-spec : {M : Type 1} → statement M
 is-below-spec =
     tie.close
     (tie.spec
-    segment-at-requires
+    segment-in-requires
     enum-known-sought
     cross-requires
     enum-known-sought-2

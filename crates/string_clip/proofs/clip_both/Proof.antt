@@ -3,16 +3,24 @@ use borrow.Author.Needs.{needs}
 use mathlib.Core.Path.{_∙_}
 use lib.IntN.{pos}
 use mir.Facts.{toZ-ofZ}
+use Rattle.integers.proofs.Booleans.{both-l, both-r}
 use Rattle.string_clip.specs.Run.{clipOutcome}
 use Rattle.string_clip.proofs.Together.{both-runs}
 use Rattle.string_clip.proofs.clip_both.Statement.{statement}
 use Rattle.string_clip.proofs.clip_both.Tie as tie
 
-clip-requires : tie.Need-clip-requires
-clip-requires c κs = search needs
+has-room-requires : tie.Need-has-room-requires
+has-room-requires c κs = search needs
 
-clip-requires-2 : tie.Need-clip-requires-2
-clip-requires-2 c κs = search needs
+has-room-requires-2 : tie.Need-has-room-requires-2
+has-room-requires-2 c κs = search needs
+
+both-at-once-requires : tie.Need-both-at-once-requires
+both-at-once-requires c κs =
+    let t = c .before .before .before .before in
+    let o = t .before in
+    let i = o .before .before .before in
+    (i .has-room .ensures .0 (both-l (i .has-room .result) (o .has-room2 .result) (t .if1 .taken)), o .has-room2 .ensures .0 (both-r (i .has-room .result) (o .has-room2 .result) (t .if1 .taken)))
 
 same-length : tie.Need-same-length
 same-length c = search needs
@@ -28,22 +36,57 @@ same-length-4 c = search needs
 
 returns : tie.Need-returns
 returns c =
-    let i = c .before .before .before .before .before .before .before .before .before in
+    let k = c .before .before .before .before .before .before in
+    let s = k .before .before .before .before .before .before .before .before .before .before .before .before .before .before in
+    let a = s .args in
+    both-runs (a .segments .now) (a .rule) (a .boundary) _ (a .inside-points .now) (a .inside-lengths .now) _ (a .outside-points .now) (a .outside-lengths .now)
+    (k .both-at-once .ensures .0 ∙ (λ i. clipOutcome (a .segments .now) (toZ-ofZ (s .fits .rule) i) (pos 0) (toZ-ofZ (s .fits .boundary) i) (a .inside-points .now) (a .inside-lengths .now)))
+    (k .both-at-once .ensures .1 ∙ (λ i. clipOutcome (a .segments .now) (toZ-ofZ (s .fits .rule) i) (pos 1) (toZ-ofZ (s .fits .boundary) i) (a .outside-points .now) (a .outside-lengths .now)))
+
+clip-requires : tie.Need-clip-requires
+clip-requires c κs = search needs
+
+clip-requires-2 : tie.Need-clip-requires-2
+clip-requires-2 c κs = search needs
+
+same-length-5 : tie.Need-same-length-5
+same-length-5 c = search needs
+
+same-length-6 : tie.Need-same-length-6
+same-length-6 c = search needs
+
+same-length-7 : tie.Need-same-length-7
+same-length-7 c = search needs
+
+same-length-8 : tie.Need-same-length-8
+same-length-8 c = search needs
+
+returns-2 : tie.Need-returns-2
+returns-2 c =
     let o = c .before .before .before in
-    let s = i .before .before .before .before .before in
-    let numbers = s .args .segments .now in
-    both-runs numbers (s .args .rule) (s .args .boundary) _ (s .args .inside-points .now) (s .args .inside-lengths .now) _ (s .args .outside-points .now) (s .args .outside-lengths .now)
-    (i .clip .ensures ∙ (λ t. clipOutcome numbers (toZ-ofZ (s .fits .rule) t) (pos 0) (toZ-ofZ (s .fits .boundary) t) (s .args .inside-points .now) (s .args .inside-lengths .now)))
-    (o .clip2 .ensures ∙ (λ t. clipOutcome numbers (toZ-ofZ (s .fits .rule) t) (pos 1) (toZ-ofZ (s .fits .boundary) t) (s .args .outside-points .now) (s .args .outside-lengths .now)))
+    let i = o .before .before .before .before .before .before in
+    let s = i .before .before .before .before .before .before .before .before .before .before .before .before in
+    let a = s .args in
+    both-runs (a .segments .now) (a .rule) (a .boundary) _ (a .inside-points .now) (a .inside-lengths .now) _ (a .outside-points .now) (a .outside-lengths .now)
+    (i .clip .ensures ∙ (λ i. clipOutcome (a .segments .now) (toZ-ofZ (s .fits .rule) i) (pos 0) (toZ-ofZ (s .fits .boundary) i) (a .inside-points .now) (a .inside-lengths .now)))
+    (o .clip2 .ensures ∙ (λ i. clipOutcome (a .segments .now) (toZ-ofZ (s .fits .rule) i) (pos 1) (toZ-ofZ (s .fits .boundary) i) (a .outside-points .now) (a .outside-lengths .now)))
 
 pub clip-both-spec : {M : Type 1} → statement M
 clip-both-spec =
     tie.close
     (tie.spec
-    clip-requires
-    clip-requires-2
+    has-room-requires
+    has-room-requires-2
+    both-at-once-requires
     same-length
     same-length-2
     same-length-3
     same-length-4
-    returns)
+    returns
+    clip-requires
+    clip-requires-2
+    same-length-5
+    same-length-6
+    same-length-7
+    same-length-8
+    returns-2)

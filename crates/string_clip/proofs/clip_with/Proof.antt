@@ -30,10 +30,10 @@ count-requires c κs = search needs
 -- what was counted
 module _ (q : tie.After-count) where
   abbrev k : tie.After-masked-links
-  k = q .before .before .before .before
+  k = q .before .before
 
   abbrev s : tie.Start
-  s = k .before .before .before .before .before .before .before .before
+  s = k .before .before .before .before .before .before
 
   abbrev d : Drawing
   d = segments (s .args .s .now)
@@ -61,7 +61,7 @@ module _ (z : tie.After-size) where
   size-is = z .size .ensures ∙ ap (_* width) (number q ∙ sym (as-many q))
 
   room : z .size .result ≤ length list
-  room = omega (arith, size-is, as-many q, s q .pre .0 .few, k q .masked-links .kept .1 .1 .1 .1 .0, s q .pre .3)
+  room = omega (arith, size-is, as-many q, s q .pre .0 .few, k q .masked-links .kept .1 .1 .1 .1 .0, s q .pre .4)
 
   links-are : segments (take (z .size .result) list) ≡ links q
   links-are =
@@ -86,8 +86,8 @@ clip-links-requires c κs =
     let n : length (segments (take (z .size .result) (list z))) ≡ length (d (q z)) = ap length (links-are z) ∙ as-many (q z) in (
       subst Kept (sym (links-are z)) (masked-kept (a .rule) (a .filter) (d (q z)) (p .0)),
       subst (λ (e : Drawing). NodesIn e (a .flat .now) (a .starts .now) (a .nodes .now)) (sym (links-are z)) (masked-nodes (a .rule) (a .filter) (d (q z)) (a .flat .now) (a .starts .now) (a .nodes .now) (p .1)),
-      omega (arith, n, p .4),
       omega (arith, n, p .5),
+      omega (arith, n, p .6),
     )
 
 same-length : tie.Need-same-length
@@ -98,9 +98,6 @@ same-length-2 c = search needs
 
 same-length-3 : tie.Need-same-length-3
 same-length-3 c = search needs
-
-same-length-4 : tie.Need-same-length-4
-same-length-4 c = search needs
 
 returns : tie.Need-returns
 returns c =
@@ -124,5 +121,4 @@ clip-with-spec =
     same-length
     same-length-2
     same-length-3
-    same-length-4
     returns)

@@ -1,96 +1,84 @@
--- The verdict decides the arm. Assumes nothing.
+-- Memory for a small drawing or for any. Assumes nothing.
 use borrow.Author.Needs.{needs}
-use mathlib.Core.Path.{_≡_, refl, sym, ap, ap₂, _∙_}
-use mathlib.Core.Logic.{inl}
+use mathlib.Core.Path.{ap, _∙_}
 use native.Mathlib.Omega.{arith}
-use lib.ListN.{length}
 use lib.IntN.{ℤ}
 use mir.Facts.{toZ-ofZ}
-use Rattle.segm.specs.Lists.{written}
-use Rattle.segm.specs.Segments.{segments}
-use Rattle.segm.proofs.Segments.{length-segments}
-use Rattle.checks.specs.declared.Verdict.{Verdict}
-use Rattle.checks.specs.declared.Verdict.the-variants.{Accepted}
-use Rattle.checks.specs.Verdict.{Run, verdict}
-use Rattle.checks.specs.Runs.{lent, fillsRun}
-use Rattle.checks.proofs.Good.{verdict-good, verdict-room}
-use Rattle.fill_rule.specs.declared.Rule.{Rule}
-use Rattle.build.specs.declared.run.Filled.the-variants.{Done}
-use Rattle.fill_rule.specs.FillRule.{ruleOf}
-use Rattle.ray.specs.Ray.{fills}
-use Rattle.build.specs.Fills.{outcome, answered, fillsOutcome}
-use Rattle.ray.proofs.Fills.{length-fills}
+use Rattle.checks.proofs.Memory.{small-memory, any-memory}
+use Rattle.build.specs.Fills.{fillsOutcome}
 use Rattle.build.proofs.run.fills.Statement.{statement}
 use Rattle.build.proofs.run.fills.Tie as tie
-
-check-fills-requires : tie.Need-check-fills-requires
-check-fills-requires c κs = search needs
-
-enum-told : tie.Need-enum-told
-enum-told c = search needs
-
-rule-of-requires : tie.Need-rule-of-requires
-rule-of-requires c κs = search needs
-
--- what the checks told
-module _ (c : tie.After-check-fills) where
-  abbrev s : tie.Start
-  s = c .before .before
-
-  abbrev run : Run
-  run = fillsRun (s .args .segments .now) (s .args .rule) (length (s .args .fills .now))
-
-  said : c .check-fills .result ≡ verdict run
-  said = c .check-fills .ensures ∙ ap (λ (z : ℤ). verdict (fillsRun (s .args .segments .now) z (length (s .args .fills .now)))) (toZ-ofZ (s .fits .rule))
-
-  -- the outcome, by the verdict
-  by-verdict : {v : Verdict} → c .check-fills .result ≡ v → answered v (fills (ruleOf (s .args .rule)) (segments (s .args .segments .now))) (s .args .fills .now) ≡ fillsOutcome (s .args .segments .now) (s .args .rule) (s .args .fills .now)
-  unfolding fillsOutcome
-  by-verdict e = ap (λ (v : Verdict). answered v (fills (ruleOf (s .args .rule)) (segments (s .args .segments .now))) (s .args .fills .now)) (sym e ∙ said)
-
-write-fills-requires : tie.Need-write-fills-requires
-unfolding fillsRun
-write-fills-requires c κs =
-    let t = c .before .before in
-    let v = t .before .before in
-    let accepted : verdict (run v) ≡ Accepted = sym (said v) ∙ t .enum-told .given .1 in
-    let room = verdict-room (run v) accepted (lent (length (s v .args .fills .now)) 1) (inl refl) in
-    (verdict-good (run v) accepted, omega (arith, room, length-segments (s v .args .segments .now)))
 
 count-requires : tie.Need-count-requires
 count-requires c κs = search needs
 
-enum-known-number : tie.Need-enum-known-number
-enum-known-number c = search needs
+slice-aggregate-fills-in : tie.Need-slice-aggregate-fills-in
+slice-aggregate-fills-in c = search needs
+
+slice-aggregate-fills-in-2 : tie.Need-slice-aggregate-fills-in-2
+slice-aggregate-fills-in-2 c = search needs
+
+slice-aggregate-fills-in-3 : tie.Need-slice-aggregate-fills-in-3
+slice-aggregate-fills-in-3 c = search needs
+
+slice-aggregate-fills-in-4 : tie.Need-slice-aggregate-fills-in-4
+slice-aggregate-fills-in-4 c = search needs
+
+fills-in-requires : tie.Need-fills-in-requires
+fills-in-requires c κs =
+    let t = c .before .before .before .before .before in
+    let k = t .before in
+    small-memory (k .before .before .args .segments .now) (omega (arith, k .count .ensures, t .if1 .taken))
 
 same-length : tie.Need-same-length
 same-length c = search needs
 
 returns : tie.Need-returns
 returns c =
-    let w = c .before .before .before in
-    let r = w .before .before in
-    let t = r .before in
-    let v = t .before .before in
-    let numbers = s v .args .segments .now in
-    let rule = r .rule-of .ensures ∙ ap ruleOf (toZ-ofZ (s v .fits .rule)) in
-    let n = c .count .ensures ∙ sym (length-fills (ruleOf (s v .args .rule)) (segments numbers) ∙ length-segments numbers) in
-    let list = w .write-fills .ensures ∙ ap (λ (q : Rule). written (fills q (segments numbers)) (s v .args .fills .now)) rule in
-    ap₂ outcome (ap Done n) list ∙ by-verdict v (t .enum-told .given .1)
+    let k = c .before .before .before .before .before .before in
+    let s = k .before .before .before .before .before .before .before .before .before in
+    k .fills-in .ensures ∙ ap (λ (z : ℤ). fillsOutcome (s .args .segments .now) z (s .args .fills .now)) (toZ-ofZ (s .fits .rule))
+
+slice-aggregate-fills-in-5 : tie.Need-slice-aggregate-fills-in-5
+slice-aggregate-fills-in-5 c = search needs
+
+slice-aggregate-fills-in-6 : tie.Need-slice-aggregate-fills-in-6
+slice-aggregate-fills-in-6 c = search needs
+
+slice-aggregate-fills-in-7 : tie.Need-slice-aggregate-fills-in-7
+slice-aggregate-fills-in-7 c = search needs
+
+slice-aggregate-fills-in-8 : tie.Need-slice-aggregate-fills-in-8
+slice-aggregate-fills-in-8 c = search needs
+
+fills-in-requires-2 : tie.Need-fills-in-requires-2
+fills-in-requires-2 c κs = let s = c .before .before .before .before .before .before .before .before in any-memory (s .args .segments .now)
+
+same-length-2 : tie.Need-same-length-2
+same-length-2 c = search needs
 
 returns-2 : tie.Need-returns-2
-returns-2 c = let m = c .before .before in by-verdict (m .before) (c .before .number .given .1)
+returns-2 c =
+    let k = c .before .before .before .before .before .before in
+    let s = k .before .before .before .before .before .before .before .before .before in
+    k .fills-in2 .ensures ∙ ap (λ (z : ℤ). fillsOutcome (s .args .segments .now) z (s .args .fills .now)) (toZ-ofZ (s .fits .rule))
 
 pub fills-spec : {M : Type 1} → statement M
 fills-spec =
     tie.close
     (tie.spec
-    check-fills-requires
-    enum-told
-    rule-of-requires
-    write-fills-requires
     count-requires
-    enum-known-number
+    slice-aggregate-fills-in
+    slice-aggregate-fills-in-2
+    slice-aggregate-fills-in-3
+    slice-aggregate-fills-in-4
+    fills-in-requires
     same-length
     returns
+    slice-aggregate-fills-in-5
+    slice-aggregate-fills-in-6
+    slice-aggregate-fills-in-7
+    slice-aggregate-fills-in-8
+    fills-in-requires-2
+    same-length-2
     returns-2)

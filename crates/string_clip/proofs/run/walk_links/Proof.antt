@@ -1,6 +1,6 @@
 -- The parts of the working memory that the links need are lent and come back. Assumes nothing.
 use borrow.Author.Needs.{needs}
-use mathlib.Core.Path.{_≡_, sym, ap, subst, _∙_}
+use mathlib.Core.Path.{_≡_, sym, _∙_}
 use mathlib.Core.List.{List, _++_}
 use native.Mathlib.Omega.{arith}
 use Prim.Native.Nat.{ℕ, _*_, _≤_}
@@ -46,7 +46,7 @@ module _ (k : tie.After-count) where
   nodes-room = numbers-room links (s .args .flat .now) (s .args .starts .now) (s .args .nodes .now) (s .pre .1) m m-is
 
   bits-room : m ≤ length (s .args .bits .now)
-  bits-room = omega (arith, few, s .pre .2)
+  bits-room = omega (arith, m-is, s .pre .2)
 
 mul-e : tie.Need-mul-e
 mul-e c = record { fits = omega (arith, few c) }
@@ -96,7 +96,7 @@ write-paths-requires c κs =
     let p = s n .pre in (
       walking i,
       bits-back i,
-      omega (arith, bits-number i, few n, p .3),
+      omega (arith, bits-number i, m-is n, p .3),
       omega (arith, bits-number i, m-is n, p .4),
       omega (arith, bits-number i, m-is n, p .5),
     )

@@ -41,17 +41,17 @@ module _ (k : tie.After-count) where
   few = omega (arith, m-is, s .pre .0 .few)
 
   bits-room : m ≤ length (s .args .bits .now)
-  bits-room = omega (arith, few, s .pre .1)
+  bits-room = omega (arith, m-is, s .pre .4)
 
   -- the nodes, in the parts of the lists that are theirs
   nodes-are : Nodes links (take (2 * m) (s .args .flat .now)) (s .args .starts .now) (take (2 * m) (s .args .nodes .now))
-  nodes-are = front-nodes links (s .args .flat .now) (s .args .starts .now) (s .args .nodes .now) (s .pre .2) m m-is
+  nodes-are = front-nodes links (s .args .flat .now) (s .args .starts .now) (s .args .nodes .now) (s .pre .1) m m-is
 
   flat-room : 2 * m ≤ length (s .args .flat .now)
-  flat-room = ends-room links (s .args .flat .now) (s .args .starts .now) (s .args .nodes .now) (s .pre .2) m m-is
+  flat-room = ends-room links (s .args .flat .now) (s .args .starts .now) (s .args .nodes .now) (s .pre .1) m m-is
 
   nodes-room : 2 * m ≤ length (s .args .nodes .now)
-  nodes-room = numbers-room links (s .args .flat .now) (s .args .starts .now) (s .args .nodes .now) (s .pre .2) m m-is
+  nodes-room = numbers-room links (s .args .flat .now) (s .args .starts .now) (s .args .nodes .now) (s .pre .1) m m-is
 
 mul-e : tie.Need-mul-e
 mul-e c = record { fits = omega (arith, few c) }
@@ -63,7 +63,7 @@ slice-aggregate-write-fills : tie.Need-slice-aggregate-write-fills
 slice-aggregate-write-fills c = sym (length-take-le _ _ (bits-room (c .before)))
 
 write-fills-requires : tie.Need-write-fills-requires
-write-fills-requires c κs = let k = c .before in (s k .pre .0, omega (arith, m-is k, length-take-le (m k) (s k .args .bits .now) (bits-room k)))
+write-fills-requires c κs = let k = c .before in (s k .pre .0, s k .pre .2, s k .pre .3, omega (arith, m-is k, length-take-le (m k) (s k .args .bits .now) (bits-room k)))
 
 -- the fills, in the part that came back
 module _ (f : tie.After-write-fills) where
@@ -71,16 +71,16 @@ module _ (f : tie.After-write-fills) where
   k = f .before .before
 
   abbrev fills-after : List ℕ
-  fills-after = f .write-fills .last .1 .1 .0 ++ drop (m k) (s k .args .bits .now)
+  fills-after = f .write-fills .last .1 .1 .1 .0 ++ drop (m k) (s k .args .bits .now)
 
   fills-back : take (m k) fills-after ≡ fills (s k .args .rule) (links k)
   fills-back =
-      prefix-back (m k) (s k .args .bits .now) (f .write-fills .last .1 .1 .0) (bits-room k) (f .write-fills .kept .1 .1 .0)
+      prefix-back (m k) (s k .args .bits .now) (f .write-fills .last .1 .1 .1 .0) (bits-room k) (f .write-fills .kept .1 .1 .1 .0)
       ∙ f .write-fills .ensures
       ∙ written-whole (fills (s k .args .rule) (links k)) (take (m k) (s k .args .bits .now)) (omega (arith, m-is k, length-fills (s k .args .rule) (links k), length-take-le (m k) (s k .args .bits .now) (bits-room k)))
 
   fills-room : m k ≤ length fills-after
-  fills-room = omega (arith, bits-room k, length-front (s k .args .bits .now) (f .write-fills .last .1 .1 .0) (m k) (f .write-fills .kept .1 .1 .0))
+  fills-room = omega (arith, bits-room k, length-front (s k .args .bits .now) (f .write-fills .last .1 .1 .1 .0) (m k) (f .write-fills .kept .1 .1 .1 .0))
 
 slice-relend-prefix-keep-sides : tie.Need-slice-relend-prefix-keep-sides
 slice-relend-prefix-keep-sides c = fills-room (c .before .before)
@@ -137,9 +137,9 @@ write-walks-requires c κs =
     let b = c .before .before .before .before .before .before .before .before in
     let p = s (n b) .pre in (
       walking b,
-      omega (arith, bits-number b, few (n b), p .3),
-      omega (arith, bits-number b, few (n b), p .4),
-      omega (arith, bits-number b, few (n b), p .5),
+      omega (arith, bits-number b, m-is (n b), p .5),
+      omega (arith, bits-number b, m-is (n b), p .6),
+      omega (arith, bits-number b, m-is (n b), p .7),
     )
 
 same-length : tie.Need-same-length

@@ -1,0 +1,24 @@
+-- Fresh arrays are working memory: of the small ones for a small drawing, of the large ones for any.
+use mathlib.Core.Path.{_≡_, refl}
+use mathlib.Core.List.{List}
+use Prim.Native.Nat.{ℕ, zero, suc, _≤_}
+use native.Mathlib.Omega.{arith}
+use lib.ListN.{getD, replicate}
+use lib.IntN.{ℤ, pos}
+use Rattle.segm.specs.Segments.{count}
+use Rattle.segm.proofs.Segments.{length-segments}
+use Rattle.checks.specs.Search.{RoomOf}
+
+fresh : (n i : ℕ) → getD (replicate n (pos 0)) i (pos 0) ≡ pos 0
+fresh zero i = refl
+fresh (suc n) zero = refl
+fresh (suc n) (suc i) = fresh n i
+
+module _ (numbers : List ℤ) where
+  pub small-memory : count numbers ≤ 128 → RoomOf numbers (replicate 256 0) (replicate 257 0) (replicate 256 0) (replicate 128 (pos 0))
+  small-memory h =
+      let n = length-segments numbers in
+      record { flat-room = λ _. omega (arith, n); starts-room = λ _. omega (arith, n); nodes-room = λ _. omega (arith, n); tops-room = λ _. omega (arith, n); blank = fresh 128 }
+
+  pub any-memory : RoomOf numbers (replicate 2048 0) (replicate 2049 0) (replicate 2048 0) (replicate 1024 (pos 0))
+  any-memory = record { flat-room = λ h. omega arith; starts-room = λ h. omega arith; nodes-room = λ h. omega arith; tops-room = λ h. omega arith; blank = fresh 1024 }

@@ -1,3 +1,0 @@
-pub mod Seeking
-pub mod Visits
-pub mod Turns

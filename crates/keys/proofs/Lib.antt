@@ -1,0 +1,4 @@
+pub mod Keyed
+pub mod Joined
+pub mod Merging
+pub mod Inserting

@@ -1,0 +1,4 @@
+pub mod Lowest
+pub mod Points
+pub mod Counts
+pub mod Fills

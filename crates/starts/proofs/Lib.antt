@@ -1,0 +1,4 @@
+pub mod Held
+pub mod Nodes
+pub mod Counting
+pub mod Onward

@@ -1,0 +1,126 @@
+// What starts at one x, node by node in order of their points: what is not vertical enters the list of the open segments, vertical ones are tested in it, and all
+// get their top counts. Every function here is proved, and the crate assumes nothing of its own.
+use open_list::Held;
+ghost use mathlib.Core.Path.{_≡_};
+ghost use mathlib.Core.Bool.{true};
+ghost use Prim.Native.Nat.{_*_, _≤_, _<_};
+ghost use lib.ListN.{length, take};
+ghost use Rattle.segm.specs.Segments.{segments};
+ghost use Rattle.neighbours.specs.Neighbours.{Ready, Known, Ordered};
+ghost use Rattle.count_up.specs.CountUp.{Within};
+ghost use Rattle.starts.specs.Starts.{Splits, NodeEnd, Started, CanStart};
+
+// The place after those from a place on that start at its point.
+fn node_end(s: &[i32], from: usize, to: usize) -> usize
+    requires { ⌜ (let d = segments (now s) in
+        Ready d × (from < to) × (to ≤ length d) × Splits d to) ⌝ }
+    ensures { λ r. ⌜ NodeEnd (segments (now (s .entry))) from to r ⌝ }
+{
+    let first = segm::segment_in(s, from);
+    let p = first.a;
+    let mut j = from + 1;
+    while j < to {
+        let t = segm::segment_in(s, j);
+        if !geom::same(t.a, p) {
+            return j;
+        }
+        j += 1;
+    }
+    j
+}
+
+// The lesser of two.
+fn lesser(x: usize, y: usize) -> usize
+    ensures { λ r. ⌜ (r ≤ y) × (x ≤ y → r ≡ x) ⌝ }
+{
+    if x < y { x } else { y }
+}
+
+// The segments of one node, places from..to, are passed. The place told is that after those of them that entered.
+fn start_node(
+    s: &[i32],
+    from: usize,
+    to: usize,
+    list: &mut [u32],
+    count: usize,
+    guess: usize,
+    tops: &mut [i32],
+) -> Held
+    requires { ⌜ (let d = segments (now s) in let l = take count (now list) in
+        Ready d
+        × (to ≤ length d)
+        × (count ≤ from)
+        × (length d ≤ length (now list))
+        × (length d ≤ length (now tops))
+        × Known d l
+        × Ordered d l
+        × Splits d from
+        × NodeEnd d from to to
+        × Within (2048000 * from) (now tops)) ⌝ }
+    ensures { λ r. ⌜ (let d = segments (now (s .entry)) in let l = take count (now (list .entry)) in let l′ = take (r .count) (now (list .exit)) in
+        (r .clear ≡ true → ((r .count ≤ to) × Started d from to l l′ (now (tops .entry)) (now (tops .exit)) × Within (2048000 * to) (now (tops .exit))))
+        × (CanStart d from to l → r .clear ≡ true)) ⌝ }
+{
+    let entered = open_list::enter_all(s, from, to, list, count, guess);
+    if !entered.clear {
+        return open_list::unclear();
+    }
+    let near = lesser(entered.near, entered.count);
+    let high = count_up::count_node(s, &list[..entered.count], from, near, tops);
+    if !verticals::stand_all(s, from, to, &list[..entered.count], high, tops) {
+        return open_list::unclear();
+    }
+    Held {
+        count: entered.count,
+        near: high,
+        clear: true,
+    }
+}
+
+// All segments of places from..to, which start at one x, are passed. The place told is that after the first node's, or the guess.
+pub fn start_all(
+    s: &[i32],
+    from: usize,
+    to: usize,
+    list: &mut [u32],
+    count: usize,
+    guess: usize,
+    tops: &mut [i32],
+) -> Held
+    requires { ⌜ (let d = segments (now s) in let l = take count (now list) in
+        Ready d
+        × (from ≤ to)
+        × (to ≤ length d)
+        × (count ≤ from)
+        × (length d ≤ length (now list))
+        × (length d ≤ length (now tops))
+        × Known d l
+        × Ordered d l
+        × Splits d from
+        × Splits d to
+        × Within (2048000 * from) (now tops)) ⌝ }
+    ensures { λ r. ⌜ (let d = segments (now (s .entry)) in let l = take count (now (list .entry)) in let l′ = take (r .count) (now (list .exit)) in
+        (r .clear ≡ true → ((r .count ≤ to) × Started d from to l l′ (now (tops .entry)) (now (tops .exit)) × Within (2048000 * to) (now (tops .exit))))
+        × (CanStart d from to l → r .clear ≡ true)) ⌝ }
+{
+    let mut held = count;
+    let mut near = guess;
+    let mut first = guess;
+    let mut i = from;
+    while i < to {
+        let next = node_end(s, i, to);
+        let started = start_node(s, i, next, list, held, near, tops);
+        if !started.clear {
+            return open_list::unclear();
+        }
+        near = started.near;
+        first = open_list::first_place(i == from, first, near);
+        held = started.count;
+        i = next;
+    }
+    Held {
+        count: held,
+        near: first,
+        clear: true,
+    }
+}
