@@ -9,13 +9,16 @@ use crate::plane::Plane;
 use crate::prose::Checked;
 use crate::random::Random;
 use crate::shapes;
+use crate::sheets::{self, Sheet};
 use i_overlay::{Drawing, Scan};
 use jumperclay::raw;
 use std::hint::black_box;
 use std::time::{Duration, Instant};
 
 const SIZES: [usize; 3] = [64, 256, MOST_SEGMENTS];
-const NON_ZERO: i32 = 1;
+pub const NON_ZERO: i32 = 1;
+/// How long a row is timed before it is the next one's turn.
+const A_WHILE: Duration = Duration::from_millis(50);
 
 /// Few segments open at once, half of all open at once, and half of all at one point.
 const KINDS: [(&str, Make); 3] = [("mesh", mesh), ("nested", shapes::heaped), ("fan", shapes::wheel)];
@@ -28,33 +31,34 @@ struct Run {
     theirs: fn(&mut Drawing),
 }
 
-/// The fills without lines, so that the Rust makes no links; the clip inside, boundary included, with lines on most
-/// segments; the slice, counter-clockwise and of all areas.
-const RUNS: [Run; 3] = [
-    Run {
-        name: "fills",
-        draw: |_, _| (),
-        ours: |numbers, lists| _ = black_box(raw::fills(numbers, NON_ZERO, &mut lists.fills)),
-        theirs: |drawing| _ = black_box(drawing.fills(NON_ZERO)),
+/// Without lines, so that the Rust makes no links.
+const FILLS: Run = Run {
+    name: "fills",
+    draw: |_, _| (),
+    ours: |numbers, lists| _ = black_box(raw::fills(numbers, NON_ZERO, &mut lists.fills)),
+    theirs: |drawing| _ = black_box(drawing.fills(NON_ZERO)),
+};
+
+/// Inside, boundary included, with lines on most segments.
+const CLIP: Run = Run {
+    name: "clip",
+    draw: lines::mixed,
+    ours: |numbers, lists| {
+        _ = black_box(raw::clip(numbers, NON_ZERO, 0, 1, &mut lists.points, &mut lists.lengths));
     },
-    Run {
-        name: "clip",
-        draw: lines::mixed,
-        ours: |numbers, lists| {
-            _ = black_box(raw::clip(numbers, NON_ZERO, 0, 1, &mut lists.points, &mut lists.lengths));
-        },
-        theirs: |drawing| _ = black_box(drawing.clip(NON_ZERO, false, true)),
+    theirs: |drawing| _ = black_box(drawing.clip(NON_ZERO, false, true)),
+};
+
+/// Counter-clockwise and of all areas.
+const SLICE: Run = Run {
+    name: "slice",
+    draw: |_, _| (),
+    ours: |numbers, lists| {
+        let Lists { points, lengths, roles, .. } = lists;
+        _ = black_box(raw::slice(numbers, NON_ZERO, 0, 0, points, lengths, roles));
     },
-    Run {
-        name: "slice",
-        draw: |_, _| (),
-        ours: |numbers, lists| {
-            let Lists { points, lengths, roles, .. } = lists;
-            _ = black_box(raw::slice(numbers, NON_ZERO, 0, 0, points, lengths, roles));
-        },
-        theirs: |drawing| _ = black_box(drawing.slice(NON_ZERO, false, 0)),
-    },
-];
+    theirs: |drawing| _ = black_box(drawing.slice(NON_ZERO, false, 0)),
+};
 
 /// Makes so many points.
 type MakePoints = fn(usize) -> Vec<Point>;
@@ -80,6 +84,11 @@ Medians of one call in microseconds. Ours checks the drawing first, the Rust doe
 check, which is timed by itself. The Rust's files are unchanged but its scans are stand-ins: the list looks at all that
 is open, the tree halves. No list is cleared between calls.";
 
+const SHEETS_NOTE: &str = "\
+The lines inside, boundary included, by the non-zero rule: medians of one call in microseconds, each right after another
+of its own. Ours does every check, the Rust none; the Rust's scans are stand-ins: the list looks at all that is open, the
+tree halves. \"grown\" is how many times as long ours takes at 1,024 segments as at 256.";
+
 const COLUMNS: [&str; 8] = [
     "ours, all checks",
     "ours, without",
@@ -92,12 +101,13 @@ const COLUMNS: [&str; 8] = [
 ];
 
 pub fn bench() -> bool {
-    println!("{NOTE}");
-    for run in RUNS {
+    bench_sheets();
+    println!("\n{NOTE}");
+    for run in [FILLS, CLIP, SLICE] {
         println!("\n{:<7}{:>6}  {}", run.name, "n", COLUMNS.join("  "));
         for (kind, make) in KINDS {
             for n in SIZES {
-                let [all, check, list, tree] = times(&run, &drawing(make, run.draw, n));
+                let [all, check, list, tree] = medians(calls(&run, &drawing(make, run.draw, n)));
                 let without = all - check;
                 let cells = [all, without, list, tree, all / list, all / tree, without / list, without / tree];
                 let cells = COLUMNS.iter().zip(cells).map(|(name, cell)| format!("{cell:>0$.1}", name.len() + 2));
@@ -108,6 +118,35 @@ pub fn bench() -> bool {
     bench_check();
     bench_split();
     true
+}
+
+/// The clip run on the sheets, without the check by itself.
+pub fn bench_sheets() -> bool {
+    println!("{SHEETS_NOTE}");
+    sheet_table::<3, _>(&["ours", "Rust, list", "Rust, tree", "ours/list", "ours/tree"], |sheet| {
+        let mut calls = calls(&CLIP, &sheet.numbers);
+        move |call| calls([0, 2, 3][call])
+    });
+    true
+}
+
+/// A row for each sheet: how long the calls take, the first of which is ours; how many times as long ours takes as each
+/// of the others; and in the row of most segments how many times as long as in the row before.
+pub fn sheet_table<const N: usize, C: FnMut(usize)>(columns: &[&str], calls: impl Fn(&Sheet) -> C) {
+    let in_column = |name: &str, cell: &str| format!("{cell:>0$}", name.len().max(8) + 2);
+    let names: String = columns.iter().map(|name| in_column(name, name)).collect();
+    println!("\n{:<7}{:>6}{names}{:>8}", "sheets", "n", "grown");
+    for (kind, make) in sheets::KINDS {
+        let rows: [[f64; N]; SIZES.len()] = medians_of(SIZES.map(|n| calls(&make(n))), 1);
+        for (row, n) in SIZES.into_iter().enumerate() {
+            let times = rows[row];
+            let ratios = times[1..].iter().map(|other| format!("{:.2}", times[0] / other));
+            let cells = times.iter().map(|time| format!("{time:.1}")).chain(ratios);
+            let cells: String = columns.iter().zip(cells).map(|(name, cell)| in_column(name, &cell)).collect();
+            let grown = (n == MOST_SEGMENTS).then(|| format!("{:.1}", times[0] / rows[row - 1][0]));
+            println!("{kind:<7}{n:>6}{cells}{:>8}", grown.unwrap_or_default());
+        }
+    }
 }
 
 /// The check alone, and how many times as long it takes as that of the size before.
@@ -175,36 +214,60 @@ fn drawing(make: Make, draw: Draw, n: usize) -> Vec<i32> {
 }
 
 /// Ours, our check alone, and the Rust's with its list and with its tree.
-fn times(run: &Run, numbers: &[i32]) -> [f64; 4] {
+fn calls(run: &Run, numbers: &[i32]) -> impl FnMut(usize) {
+    let Run { ours, theirs, .. } = *run;
+    let numbers = numbers.to_vec();
     let mut lists = Lists {
         fills: vec![0; MOST_SEGMENTS],
         roles: vec![0; 2 * MOST_SEGMENTS],
         points: vec![0; CLIP_EACH[0] * MOST_SEGMENTS],
         lengths: vec![0; CLIP_EACH[1] * MOST_SEGMENTS],
     };
-    let [mut list, mut tree] = [Scan::List, Scan::Tree].map(|scan| Drawing::new(numbers, scan));
-    medians(|call| match call {
-        0 => (run.ours)(black_box(numbers), &mut lists),
-        1 => _ = black_box(measure::check(black_box(numbers))),
-        2 => (run.theirs)(&mut list),
-        _ => (run.theirs)(&mut tree),
-    })
+    let [mut list, mut tree] = [Scan::List, Scan::Tree].map(|scan| Drawing::new(&numbers, scan));
+    move |call| match call {
+        0 => ours(black_box(&numbers), &mut lists),
+        1 => _ = black_box(measure::check(black_box(&numbers))),
+        2 => theirs(&mut list),
+        _ => theirs(&mut tree),
+    }
 }
 
-/// In microseconds, over as many rounds as a second allows, at least eleven. The calls take turns, so that a
-/// change of the processor's speed meets all of them.
-fn medians<const N: usize>(mut call: impl FnMut(usize)) -> [f64; N] {
+/// Of the calls of one row.
+fn medians<const N: usize>(call: impl FnMut(usize)) -> [f64; N] {
+    let [times] = medians_of([call], 0);
+    times
+}
+
+/// In microseconds, over as many rounds as a second a row allows, at least eleven. The calls of a row take turns, and so
+/// do the rows, for a while each, so that a change of the processor's speed meets all of them. Before a timed call come
+/// so many untimed ones of the same: the first after another's takes longer.
+fn medians_of<const N: usize, const ROWS: usize>(
+    mut rows: [impl FnMut(usize); ROWS],
+    untimed: usize,
+) -> [[f64; N]; ROWS] {
     let begin = Instant::now();
-    let mut times = [const { Vec::new() }; N];
-    while times[0].len() < 11 || begin.elapsed() < Duration::from_secs(1) {
-        for (place, times) in times.iter_mut().enumerate() {
-            let start = Instant::now();
-            call(place);
-            times.push(start.elapsed());
+    let mut times = [const { [const { Vec::new() }; N] }; ROWS];
+    while times.iter().any(|row| row[0].len() < 11) || begin.elapsed() < Duration::from_secs(ROWS as u64) {
+        for (call, times) in rows.iter_mut().zip(&mut times) {
+            let turn = Instant::now();
+            while turn.elapsed() < A_WHILE {
+                round(call, untimed, times);
+            }
         }
     }
-    times.map(|mut times| {
-        times.sort();
-        times[times.len() / 2].as_secs_f64() * 1e6
-    })
+    times.map(|row| row.map(median))
+}
+
+fn round<const N: usize>(call: &mut impl FnMut(usize), untimed: usize, times: &mut [Vec<Duration>; N]) {
+    for (place, times) in times.iter_mut().enumerate() {
+        (0..untimed).for_each(|_| call(place));
+        let start = Instant::now();
+        call(place);
+        times.push(start.elapsed());
+    }
+}
+
+fn median(mut times: Vec<Duration>) -> f64 {
+    times.sort();
+    times[times.len() / 2].as_secs_f64() * 1e6
 }

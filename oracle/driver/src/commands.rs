@@ -1,0 +1,90 @@
+//! The driver's commands.
+
+#[cfg(feature = "rust")]
+use crate::{bench, store};
+use crate::{cases, check, check_split, check_texts, stored, sweeps, theirs};
+use std::path::Path;
+
+pub const USAGE: &str = "\
+driver check [--seed S] [--drawings N] [--lists N] [--texts N]
+                                     compare with all that is stored, then on N drawings, N lists of points and N texts
+driver lists [--seed S] [--lists N]  compare overlay_split alone, on N lists of points
+driver texts [--seed S] [--texts N]  compare the clip program and overlay_read alone, on N texts
+driver replay [FOLDER]               compare with the stored answers, in crates/replay if not said
+driver store [FOLDER]                make the stored answers (needs the Rust)
+driver cases [FOLDER]                make the cases of the clip program, in crates/clip_cases if not said
+driver sweeps [FOLDER]               make the drawings that the definition of the sweep is computed on, in crates/sweep_cases if not said
+driver bench                         time ours and the Rust (needs the Rust)
+driver bench sheets                  time them on the nine sheets alone";
+
+struct Options {
+    seed: u64,
+    drawings: usize,
+    lists: usize,
+    texts: usize,
+}
+
+/// None where the words are no command.
+pub fn run(words: &[&str]) -> Option<bool> {
+    match words {
+        ["check", options @ ..] => {
+            let Options { seed, drawings, lists, texts } = options_of(options)?;
+            println!("{}, seed {seed}", theirs::NOTE);
+            let stored =
+                [stored::replay(&stored::folder()), cases::check(&cases::folder()), sweeps::check(&sweeps::folder())];
+            let made = [check::check(seed, drawings), check_split::check(seed, lists), check_texts::check(seed, texts)];
+            Some(stored == [true; 3] && made == [true; 3])
+        }
+        ["lists", options @ ..] => {
+            let Options { seed, lists, .. } = options_of(options)?;
+            Some(check_split::check(seed, lists))
+        }
+        ["texts", options @ ..] => {
+            let Options { seed, texts, .. } = options_of(options)?;
+            Some(check_texts::check(seed, texts))
+        }
+        ["replay"] => Some(stored::replay(&stored::folder())),
+        ["replay", folder] => Some(stored::replay(Path::new(folder))),
+        ["cases"] => Some(cases::store(&cases::folder())),
+        ["cases", folder] => Some(cases::store(Path::new(folder))),
+        ["sweeps"] => Some(sweeps::store(&sweeps::folder())),
+        ["sweeps", folder] => Some(sweeps::store(Path::new(folder))),
+        ["bench"] | ["bench", "sheets"] | ["store"] => Some(with_rust(&words.join(" "), &stored::folder())),
+        ["store", folder] => Some(with_rust("store", Path::new(folder))),
+        _ => None,
+    }
+}
+
+fn options_of(options: &[&str]) -> Option<Options> {
+    let mut found = Options {
+        seed: 1,
+        drawings: check::DEFAULT_DRAWINGS,
+        lists: check_split::DEFAULT_LISTS,
+        texts: check_texts::DEFAULT_TEXTS,
+    };
+    for option in options.chunks(2) {
+        match option {
+            ["--seed", value] => found.seed = value.parse().ok()?,
+            ["--drawings", value] => found.drawings = value.parse().ok()?,
+            ["--lists", value] => found.lists = value.parse().ok()?,
+            ["--texts", value] => found.texts = value.parse().ok()?,
+            _ => return None,
+        }
+    }
+    Some(found)
+}
+
+#[cfg(feature = "rust")]
+fn with_rust(command: &str, folder: &Path) -> bool {
+    match command {
+        "store" => store::store(1, folder),
+        "bench sheets" => bench::bench_sheets(),
+        _ => bench::bench(),
+    }
+}
+
+#[cfg(not(feature = "rust"))]
+fn with_rust(command: &str, _: &Path) -> bool {
+    println!("{command} needs the Rust: {}", theirs::NOTE);
+    false
+}
