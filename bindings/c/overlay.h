@@ -27,7 +27,10 @@
    answer keep their values, and after a refusal all do. In what is returned, number and place are 0 on
    success; on a refusal they say which and where, and all counts are 0.
 
-   The rule is 0 even-odd, 1 nonzero, 2 positive or 3 negative. */
+   The rule is 0 even-odd, 1 nonzero, 2 positive or 3 negative.
+
+   Nothing is allocated. A call needs up to 60 KB of stack for fills and splits, 80 KB for clips and
+   114 KB for slices, whatever the drawing's size. */
 
 #ifndef OVERLAY_H
 #define OVERLAY_H
