@@ -10,7 +10,7 @@ ghost use Rattle.neighbours.specs.Neighbours.{Ready, Known};
 ghost use Rattle.count_up.specs.CountUp.{countUp, lastIn, Within, LowEnd, HighEnd, Climbed};
 
 // Down from a place of the list, the last place from which on all are `first` or more.
-fn low_end(list: &[u32], first: usize, place: usize) -> usize
+fn low_end(list: &[u16], first: usize, place: usize) -> usize
     requires { ⌜ place ≤ length (now list) ⌝ }
     ensures { λ r. ⌜ LowEnd first place (now (list .entry)) r ⌝ }
 {
@@ -25,7 +25,7 @@ fn low_end(list: &[u32], first: usize, place: usize) -> usize
 }
 
 // Up from a place of the list, the first place at which one is less than `first`.
-fn high_end(list: &[u32], first: usize, place: usize) -> usize
+fn high_end(list: &[u16], first: usize, place: usize) -> usize
     requires { ⌜ place ≤ length (now list) ⌝ }
     ensures { λ r. ⌜ HighEnd first place (now (list .entry)) r ⌝ }
 {
@@ -40,7 +40,7 @@ fn high_end(list: &[u32], first: usize, place: usize) -> usize
 }
 
 // The top count of the last of the list, 0 if there is none.
-pub fn count_below(list: &[u32], tops: &[i32]) -> i32
+pub fn count_below(list: &[u16], tops: &[i32]) -> i32
     requires { ⌜ ((i : ℕ) → i ∈ now list → i < length (now tops)) ⌝ }
     ensures { λ r. ⌜ r ≡ lastIn (now (tops .entry)) (now (list .entry)) ⌝ }
 {
@@ -53,7 +53,7 @@ pub fn count_below(list: &[u32], tops: &[i32]) -> i32
 }
 
 // The counts of a stretch of the list are written, from the count under it.
-fn count_up(s: &[i32], stretch: &[u32], under: i32, tops: &mut [i32])
+fn count_up(s: &[i32], stretch: &[u16], under: i32, tops: &mut [i32])
     requires { ⌜ (let d = segments (now s) in
         Ready d
         × Known d (now stretch)
@@ -74,7 +74,7 @@ fn count_up(s: &[i32], stretch: &[u32], under: i32, tops: &mut [i32])
 }
 
 // The counts of those of the list that are `first` or more are written, if one of them stands at the place before `near`. The place told is that after them.
-pub fn count_node(s: &[i32], list: &[u32], first: usize, near: usize, tops: &mut [i32]) -> usize
+pub fn count_node(s: &[i32], list: &[u16], first: usize, near: usize, tops: &mut [i32]) -> usize
     requires { ⌜ (let d = segments (now s) in
         Ready d
         × Known d (now list)

@@ -38,7 +38,7 @@ fn event(
     ends: &[u32],
     from: usize,
     to: usize,
-    list: &mut [u32],
+    list: &mut [u16],
     count: usize,
     guess: usize,
     tops: &mut [i32],
@@ -114,7 +114,7 @@ fn starts_past(s: &[i32], k: usize, e: usize) -> usize
 }
 
 // The sweep, from x to x of the ordered ends. The list is working memory; the tops are 0 before it.
-fn sweep(s: &[i32], flat: &[u32], list: &mut [u32], tops: &mut [i32]) -> bool
+fn sweep(s: &[i32], flat: &[u32], list: &mut [u16], tops: &mut [i32]) -> bool
     requires { ⌜ (let d = segments (now s) in
         Ready d
         × (now flat ≡ ordering (endBefore d) (upFrom 0 (2 * length d)))
@@ -161,9 +161,9 @@ pub fn is_clear(s: &[i32], flat: &[u32], tops: &mut [i32]) -> bool
     ensures { λ r. ⌜ ((r ≡ true) ↔ NoneMeetWrongly (segments (now (s .entry)))) × (r ≡ true → Counted (segments (now (s .entry))) (now (tops .exit))) ⌝ }
 {
     if segm::count(s) <= segm::SMALL {
-        let mut list = [0u32; segm::SMALL];
+        let mut list = [0u16; segm::SMALL];
         return sweep(s, flat, &mut list, tops);
     }
-    let mut list = [0u32; 1024];
+    let mut list = [0u16; 1024];
     sweep(s, flat, &mut list, tops)
 }

@@ -75,7 +75,7 @@ fn follows(t: Segment, u: Segment) -> bool
 }
 
 // Whether the segment at place i may stand right under that at place j.
-fn is_next(s: &[i32], i: u32, j: u32) -> bool
+fn is_next(s: &[i32], i: u16, j: u16) -> bool
     requires { ⌜ Listed (segments (now s)) i × Listed (segments (now s)) j ⌝ }
     ensures { λ r. ⌜ (r ≡ true) ↔ Next (segmentAt (segments (now (s .entry))) i) (segmentAt (segments (now (s .entry))) j) ⌝ }
 {
@@ -86,7 +86,7 @@ fn is_next(s: &[i32], i: u32, j: u32) -> bool
 }
 
 // Whether the segment at place i may stand right over the one before place k of the list, if there is one.
-fn stands_over(s: &[i32], list: &[u32], k: usize, i: u32) -> bool
+fn stands_over(s: &[i32], list: &[u16], k: usize, i: u16) -> bool
     requires { ⌜ (let d = segments (now s) in
         Ready d × Known d (now list) × (i < length d) × (k ≤ length (now list))) ⌝ }
     ensures { λ r. ⌜ (r ≡ true) ↔ StandsOver (segments (now (s .entry))) k i (now (list .entry)) ⌝ }
@@ -98,7 +98,7 @@ fn stands_over(s: &[i32], list: &[u32], k: usize, i: u32) -> bool
 }
 
 // Whether it may stand right under the one at place k, if there is one.
-fn stands_under(s: &[i32], list: &[u32], k: usize, i: u32) -> bool
+fn stands_under(s: &[i32], list: &[u16], k: usize, i: u16) -> bool
     requires { ⌜ (let d = segments (now s) in
         Ready d × Known d (now list) × (i < length d)) ⌝ }
     ensures { λ r. ⌜ (r ≡ true) ↔ StandsUnder (segments (now (s .entry))) k i (now (list .entry)) ⌝ }
@@ -110,7 +110,7 @@ fn stands_under(s: &[i32], list: &[u32], k: usize, i: u32) -> bool
 }
 
 // Whether the two beside place k of the list may become neighbours.
-fn closes_at(s: &[i32], list: &[u32], k: usize) -> bool
+fn closes_at(s: &[i32], list: &[u16], k: usize) -> bool
     requires { ⌜ Ready (segments (now s)) × Known (segments (now s)) (now list) × (k < length (now list)) ⌝ }
     ensures { λ r. ⌜ (r ≡ true) ↔ ClosesAt (segments (now (s .entry))) k (now (list .entry)) ⌝ }
 {
@@ -124,7 +124,7 @@ fn closes_at(s: &[i32], list: &[u32], k: usize) -> bool
 }
 
 // End e is passed: where a segment that is not vertical ends there, it leaves the list.
-fn leave_one(s: &[i32], e: u32, list: &mut [u32], count: usize, near: usize) -> Held
+fn leave_one(s: &[i32], e: u32, list: &mut [u16], count: usize, near: usize) -> Held
     requires { ⌜ (let d = segments (now s) in let l = take count (now list) in
         Ready d
         × (e < 2 * length d)
@@ -159,7 +159,7 @@ fn leave_one(s: &[i32], e: u32, list: &mut [u32], count: usize, near: usize) -> 
 
 // A place of the list for i, whose segment is t: where the last one left or before it, if it stands there, else by search. Without a wrong meeting it stands
 // there.
-fn place_to_leave(s: &[i32], t: Segment, i: usize, list: &[u32], near: usize) -> usize
+fn place_to_leave(s: &[i32], t: Segment, i: usize, list: &[u16], near: usize) -> usize
     requires { ⌜ (let d = segments (now s) in
         Ready d
         × (t ≡ segmentAt d i)
@@ -181,11 +181,11 @@ fn place_to_leave(s: &[i32], t: Segment, i: usize, list: &[u32], near: usize) ->
             }
         }
     }
-    scan::place_near(s, list, near, Sought::Along(t))
+    scan::place_of(s, list, Sought::Along(t))
 }
 
 // The segment t, at place i of the drawing, leaves the list.
-fn take_out(s: &[i32], t: Segment, i: usize, list: &mut [u32], count: usize, near: usize) -> Held
+fn take_out(s: &[i32], t: Segment, i: usize, list: &mut [u16], count: usize, near: usize) -> Held
     requires { ⌜ (let d = segments (now s) in let l = take count (now list) in
         Ready d
         × (t ≡ segmentAt d i)
@@ -217,13 +217,17 @@ fn take_out(s: &[i32], t: Segment, i: usize, list: &mut [u32], count: usize, nea
     }
 }
 
-// Where the first one left or entered: here, if none has before.
-pub fn first_place(none_before: bool, first: usize, here: usize) -> usize {
-    if none_before { here } else { first }
+// The lowest place so far at which one left or entered: here, if none has before.
+pub fn lowest_place(none_before: bool, lowest: usize, here: usize) -> usize {
+    if none_before | (here < lowest) {
+        here
+    } else {
+        lowest
+    }
 }
 
-// All these ends are passed, one after the other. The place told is where the first one left, or the guess.
-pub fn leave_all(s: &[i32], ends: &[u32], list: &mut [u32], count: usize, guess: usize) -> Held
+// All these ends are passed, one after the other. The place told is the lowest at which one left, or the guess.
+pub fn leave_all(s: &[i32], ends: &[u32], list: &mut [u16], count: usize, guess: usize) -> Held
     requires { ⌜ (let d = segments (now s) in let l = take count (now list) in
         Ready d
         × ((e : ℕ) → e ∈ now ends → e < 2 * length d)
@@ -237,7 +241,7 @@ pub fn leave_all(s: &[i32], ends: &[u32], list: &mut [u32], count: usize, guess:
 {
     let mut held = count;
     let mut near = guess;
-    let mut first = guess;
+    let mut lowest = guess;
     let mut k: usize = 0;
     while k < ends.len() {
         let left = leave_one(s, ends[k], list, held, near);
@@ -245,19 +249,19 @@ pub fn leave_all(s: &[i32], ends: &[u32], list: &mut [u32], count: usize, guess:
             return unclear();
         }
         near = left.near;
-        first = first_place(held == count, first, near);
+        lowest = lowest_place(held == count, lowest, near);
         held = left.count;
         k += 1;
     }
     Held {
         count: held,
-        near: first,
+        near: lowest,
         clear: true,
     }
 }
 
 // Whether the segment at place i may stand at place k of the list.
-fn fits_at(s: &[i32], list: &[u32], k: usize, i: u32) -> bool
+fn fits_at(s: &[i32], list: &[u16], k: usize, i: u16) -> bool
     requires { ⌜ (let d = segments (now s) in
         Ready d × Known d (now list) × (i < length d) × (k ≤ length (now list))) ⌝ }
     ensures { λ r. ⌜ (r ≡ true) ↔ FitsAt (segments (now (s .entry))) k i (now (list .entry)) ⌝ }
@@ -275,7 +279,7 @@ struct Place {
 }
 
 // A place for the segment t, at place i of the drawing: where the last one entered, if it fits there, else by search. Without a wrong meeting it fits.
-fn place_to_enter(s: &[i32], t: Segment, i: u32, list: &[u32], near: usize) -> Place
+fn place_to_enter(s: &[i32], t: Segment, i: u16, list: &[u16], near: usize) -> Place
     requires { ⌜ (let d = segments (now s) in
         Ready d × (t ≡ segmentAt d i) × Known d (now list) × (i < length d)) ⌝ }
     ensures { λ r. ⌜ (let d = segments (now (s .entry)) in let l = now (list .entry) in
@@ -290,7 +294,7 @@ fn place_to_enter(s: &[i32], t: Segment, i: u32, list: &[u32], near: usize) -> P
             };
         }
     }
-    let k = scan::place_near(s, list, near, Sought::Along(t));
+    let k = scan::place_of(s, list, Sought::Along(t));
     Place {
         at: k,
         fits: fits_at(s, list, k, i),
@@ -298,7 +302,7 @@ fn place_to_enter(s: &[i32], t: Segment, i: u32, list: &[u32], near: usize) -> P
 }
 
 // The segment at place i is passed: where it is not vertical it enters the list.
-fn enter_one(s: &[i32], i: usize, list: &mut [u32], count: usize, near: usize) -> Held
+fn enter_one(s: &[i32], i: usize, list: &mut [u16], count: usize, near: usize) -> Held
     requires { ⌜ (let d = segments (now s) in let l = take count (now list) in
         Ready d
         × (i < length d)
@@ -317,12 +321,12 @@ fn enter_one(s: &[i32], i: usize, list: &mut [u32], count: usize, near: usize) -
             clear: true,
         };
     }
-    let place = place_to_enter(s, t, i as u32, &list[..count], near);
+    let place = place_to_enter(s, t, i as u16, &list[..count], near);
     if !place.fits {
         return unclear();
     }
     let k = place.at;
-    scan::insert(list, count, k, i as u32);
+    scan::insert(list, count, k, i as u16);
     let more = count + 1;
     let after = k + 1;
     Held {
@@ -337,7 +341,7 @@ pub fn enter_all(
     s: &[i32],
     from: usize,
     to: usize,
-    list: &mut [u32],
+    list: &mut [u16],
     count: usize,
     guess: usize,
 ) -> Held

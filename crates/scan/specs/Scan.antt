@@ -2,9 +2,8 @@
 -- The contracts of `scan` cite these. Assumes nothing.
 use mathlib.Core.List.{List, _∷_, _++_}
 use mathlib.Core.Path.{_≡_}
-use mathlib.Core.Bool.{Bool, true, false, cond}
-use Prim.Native.Nat.{ℕ, zero, suc, _+_, _-_, _/_, _≤_, _<_}
-use lib.Dec.{ltb}
+use mathlib.Core.Bool.{Bool, true, false}
+use Prim.Native.Nat.{ℕ, suc, _-_, _≤_, _<_}
 use lib.ListN.{length, getD, take, drop}
 use Rattle.geom.specs.Points.{inRange}
 use Rattle.segm.specs.Lists.{_∈_}
@@ -14,26 +13,12 @@ use Rattle.strip.specs.Strip.{above, underBySide}
 use Rattle.scan.specs.declared.Sought.{Sought}
 use Rattle.scan.specs.declared.Sought.the-variants.{At, Along}
 
--- bisection: from low to high, a number at which the test changes from true to false, in at most so many steps
-unfoldable pub bisect : (ℕ → Bool) → ℕ → ℕ → ℕ → ℕ
-bisect test zero low high = low
-bisect test (suc steps) low high =
-    let middle = low + (high - low) / 2 in
-    cond (ltb low high) (cond (test middle) (bisect test steps (suc middle) high) (bisect test steps low middle)) low
-
 -- r lies from low to high, and the test changes there from true to false
 pub record Changes (test : ℕ → Bool) (low high r : ℕ) : Type 0 where
   pub from : low ≤ r
   pub till : r ≤ high
   pub before : low < r → test (r - 1) ≡ true
   pub after : r < high → test r ≡ false
-
--- of so many places, from..to are some between which the test changes: it is true before them and false after them, as far as there is a place
-pub record Brackets (test : ℕ → Bool) (many from to : ℕ) : Type 0 where
-  pub order : from ≤ to
-  pub till : to ≤ many
-  pub before : 0 < from → test (from - 1) ≡ true
-  pub after : to < many → test to ≡ false
 
 -- the segment at place i is below a point, or below another segment
 unfoldable pub isBelow : Drawing → Sought → ℕ → Bool

@@ -41,7 +41,7 @@ fn start_node(
     s: &[i32],
     from: usize,
     to: usize,
-    list: &mut [u32],
+    list: &mut [u16],
     count: usize,
     guess: usize,
     tops: &mut [i32],
@@ -77,12 +77,12 @@ fn start_node(
     }
 }
 
-// All segments of places from..to, which start at one x, are passed. The place told is that after the first node's, or the guess.
+// All segments of places from..to, which start at one x, are passed. The place told is the lowest of those after the nodes, or the guess.
 pub fn start_all(
     s: &[i32],
     from: usize,
     to: usize,
-    list: &mut [u32],
+    list: &mut [u16],
     count: usize,
     guess: usize,
     tops: &mut [i32],
@@ -105,7 +105,7 @@ pub fn start_all(
 {
     let mut held = count;
     let mut near = guess;
-    let mut first = guess;
+    let mut lowest = guess;
     let mut i = from;
     while i < to {
         let next = node_end(s, i, to);
@@ -114,13 +114,13 @@ pub fn start_all(
             return open_list::unclear();
         }
         near = started.near;
-        first = open_list::first_place(i == from, first, near);
+        lowest = open_list::lowest_place(i == from, lowest, near);
         held = started.count;
         i = next;
     }
     Held {
         count: held,
-        near: first,
+        near: lowest,
         clear: true,
     }
 }

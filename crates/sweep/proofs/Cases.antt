@@ -10,12 +10,12 @@ use Rattle.segm.specs.CaseA.{segment, A}
 use Rattle.ends.specs.Ordering.{insert, ordering}
 use Rattle.meetings.specs.Meetings.{side}
 use Rattle.strip.specs.Strip.{isVertical, spans, above, clockwise, reach, height, gap, falls, under}
-use Rattle.scan.specs.Scan.{bisect, isBelow, putAt}
+use Rattle.scan.specs.Scan.{isBelow, putAt}
 use Rattle.fill_rule.specs.FillRule.{filled, ruleOf, fillOf}
 use Rattle.ray.specs.Ray.{met, bottom, top, fill, fills}
 use Rattle.sweep.specs.Sweep.{startingAt, nodeSize, nodeFrom, turnBefore, visit, visitNode, sweepFrom, sweepWith}
 use Rattle.sweep.specs.Stored.{isUnder, higher, highest, countOf, storedCount, storeTop, sweepInto, sweep}
-use Rattle.sweep.specs.Open.{stillOpen, placeBy, placeOf, seekOpen, countOpen, storeOpen, openSweep}
+use Rattle.sweep.specs.Open.{stillOpen, bisect, placeBy, placeOf, seekOpen, countOpen, storeOpen, openSweep}
 
 -- three triangles about the origin, with counts -1, 1 and 2 from the lowest; its four segments do not stand in turn
 abbrev triangles : List ℤ

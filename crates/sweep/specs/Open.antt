@@ -2,8 +2,8 @@
 -- Assumes nothing.
 use mathlib.Core.List.{List, []}
 use mathlib.Core.Bool.{Bool, cond}
-use Prim.Native.Nat.{ℕ, suc, _-_}
-use lib.Dec.{eqb}
+use Prim.Native.Nat.{ℕ, zero, suc, _+_, _-_, _/_}
+use lib.Dec.{eqb, ltb}
 use lib.ListN.{length, getD, set}
 use lib.IntN.{ℤ, pos}
 use lib.Signed.{ltZ}
@@ -11,13 +11,20 @@ use Rattle.geom.specs.declared.Point.{Point}
 use Rattle.segm.specs.Lists.{keep}
 use Rattle.segm.specs.Segments.{Drawing, segmentAt}
 use Rattle.scan.specs.declared.Sought.the-variants.{At}
-use Rattle.scan.specs.Scan.{bisect, isBelow, putAt}
+use Rattle.scan.specs.Scan.{isBelow, putAt}
 use Rattle.fill_rule.specs.declared.Rule.{Rule}
 use Rattle.sweep.specs.Sweep.{sweepWith}
 
 -- those that do not end at or before x
 unfoldable pub stillOpen : Drawing → ℤ → List ℕ → List ℕ
 stillOpen d x l = keep (λ i. ltZ x (segmentAt d i .b .x)) l
+
+-- bisection: from low to high, a number at which the test changes from true to false, in at most so many steps
+unfoldable pub bisect : (ℕ → Bool) → ℕ → ℕ → ℕ → ℕ
+bisect test zero low high = low
+bisect test (suc steps) low high =
+    let middle = low + (high - low) / 2 in
+    cond (ltb low high) (cond (test middle) (bisect test steps (suc middle) high) (bisect test steps low middle)) low
 
 -- the place of what is sought: how many of an ordered list are below it
 unfoldable pub placeBy : (ℕ → Bool) → List ℕ → ℕ

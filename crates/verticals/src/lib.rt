@@ -20,7 +20,7 @@ ghost use Rattle.count_up.specs.CountUp.{lastIn, Within};
 ghost use Rattle.verticals.specs.Verticals.{liesUnder, liesAbove, CutAt, AllStand, Column, Stands, Beyond, Unbroken, ClearIn, Clears};
 
 // Whether the segment at place i lies under p: strictly, or with its start there.
-fn lies_under(s: &[i32], i: u32, p: Point) -> bool
+fn lies_under(s: &[i32], i: u16, p: Point) -> bool
     requires { ⌜ Listed (segments (now s)) i × (inRange p ≡ true) ⌝ }
     ensures { λ r. ⌜ r ≡ liesUnder p (segmentAt (segments (now (s .entry))) i) ⌝ }
 {
@@ -32,7 +32,7 @@ fn lies_under(s: &[i32], i: u32, p: Point) -> bool
 }
 
 // The same, above.
-fn lies_above(s: &[i32], i: u32, p: Point) -> bool
+fn lies_above(s: &[i32], i: u16, p: Point) -> bool
     requires { ⌜ Listed (segments (now s)) i × (inRange p ≡ true) ⌝ }
     ensures { λ r. ⌜ r ≡ liesAbove p (segmentAt (segments (now (s .entry))) i) ⌝ }
 {
@@ -44,7 +44,7 @@ fn lies_above(s: &[i32], i: u32, p: Point) -> bool
 }
 
 // Whether the one before place k of the list lies under v, and the one at place k above it.
-fn is_cut(s: &[i32], v: Segment, list: &[u32], k: usize) -> bool
+fn is_cut(s: &[i32], v: Segment, list: &[u16], k: usize) -> bool
     requires { ⌜ Ready (segments (now s)) × Proper v × Known (segments (now s)) (now list) × (k ≤ length (now list)) ⌝ }
     ensures { λ r. ⌜ (r ≡ true) ↔ CutAt (segments (now (s .entry))) v k (now (list .entry)) ⌝ }
 {
@@ -68,7 +68,7 @@ struct Gap {
 }
 
 // Where the vertical segment v stands in a gap of the list, if it does: at the guess, else by search.
-fn gap_of(s: &[i32], v: Segment, list: &[u32], guess: usize) -> Gap
+fn gap_of(s: &[i32], v: Segment, list: &[u16], guess: usize) -> Gap
     requires { ⌜ Ready (segments (now s)) × Proper v × Known (segments (now s)) (now list) ⌝ }
     ensures { λ r. ⌜ (r .clear ≡ true → CutAt (segments (now (s .entry))) v (r .place) (now (list .entry)))
         × (ClearIn (segments (now (s .entry))) v (now (list .entry)) → r .clear ≡ true) ⌝ }
@@ -82,7 +82,7 @@ fn gap_of(s: &[i32], v: Segment, list: &[u32], guess: usize) -> Gap
         }
     }
     let b = v.b;
-    let k = scan::place_near(s, list, guess, Sought::At(b));
+    let k = scan::place_of(s, list, Sought::At(b));
     Gap {
         place: k,
         clear: is_cut(s, v, list, k),
@@ -90,7 +90,7 @@ fn gap_of(s: &[i32], v: Segment, list: &[u32], guess: usize) -> Gap
 }
 
 // The vertical segment v, at place i of the drawing, stands in a gap of the list, if it does; its top count is that of the one below the gap, and its own winding.
-fn stand_one(s: &[i32], v: Segment, i: usize, list: &[u32], guess: usize, tops: &mut [i32]) -> Gap
+fn stand_one(s: &[i32], v: Segment, i: usize, list: &[u16], guess: usize, tops: &mut [i32]) -> Gap
     requires { ⌜ (let d = segments (now s) in
         Ready d
         × (v ≡ segmentAt d i)
@@ -116,7 +116,7 @@ pub fn stand_all(
     s: &[i32],
     from: usize,
     to: usize,
-    list: &[u32],
+    list: &[u16],
     guess: usize,
     tops: &mut [i32],
 ) -> bool

@@ -24,10 +24,10 @@ record Passed (d : Drawing) (ends old : List ℕ) (count : ℕ) (list : List ℕ
   left : Left d (take k ends) (take count old) (take held list)
 
 abbrev Inv-loop : tie.InvT-loop
-Inv-loop s ends list₀ count guess held₀ near₀ first₀ k₀ list held near first k = Passed (segments s) ends list₀ count list held k
+Inv-loop s ends list₀ count guess held₀ near₀ lowest₀ k₀ list held near lowest k = Passed (segments s) ends list₀ count list held k
 
 abbrev μ-loop : tie.MeasureT-loop
-μ-loop s ends list₀ count guess held₀ near₀ first₀ k₀ list held near first k = length ends - k
+μ-loop s ends list₀ count guess held₀ near₀ lowest₀ k₀ list held near lowest k = length ends - k
 
 loop-holds : tie.Need-loop-holds Inv-loop μ-loop
 loop-holds c =
@@ -60,8 +60,8 @@ returns c =
     let next = can-leave-next (segments (s .args .s .now)) (s .args .ends .now) (take (s .args .count) (s .args .list .now)) (take (l .held) (l .list)) (l .k) (omega arith) in
     (λ t. absurd (clash t (c .unclear .ensures)), λ w. absurd (clash (one .ensures .1 (next w (l .inv .left))) (not-true _ (c .before .if1 .taken))))
 
-first-place-requires : tie.Need-first-place-requires Inv-loop μ-loop
-first-place-requires c κs = search needs
+lowest-place-requires : tie.Need-lowest-place-requires Inv-loop μ-loop
+lowest-place-requires c κs = search needs
 
 add-k : tie.Need-add-k Inv-loop μ-loop
 add-k c = search needs
@@ -108,7 +108,7 @@ leave-all-spec =
     unclear-requires
     same-length
     returns
-    first-place-requires
+    lowest-place-requires
     add-k
     loop-less
     loop-again

@@ -43,18 +43,18 @@ sub-result c = search needs
 returns-2 : tie.Need-returns-2
 returns-2 c x w m = (omega arith, omega (arith, c .if5 .taken))
 
-place-near-requires : tie.Need-place-near-requires
-place-near-requires c κs = let s = c .before .before .before in (λ i m. record { inside = s .pre .3 i m; proper = s .pre .0 .proper i (s .pre .3 i m) }, subst Proper (sym (s .pre .1)) (s .pre .0 .proper (s .args .i) (s .pre .2)))
+place-of-requires : tie.Need-place-of-requires
+place-of-requires c κs = let s = c .before .before .before in (λ i m. record { inside = s .pre .3 i m; proper = s .pre .0 .proper i (s .pre .3 i m) }, subst Proper (sym (s .pre .1)) (s .pre .0 .proper (s .args .i) (s .pre .2)))
 
 returns-3 : tie.Need-returns-3
 returns-3 c x w m =
     let s = c .before .before .before .before in
     let d = segments (s .args .s .now) in
     let l = s .args .list .now in
-    let changes = subst (λ (t : Segment). Changes (belowAt d (Along t) l) 0 (length l) (c .place-near .result)) (s .pre .1) (c .place-near .ensures) in
-    found d l (s .pre .3) (s .pre .4) w (s .args .i) (c .place-near .result) m changes
+    let changes = subst (λ (t : Segment). Changes (belowAt d (Along t) l) 0 (length l) (c .place-of .result)) (s .pre .1) (c .place-of .ensures) in
+    found d l (s .pre .3) (s .pre .4) w (s .args .i) (c .place-of .result) m changes
 
 pub place-to-leave-spec : {M : Type 1} → statement M
 place-to-leave-spec =
     tie.close
-    (tie.spec mul-if2 shared-slice-read-if2 cast-if2 returns sub-if5 mul-if5 shared-slice-read-if5 cast-if5 sub-result returns-2 place-near-requires returns-3)
+    (tie.spec mul-if2 shared-slice-read-if2 cast-if2 returns sub-if5 mul-if5 shared-slice-read-if5 cast-if5 sub-result returns-2 place-of-requires returns-3)

@@ -27,10 +27,10 @@ record Passed (d : Drawing) (from to : ℕ) (old : List ℕ) (count : ℕ) (oldT
   within : Within (2048000 * i) tops
 
 abbrev Inv-loop : tie.InvT-loop
-Inv-loop s from to list₀ count guess tops₀ held₀ near₀ first₀ i₀ list tops held near first i = Passed (segments s) from to list₀ count tops₀ list tops held i
+Inv-loop s from to list₀ count guess tops₀ held₀ near₀ lowest₀ i₀ list tops held near lowest i = Passed (segments s) from to list₀ count tops₀ list tops held i
 
 abbrev μ-loop : tie.MeasureT-loop
-μ-loop s from to list₀ count guess tops₀ held₀ near₀ first₀ i₀ list tops held near first i = to - i
+μ-loop s from to list₀ count guess tops₀ held₀ near₀ lowest₀ i₀ list tops held near lowest i = to - i
 
 loop-holds : tie.Need-loop-holds Inv-loop μ-loop
 loop-holds c =
@@ -76,8 +76,8 @@ returns c =
       (λ w. absurd (clash (one .ensures .1 (can-start-next (q .loop .inv .since) (omega (arith, n .ensures .since)) (n .ensures .till) w (q .loop .inv .started .entered))) (not-true _ (c .before .if1 .taken)))),
     )
 
-first-place-requires : tie.Need-first-place-requires Inv-loop μ-loop
-first-place-requires c κs = search needs
+lowest-place-requires : tie.Need-lowest-place-requires Inv-loop μ-loop
+lowest-place-requires c κs = search needs
 
 loop-less : tie.Need-loop-less Inv-loop μ-loop
 loop-less c = let n = c .before .before .before .before .before .before .before .before .before .node-end in omega (arith, n .ensures .since, n .ensures .till, c .before .before .before .before .before .before .before .before .before .before .loop-test .taken)
@@ -129,7 +129,7 @@ start-all-spec =
     same-length
     same-length-2
     returns
-    first-place-requires
+    lowest-place-requires
     loop-less
     loop-again
     same-length-3

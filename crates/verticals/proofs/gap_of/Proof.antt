@@ -12,17 +12,17 @@ is-cut-requires c κs = search needs
 returns : tie.Need-returns
 returns c = (λ _. c .before .is-cut .ensures .0 (c .if2 .taken), λ f. refl)
 
-place-near-requires : tie.Need-place-near-requires
-place-near-requires c κs = let p = c .before .before .before .pre in (λ i m. record { inside = p .2 i m; proper = p .0 .proper i (p .2 i m) }, p .1 .near-b)
+place-of-requires : tie.Need-place-of-requires
+place-of-requires c κs = let p = c .before .before .before .pre in (λ i m. record { inside = p .2 i m; proper = p .0 .proper i (p .2 i m) }, p .1 .near-b)
 
 is-cut-requires-2 : tie.Need-is-cut-requires-2
-is-cut-requires-2 c κs = let p = c .before .before .before .before .pre in (p .0, p .1, p .2, c .place-near .ensures .till)
+is-cut-requires-2 c κs = let p = c .before .before .before .before .pre in (p .0, p .1, p .2, c .place-of .ensures .till)
 
 returns-2 : tie.Need-returns-2
 returns-2 c =
     let a = c .before .before .before .before .before .args in
-    let k = c .before .place-near in
+    let k = c .before .place-of in
     (c .is-cut2 .ensures .0, λ f. c .is-cut2 .ensures .1 (clear-cut (segments (a .s .now)) (a .v) (a .list .now) (k .result) (k .ensures) f))
 
 pub gap-of-spec : {M : Type 1} → statement M
-gap-of-spec = tie.close (tie.spec is-cut-requires returns place-near-requires is-cut-requires-2 returns-2)
+gap-of-spec = tie.close (tie.spec is-cut-requires returns place-of-requires is-cut-requires-2 returns-2)
