@@ -27,6 +27,7 @@ ghost use Rattle.ends.specs.Ends.{endPoint, endBefore};
 ghost use Rattle.ends.specs.Ordering.{ordering};
 ghost use Rattle.meetings.specs.Meetings.{NoneMeetWrongly};
 ghost use Rattle.neighbours.specs.Neighbours.{Ready, Known, Ordered, Distinct};
+ghost use Rattle.scan.specs.Scan.{Room};
 ghost use Rattle.count_up.specs.CountUp.{Within, Counted};
 ghost use Rattle.verticals.specs.Verticals.{Column};
 ghost use Rattle.starts.specs.Starts.{Splits};
@@ -49,7 +50,7 @@ fn event(
         × (from ≤ to)
         × (to ≤ length d)
         × (count ≤ from)
-        × (length d ≤ length (now list))
+        × Room (length d) (now list)
         × (length d ≤ length (now tops))
         × Known d l
         × Ordered d l
@@ -118,7 +119,7 @@ fn sweep(s: &[i32], flat: &[u32], list: &mut [u16], tops: &mut [i32]) -> bool
     requires { ⌜ (let d = segments (now s) in
         Ready d
         × (now flat ≡ ordering (endBefore d) (upFrom 0 (2 * length d)))
-        × (length d ≤ length (now list))
+        × Room (length d) (now list)
         × (length d ≤ length (now tops))
         × Within 0 (now tops)) ⌝ }
     ensures { λ r. ⌜ ((r ≡ true) ↔ NoneMeetWrongly (segments (now (s .entry)))) × (r ≡ true → Counted (segments (now (s .entry))) (now (tops .exit))) ⌝ }
@@ -161,9 +162,9 @@ pub fn is_clear(s: &[i32], flat: &[u32], tops: &mut [i32]) -> bool
     ensures { λ r. ⌜ ((r ≡ true) ↔ NoneMeetWrongly (segments (now (s .entry)))) × (r ≡ true → Counted (segments (now (s .entry))) (now (tops .exit))) ⌝ }
 {
     if segm::count(s) <= segm::SMALL {
-        let mut list = [0u16; segm::SMALL];
+        let mut list = [0u16; 144];
         return sweep(s, flat, &mut list, tops);
     }
-    let mut list = [0u16; 1024];
+    let mut list = [0u16; 1040];
     sweep(s, flat, &mut list, tops)
 }

@@ -9,15 +9,15 @@ use native.Mathlib.Decide.{decLt}
 use lib.ListN.{length, getD, take, drop}
 use lib.Seq.{length-take-le, getD-at}
 use Rattle.integers.proofs.Booleans.{clash}
-use Rattle.segm.specs.Lists.{_∈_, written}
+use Rattle.segm.specs.Lists.{_∈_}
 use Rattle.segm.specs.Segments.{Drawing, segmentAt}
-use Rattle.segm.proofs.Lists.{in-at, take-written}
+use Rattle.segm.proofs.Lists.{in-at}
 use Rattle.segm.proofs.Tallies.{cases, in-++, in-left, in-right}
 use Rattle.strip.specs.Strip.{isVertical, Next}
 use Rattle.neighbours.specs.Neighbours.{Ready, Known, Ordered, Distinct}
 use Rattle.neighbours.proofs.Chain.{chain-put, chain-take}
 use Rattle.scan.specs.Scan.{putAt, outAt, Listed}
-use Rattle.scan.proofs.Laws.{put-in, in-put, length-put, length-out, out-in, in-out, not-out, pairs-out}
+use Rattle.scan.proofs.Laws.{put-in, in-put, out-in, in-out, not-out, pairs-out}
 use Rattle.open_list.specs.OpenList.{FitsAt, ClosesAt, Left, Entered, Marked, Marks}
 
 -- what stands in the list is a place of the drawing with a proper segment
@@ -93,17 +93,6 @@ entered-more {d} {l″ = l″} from i to h t p q = record {
     go : (j : ℕ) → from ≤ j → j < to → isVertical (segmentAt d j) ≡ false → Dec (j < i) → j ∈ l″
     go j k k′ v (yes a) = q .kept j (p .came j k a v)
     go j k k′ v (no a) = q .came j (omega arith) k′ v
-
--- ---- where the list is the front of an array
-pub taken-out : (old list : List ℕ) (count k : ℕ) → k < count → count ≤ length old → list ≡ written (outAt k (take count old)) old → take (count - 1) list ≡ outAt k (take count old)
-taken-out old list count k h r e =
-    let long = length-take-le count old r in
-    ap (take (count - 1)) e ∙ take-written (outAt k (take count old)) old (count - 1) (omega (arith, long, length-out k (take count old) (omega (arith, long))))
-
-pub put-into : (old list : List ℕ) (count k i : ℕ) → count < length old → list ≡ written (putAt k i (take count old)) old → take (count + 1) list ≡ putAt k i (take count old)
-put-into old list count k i r e =
-    let long = length-take-le count old (omega arith) in
-    ap (take (count + 1)) e ∙ take-written (putAt k i (take count old)) old (count + 1) (omega (arith, long, length-put k i (take count old)))
 
 -- ---- places of the drawing
 -- i stands at place k then

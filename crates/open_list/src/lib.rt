@@ -15,7 +15,7 @@ ghost use Rattle.segm.specs.Segments.{segments, segmentAt};
 ghost use Rattle.meetings.specs.Meetings.{Proper};
 ghost use Rattle.strip.specs.Strip.{Next};
 ghost use Rattle.neighbours.specs.Neighbours.{Ready, Known, Ordered, Distinct};
-ghost use Rattle.scan.specs.Scan.{Listed};
+ghost use Rattle.scan.specs.Scan.{Room, Listed};
 ghost use Rattle.open_list.specs.OpenList.{StandsOver, StandsUnder, FitsAt, ClosesAt, Spanning, CanLeave, CanEnter, Left, Entered, Older, Marked, Marks};
 
 // How many segments are open, a place of the list, and whether all tests were passed so far. The place is where a segment left or entered: at one x ends and
@@ -128,7 +128,7 @@ fn leave_one(s: &[i32], e: u32, list: &mut [u16], count: usize, near: usize) -> 
     requires { ⌜ (let d = segments (now s) in let l = take count (now list) in
         Ready d
         × (e < 2 * length d)
-        × (count ≤ length (now list))
+        × Room count (now list)
         × Known d l
         × Ordered d l
         × Distinct l) ⌝ }
@@ -190,7 +190,7 @@ fn take_out(s: &[i32], t: Segment, i: usize, list: &mut [u16], count: usize, nea
         Ready d
         × (t ≡ segmentAt d i)
         × (i < length d)
-        × (count ≤ length (now list))
+        × Room count (now list)
         × Known d l
         × Ordered d l
         × Distinct l) ⌝ }
@@ -231,7 +231,7 @@ pub fn leave_all(s: &[i32], ends: &[u32], list: &mut [u16], count: usize, guess:
     requires { ⌜ (let d = segments (now s) in let l = take count (now list) in
         Ready d
         × ((e : ℕ) → e ∈ now ends → e < 2 * length d)
-        × (count ≤ length (now list))
+        × Room count (now list)
         × Known d l
         × Ordered d l
         × Distinct l) ⌝ }
@@ -306,7 +306,7 @@ fn enter_one(s: &[i32], i: usize, list: &mut [u16], count: usize, near: usize) -
     requires { ⌜ (let d = segments (now s) in let l = take count (now list) in
         Ready d
         × (i < length d)
-        × (count < length (now list))
+        × Room count (now list)
         × Known d l
         × Ordered d l) ⌝ }
     ensures { λ r. ⌜ (let d = segments (now (s .entry)) in let l = take count (now (list .entry)) in let l′ = take (r .count) (now (list .exit)) in
@@ -350,7 +350,7 @@ pub fn enter_all(
         × (from ≤ to)
         × (to ≤ length d)
         × (count ≤ from)
-        × (length d ≤ length (now list))
+        × Room (length d) (now list)
         × Known d l
         × Ordered d l) ⌝ }
     ensures { λ r. ⌜ (let d = segments (now (s .entry)) in let l = take count (now (list .entry)) in let l′ = take (r .count) (now (list .exit)) in

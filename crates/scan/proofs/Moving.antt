@@ -1,14 +1,14 @@
--- The list in place: those from a place on move up one by one, from the back, or down.
+-- The list in place: those from a place on move up, from the back, or down; and some that lie past its end move with them.
 use mathlib.Core.Path.{_≡_, refl, sym, _∙_, ap, ap₂}
 use mathlib.Core.List.{List, [], _∷_, _++_, append-assoc, append-nil}
 use Prim.Native.Nat.{ℕ, zero, suc, _+_, _-_, _<_, _≤_}
 use native.Mathlib.Omega.{arith}
-use native.Mathlib.Numerals.{unary-clauses, add-one}
+use native.Mathlib.Numerals.{add-one}
 use lib.ListN.{length, getD, take, drop, set, take-append-drop, List·getD-append}
 use lib.Seq.{take-suc, take-all, take-take, take-append-le, drop-append-le, drop-length, drop-cons, set-at, set-append-left, getD-take, getD-drop, length-take-le, split-at}
 use Rattle.segm.specs.Lists.{written}
 use Rattle.segm.proofs.Lists.{written-past, written-more}
-use Rattle.scan.specs.Scan.{putAt, outAt}
+use Rattle.scan.specs.Scan.{putAt, outAt, movedUp, movedDown}
 use Rattle.scan.proofs.Laws.{length-put, length-out}
 
 -- ---- moving up: the first j as they were, the rest one place further, and any entry between them
@@ -45,10 +45,13 @@ module _ (l old : List ℕ) where
       ∙ put-over (suc j) z (getD l j 0) h
       ∙ ap (λ (a : List ℕ). written a old) (put-twice j h)
 
-  -- one moves up
-  pub move-up : (list : List ℕ) (j z : ℕ) → 0 < j → j ≤ length l → list ≡ written (putAt j z l) old → set list j (getD list (j - 1) 0) ≡ written (putAt (j - 1) (getD l (j - 1) 0) l) old
-  move-up list zero z p h e = absurd (omega arith)
-  move-up list (suc j) z p h e = simp unary-clauses (moves list j z h e)
+  -- so many move up, from the last
+  pub move-up : (n j z : ℕ) (list : List ℕ) → j + n ≤ length l → list ≡ written (putAt (j + n) z l) old → (y : ℕ) × (movedUp n j list ≡ written (putAt j y l) old)
+  unfolding movedUp
+  move-up zero j z list h e = let same : j + 0 ≡ j = omega arith in (z, e ∙ ap (λ k. written (putAt k z l) old) same)
+  move-up (suc n) j z list h e =
+      let next : j + suc n ≡ suc (j + n) = omega arith in
+      move-up n j (getD l (j + n) 0) (set list (suc (j + n)) (getD list (j + n) 0)) (omega arith) (moves list (j + n) z (omega arith) (e ∙ ap (λ k. written (putAt k z l) old) next))
 
 -- nothing has moved: between the first n and the rest is the entry at n
 pub unmoved : (old : List ℕ) (n : ℕ) → n < length old → old ≡ written (putAt n (getD old n 0) (take n old)) old
@@ -84,28 +87,96 @@ unwritten answer old k h =
 length-moved : (old : List ℕ) (k j : ℕ) → k < j → j ≤ length old → j - 1 ≡ length (outAt k (take j old))
 length-moved old k j h l = omega (arith, length-out k (take j old) (omega (arith, length-take-le j old l)), length-take-le j old l)
 
-pub none-moved : (old : List ℕ) (k : ℕ) → k < length old → old ≡ written (outAt k (take (k + 1) old)) old
+pub none-moved : (old : List ℕ) (k : ℕ) → k < length old → old ≡ written (outAt k (take (suc k) old)) old
 unfolding outAt
 none-moved old k h =
-    let long : length (take (k + 1) old) ≡ k + 1 = length-take-le (k + 1) old (omega arith) in
-    let past : suc k ≡ length (take (k + 1) old) = omega (arith, long) in
-    let none : drop (suc k) (take (k + 1) old) ≡ [] = ap (λ n. drop n (take (k + 1) old)) past ∙ drop-length (take (k + 1) old) in
-    sym (ap₂ (λ (a b : List ℕ). written (a ++ b) old) (take-take k (k + 1) old (omega arith)) none ∙ ap (λ (a : List ℕ). written a old) (append-nil (take k old)) ∙ written-own old k (omega arith))
+    let past : suc k ≡ length (take (suc k) old) = sym (length-take-le (suc k) old (omega arith)) in
+    let none : drop (suc k) (take (suc k) old) ≡ [] = ap (λ n. drop n (take (suc k) old)) past ∙ drop-length (take (suc k) old) in
+    sym (ap₂ (λ (a b : List ℕ). written (a ++ b) old) (take-take k (suc k) old (omega arith)) none ∙ ap (λ (a : List ℕ). written a old) (append-nil (take k old)) ∙ written-own old k (omega arith))
 
-out-more : (old : List ℕ) (k j : ℕ) → k < j → j < length old → outAt k (take j old) ++ (getD old j 0 ∷ []) ≡ outAt k (take (j + 1) old)
+out-more : (old : List ℕ) (k j : ℕ) → k < j → j < length old → outAt k (take j old) ++ (getD old j 0 ∷ []) ≡ outAt k (take (suc j) old)
 unfolding outAt
 out-more old k j h l =
     let long : length (take j old) ≡ j = length-take-le j old (omega arith) in
     let one = getD old j 0 ∷ [] in
     append-assoc (take k (take j old)) (drop (suc k) (take j old)) one
     ∙ sym (ap₂ (λ (a b : List ℕ). a ++ b) (take-append-le k (take j old) one (omega (arith, long))) (drop-append-le (suc k) (take j old) one (omega (arith, long))))
-    ∙ ap (λ (a : List ℕ). take k a ++ drop (suc k) a) (sym (ap (λ n. take n old) (add-one j) ∙ take-suc old j 0 l))
+    ∙ ap (λ (a : List ℕ). take k a ++ drop (suc k) a) (sym (take-suc old j 0 l))
 
--- one moves down
-pub move-down : (old list : List ℕ) (k j : ℕ) → k < j → j < length old → list ≡ written (outAt k (take j old)) old → set list (j - 1) (getD list j 0) ≡ written (outAt k (take (j + 1) old)) old
-move-down old list k j h l e =
-    let many = length-moved old k j h (omega arith) in
-    let entry : getD list j 0 ≡ getD old j 0 = ap (λ (a : List ℕ). getD a j 0) e ∙ unwritten (outAt k (take j old)) old j (omega (arith, many)) in
-    ap₂ (λ (a : List ℕ) (y : ℕ). set a (j - 1) y) e entry
-    ∙ written-more (outAt k (take j old)) old (j - 1) (getD old j 0) many (omega arith)
-    ∙ ap (λ (a : List ℕ). written a old) (out-more old k j h l)
+moves-down : (old list : List ℕ) (k j : ℕ) → k ≤ j → suc j < length old → list ≡ written (outAt k (take (suc j) old)) old
+    → set list j (getD list (suc j) 0) ≡ written (outAt k (take (suc (suc j)) old)) old
+moves-down old list k j h l e =
+    let many : j ≡ length (outAt k (take (suc j) old)) = omega (arith, length-moved old k (suc j) (omega arith) (omega arith)) in
+    let entry : getD list (suc j) 0 ≡ getD old (suc j) 0 = ap (λ (a : List ℕ). getD a (suc j) 0) e ∙ unwritten (outAt k (take (suc j) old)) old (suc j) (omega (arith, many)) in
+    ap₂ (λ (a : List ℕ) (y : ℕ). set a j y) e entry
+    ∙ written-more (outAt k (take (suc j) old)) old j (getD old (suc j) 0) many (omega arith)
+    ∙ ap (λ (a : List ℕ). written a old) (out-more old k (suc j) (omega arith) l)
+
+-- so many move down, from the first
+pub move-down : (old : List ℕ) (k n j : ℕ) (list : List ℕ) → k ≤ j → j + n < length old → list ≡ written (outAt k (take (suc j) old)) old
+    → movedDown n j list ≡ written (outAt k (take (suc (j + n)) old)) old
+unfolding movedDown
+move-down old k zero j list h l e = let same : j ≡ j + 0 = omega arith in e ∙ ap (λ m. written (outAt k (take (suc m) old)) old) same
+move-down old k (suc n) j list h l e =
+    let next : suc j + n ≡ j + suc n = omega arith in
+    move-down old k n (suc j) (set list j (getD list (suc j) 0)) (omega arith) (omega arith) (moves-down old list k j h (omega arith) e)
+    ∙ ap (λ m. written (outAt k (take (suc m) old)) old) next
+
+-- ---- one move, and the rest of them; and no move
+pub move-up-next : (n j : ℕ) (l : List ℕ) → 0 < n → movedUp n j l ≡ movedUp (n - 1) j (set l (j + n) (getD l (j + (n - 1)) 0))
+unfolding movedUp
+move-up-next zero j l h = absurd (omega arith)
+move-up-next (suc n) j l h =
+    let last : n ≡ suc n - 1 = omega arith in
+    let there : suc (j + n) ≡ j + suc n = omega arith in
+    ap₂ (λ a b. movedUp a j (set l b (getD l (j + a) 0))) last there
+
+pub move-down-next : (n m i j : ℕ) (l : List ℕ) → n ≡ suc m → j ≡ suc i → movedDown n i l ≡ movedDown m j (set l i (getD l j 0))
+unfolding movedDown
+move-down-next n m i j l e f = ap (λ a. movedDown a i l) e ∙ ap (λ a. movedDown m a (set l i (getD l a 0))) (sym f)
+
+pub move-up-none : (n j : ℕ) (l : List ℕ) → n ≡ 0 → movedUp n j l ≡ l
+unfolding movedUp
+move-up-none n j l e = ap (λ m. movedUp m j l) e
+
+pub move-down-none : (n j : ℕ) (l : List ℕ) → n ≡ 0 → movedDown n j l ≡ l
+unfolding movedDown
+move-down-none n j l e = ap (λ m. movedDown m j l) e
+
+-- ---- what is moved past the list's end is no part of it
+take-put : (k c i : ℕ) (l : List ℕ) → k ≤ c → take (suc c) (putAt k i l) ≡ putAt k i (take c l)
+unfolding putAt
+take-put zero c i l h = refl
+take-put (suc k) zero i l h = absurd (omega arith)
+take-put (suc k) (suc c) i [] h = refl
+take-put (suc k) (suc c) i (x ∷ l) h = ap (x ∷_) (take-put k c i l (omega arith))
+
+pub put-within : (old : List ℕ) (k count top i : ℕ) → k ≤ count → count ≤ top → top ≤ length old
+    → take (count + 1) (written (putAt k i (take top old)) old) ≡ putAt k i (take count old)
+unfolding written
+put-within old k count top i h t l =
+    let long : length (take top old) ≡ top = length-take-le top old l in
+    take-append-le (count + 1) (putAt k i (take top old)) _ (omega (arith, length-put k i (take top old), long))
+    ∙ ap (λ n. take n (putAt k i (take top old))) (add-one count)
+    ∙ take-put k count i (take top old) h
+    ∙ ap (putAt k i) (take-take count top old t)
+
+take-out : (k c : ℕ) (l : List ℕ) → k ≤ c → take c (outAt k l) ≡ outAt k (take (suc c) l)
+unfolding outAt
+take-out zero zero [] h = refl
+take-out zero (suc c) [] h = refl
+take-out zero c (x ∷ l) h = refl
+take-out (suc k) zero l h = absurd (omega arith)
+take-out (suc k) (suc c) [] h = refl
+take-out (suc k) (suc c) (x ∷ l) h = ap (x ∷_) (take-out k c l (omega arith))
+
+pub out-within : (old : List ℕ) (k count top : ℕ) → k < count → count ≤ top → top ≤ length old
+    → take (count - 1) (written (outAt k (take top old)) old) ≡ outAt k (take count old)
+unfolding written
+out-within old k count top h t l =
+    let long : length (take top old) ≡ top = length-take-le top old l in
+    let whole : suc (count - 1) ≡ count = omega arith in
+    take-append-le (count - 1) (outAt k (take top old)) _ (omega (arith, length-out k (take top old) (omega (arith, long)), long))
+    ∙ take-out k (count - 1) (take top old) (omega arith)
+    ∙ ap (λ n. outAt k (take n (take top old))) whole
+    ∙ ap (outAt k) (take-take count top old t)

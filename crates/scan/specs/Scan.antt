@@ -3,8 +3,8 @@
 use mathlib.Core.List.{List, _∷_, _++_}
 use mathlib.Core.Path.{_≡_}
 use mathlib.Core.Bool.{Bool, true, false}
-use Prim.Native.Nat.{ℕ, suc, _-_, _≤_, _<_}
-use lib.ListN.{length, getD, take, drop}
+use Prim.Native.Nat.{ℕ, zero, suc, _+_, _-_, _≤_, _<_}
+use lib.ListN.{length, getD, take, drop, set}
 use Rattle.geom.specs.Points.{inRange}
 use Rattle.segm.specs.Lists.{_∈_}
 use Rattle.segm.specs.Segments.{Drawing, segmentAt}
@@ -36,6 +36,20 @@ putAt k i l = take k l ++ (i ∷ drop k l)
 -- the one at place k is gone
 unfoldable pub outAt : ℕ → List ℕ → List ℕ
 outAt k l = take k l ++ drop (suc k) l
+
+-- the n entries from place j on stand one place further, the last of them first
+unfoldable pub movedUp : ℕ → ℕ → List ℕ → List ℕ
+movedUp zero j l = l
+movedUp (suc n) j l = movedUp n j (set l (suc (j + n)) (getD l (j + n) 0))
+
+-- the n entries after place j stand one place before, the first of them first
+unfoldable pub movedDown : ℕ → ℕ → List ℕ → List ℕ
+movedDown zero j l = l
+movedDown (suc n) j l = movedDown n (suc j) (set l j (getD l (suc j) 0))
+
+-- memory for a list of so many, and for a block more that moves with it
+abbrev pub Room : ℕ → List ℕ → Type 0
+Room count list = count + 16 ≤ length list
 
 -- i is a place of the drawing, and its segment is proper
 pub record Listed (d : Drawing) (i : ℕ) : Type 0 where

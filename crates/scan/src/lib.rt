@@ -2,13 +2,12 @@
 use geom::Point;
 use segm::Segment;
 ghost use mathlib.Core.Path.{_≡_};
-ghost use Prim.Native.Nat.{_≤_, _<_};
+ghost use Prim.Native.Nat.{_+_, _-_, _≤_, _<_};
 ghost use lib.ListN.{length, take};
-ghost use Rattle.segm.specs.Lists.{written};
 ghost use Rattle.segm.specs.Segments.{segments};
 ghost use Rattle.meetings.specs.Meetings.{Proper};
 ghost use Rattle.strip.specs.Strip.{isVertical, underBySide};
-ghost use Rattle.scan.specs.Scan.{isBelow, belowAt, putAt, outAt, Changes, Listed, AllListed, SoughtInRange};
+ghost use Rattle.scan.specs.Scan.{isBelow, belowAt, putAt, outAt, movedUp, movedDown, Room, Changes, Listed, AllListed, SoughtInRange};
 
 // Whether t is lower than u, where both are: the later start is seen from the other segment.
 pub fn is_lower(t: Segment, u: Segment) -> bool
@@ -73,28 +72,55 @@ pub fn place_of(s: &[i32], list: &[u16], sought: Sought) -> usize
     low
 }
 
+// So many entries move at a time, whatever lies past the list: there is no rest to move one by one, and as many rounds as the last time, mostly.
+const BLOCK: usize = 16;
+
+// A block of entries from place j on moves up by one place.
+fn move_up(list: &mut [u16], j: usize)
+    requires { ⌜ j + 16 < length (now list) ⌝ }
+    ensures { λ _. ⌜ now (list .exit) ≡ movedUp 16 j (now (list .entry)) ⌝ }
+{
+    let mut t = BLOCK;
+    while 0 < t {
+        list[j + t] = list[j + (t - 1)];
+        t -= 1;
+    }
+}
+
+// A block of entries after place j moves down by one place.
+fn move_down(list: &mut [u16], j: usize)
+    requires { ⌜ j + 16 < length (now list) ⌝ }
+    ensures { λ _. ⌜ now (list .exit) ≡ movedDown 16 j (now (list .entry)) ⌝ }
+{
+    let mut t: usize = 0;
+    while t < BLOCK {
+        list[j + t] = list[j + (t + 1)];
+        t += 1;
+    }
+}
+
 // i goes to place k of the list, and those from there on move up.
 pub fn insert(list: &mut [u16], count: usize, k: usize, i: u16)
-    requires { ⌜ (k ≤ count) × (count < length (now list)) ⌝ }
-    ensures { λ _. ⌜ now (list .exit) ≡ written (putAt k i (take count (now (list .entry)))) (now (list .entry)) ⌝ }
+    requires { ⌜ (k ≤ count) × Room count (now list) ⌝ }
+    ensures { λ _. ⌜ take (count + 1) (now (list .exit)) ≡ putAt k i (take count (now (list .entry))) ⌝ }
 {
-    let mut j = count;
+    let mut j = k + (count - k + (BLOCK - 1)) / BLOCK * BLOCK;
     while k < j {
-        list[j] = list[j - 1];
-        j -= 1;
+        j -= BLOCK;
+        move_up(list, j);
     }
     list[k] = i;
 }
 
 // The one at place k leaves the list, and those after it move down.
 pub fn remove(list: &mut [u16], count: usize, k: usize)
-    requires { ⌜ (k < count) × (count ≤ length (now list)) ⌝ }
-    ensures { λ _. ⌜ now (list .exit) ≡ written (outAt k (take count (now (list .entry)))) (now (list .entry)) ⌝ }
+    requires { ⌜ (k < count) × Room count (now list) ⌝ }
+    ensures { λ _. ⌜ take (count - 1) (now (list .exit)) ≡ outAt k (take count (now (list .entry))) ⌝ }
 {
     let last = count - 1;
     let mut j = k;
     while j < last {
-        list[j] = list[j + 1];
-        j += 1;
+        move_down(list, j);
+        j += BLOCK;
     }
 }

@@ -7,6 +7,7 @@ ghost use Prim.Native.Nat.{_*_, _≤_, _<_};
 ghost use lib.ListN.{length, take};
 ghost use Rattle.segm.specs.Segments.{segments};
 ghost use Rattle.neighbours.specs.Neighbours.{Ready, Known, Ordered};
+ghost use Rattle.scan.specs.Scan.{Room};
 ghost use Rattle.count_up.specs.CountUp.{Within};
 ghost use Rattle.starts.specs.Starts.{Splits, NodeEnd, Started, CanStart};
 
@@ -50,7 +51,7 @@ fn start_node(
         Ready d
         × (to ≤ length d)
         × (count ≤ from)
-        × (length d ≤ length (now list))
+        × Room (length d) (now list)
         × (length d ≤ length (now tops))
         × Known d l
         × Ordered d l
@@ -92,7 +93,7 @@ pub fn start_all(
         × (from ≤ to)
         × (to ≤ length d)
         × (count ≤ from)
-        × (length d ≤ length (now list))
+        × Room (length d) (now list)
         × (length d ≤ length (now tops))
         × Known d l
         × Ordered d l

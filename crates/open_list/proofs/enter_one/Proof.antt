@@ -14,7 +14,7 @@ use Rattle.segm.specs.Segments.{segments, segmentAt}
 use Rattle.strip.specs.Strip.{isVertical}
 use Rattle.scan.proofs.Laws.{length-put}
 use Rattle.open_list.specs.OpenList.{FitsAt, Entered}
-use Rattle.open_list.proofs.Laws.{none-enters, one-enters, put-into, put-at}
+use Rattle.open_list.proofs.Laws.{none-enters, one-enters, put-at}
 use Rattle.open_list.proofs.Spanning.{spanning-with}
 use Rattle.open_list.proofs.enter_one.Statement.{statement}
 use Rattle.open_list.proofs.enter_one.Tie as tie
@@ -94,7 +94,7 @@ returns-3 c =
     let d = segments (s .args .s .now) in
     let old = s .args .list .now in
     let l = take (s .args .count) old in
-    let put = put-into old (c .before .before .insert .last .0) (s .args .count) (k e) (s .args .i) (s .pre .2) (c .before .before .insert .ensures) in
+    let put = c .before .before .insert .ensures in
     let slanted : isVertical (segmentAt d (s .args .i)) ≡ false = ap isVertical (sym (c .before .before .before .before .before .before .before .before .before .before .segment-in .ensures)) ∙ sym (c .before .before .before .before .before .before .before .before .before .is-vertical .ensures) ∙ c .before .before .before .before .before .before .before .before .if1 .left in (
       (λ t. (
         omega arith,

@@ -10,7 +10,7 @@ use borrow.Author.Tests.{not-false, not-true}
 use Rattle.integers.proofs.Booleans.{clash}
 use Rattle.segm.specs.Segments.{segments}
 use Rattle.open_list.specs.OpenList.{Left}
-use Rattle.open_list.proofs.Laws.{one-leaves, taken-out}
+use Rattle.open_list.proofs.Laws.{one-leaves}
 use Rattle.open_list.proofs.Spanning.{closes}
 use Rattle.open_list.proofs.take_out.Statement.{statement}
 use Rattle.open_list.proofs.take_out.Tie as tie
@@ -19,7 +19,7 @@ slice-reshare-prefix-place-to-leave : tie.Need-slice-reshare-prefix-place-to-lea
 slice-reshare-prefix-place-to-leave c = search needs
 
 slice-aggregate-place-to-leave : tie.Need-slice-aggregate-place-to-leave
-slice-aggregate-place-to-leave c = let s = c .before .before in sym (length-take-le (s .args .count) (s .args .list .now) (s .pre .3))
+slice-aggregate-place-to-leave c = let s = c .before .before in sym (length-take-le (s .args .count) (s .args .list .now) (omega (arith, s .pre .3)))
 
 place-to-leave-requires : tie.Need-place-to-leave-requires
 place-to-leave-requires c κs =
@@ -35,7 +35,7 @@ same-length c = search needs
 returns : tie.Need-returns
 returns c =
     let s = c .before .before .before .before .before in
-    (λ t. absurd (clash t (c .unclear .ensures)), λ x w m. absurd (omega (arith, c .before .before .place-to-leave .ensures x w m .0, length-take-le (s .args .count) (s .args .list .now) (s .pre .3), c .before .if1 .taken)))
+    (λ t. absurd (clash t (c .unclear .ensures)), λ x w m. absurd (omega (arith, c .before .before .place-to-leave .ensures x w m .0, length-take-le (s .args .count) (s .args .list .now) (omega (arith, s .pre .3)), c .before .if1 .taken)))
 
 mul-if2 : tie.Need-mul-if2
 mul-if2 c = search needs
@@ -56,7 +56,7 @@ returns-2 : tie.Need-returns-2
 returns-2 c =
     let s = c .before .before .before .before .before .before .before in
     let place = c .before .before .before .before .place-to-leave in
-    let far = length-take-le (s .args .count) (s .args .list .now) (s .pre .3) in (
+    let far = length-take-le (s .args .count) (s .args .list .now) (omega (arith, s .pre .3)) in (
       (λ t. absurd (clash t (c .unclear2 .ensures))),
       (λ x w m. let p = place .ensures x w m in absurd (omega (arith, p .0, p .1, getD-take (s .args .count) (s .args .list .now) (place .result) 0 (omega (arith, p .0, far)), c .before .if2 .taken))),
     )
@@ -65,12 +65,12 @@ slice-reshare-prefix-closes-at : tie.Need-slice-reshare-prefix-closes-at
 slice-reshare-prefix-closes-at c = search needs
 
 slice-aggregate-closes-at : tie.Need-slice-aggregate-closes-at
-slice-aggregate-closes-at c = let s = c .before .before .before .before .before .before .before in sym (length-take-le (s .args .count) (s .args .list .now) (s .pre .3))
+slice-aggregate-closes-at c = let s = c .before .before .before .before .before .before .before in sym (length-take-le (s .args .count) (s .args .list .now) (omega (arith, s .pre .3)))
 
 closes-at-requires : tie.Need-closes-at-requires
 closes-at-requires c κs =
     let s = c .before .before .before .before .before .before .before in
-    (s .pre .0, s .pre .4, omega (arith, length-take-le (s .args .count) (s .args .list .now) (s .pre .3), c .before .before .before .if1 .left))
+    (s .pre .0, s .pre .4, omega (arith, length-take-le (s .args .count) (s .args .list .now) (omega (arith, s .pre .3)), c .before .before .before .if1 .left))
 
 unclear-requires-3 : tie.Need-unclear-requires-3
 unclear-requires-3 c κs = search needs
@@ -106,10 +106,10 @@ returns-4 c =
     let k = place .place-to-leave .result in
     let h : k < count = omega (arith, c .before .before .before .before .before .before .before .before .before .if1 .left) in
     let e : getD (take count old) k 0 ≡ s .args .i = getD-take count old k 0 h ∙ omega (arith, found .if2 .left) in
-    let long = length-take-le count old (s .pre .3) in (
+    let long = length-take-le count old (omega (arith, s .pre .3)) in (
       (λ t. (
         omega arith,
-        subst (Left (segments (s .args .s .now)) ((length (segments (s .args .s .now)) + s .args .i) ∷ []) (take count old)) (sym (taken-out old (c .before .before .remove .last .0) count k h (s .pre .3) (c .before .before .remove .ensures)))
+        subst (Left (segments (s .args .s .now)) ((length (segments (s .args .s .now)) + s .args .i) ∷ []) (take count old)) (sym (c .before .before .remove .ensures))
             (one-leaves k (s .args .i) (omega (arith, long)) e (s .pre .5) (s .pre .6) (closed .closes-at .ensures .0 (not-false _ (c .before .before .before .before .if3 .left)))),
       )),
       (λ x w m. refl),

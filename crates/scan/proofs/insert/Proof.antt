@@ -1,90 +1,119 @@
--- From place j on the entries have moved up; between them and the first j is one that is written over next. Assumes nothing.
+-- From place j on the entries have moved up, in whole blocks; between them and the first j is one that is written over next. Assumes nothing.
 use borrow.Author.Needs.{needs}
-use mathlib.Core.Path.{_≡_, ap, _∙_}
+use mathlib.Core.Path.{_≡_, refl, sym, ap, _∙_}
 use mathlib.Core.List.{List}
 use native.Mathlib.Omega.{arith}
-use Prim.Native.Nat.{ℕ, _-_, _≤_}
+use Prim.Native.Nat.{ℕ, _+_, _-_, _*_, _/_, _≤_, _<_}
 use lib.ListN.{length, getD, take, set, length-set}
 use lib.Seq.{length-take-le}
 use Rattle.segm.specs.Lists.{written}
 use Rattle.scan.specs.Scan.{putAt}
-use Rattle.scan.proofs.Moving.{put-over, move-up, unmoved}
+use Rattle.scan.proofs.Moving.{put-over, move-up, unmoved, put-within}
 use Rattle.scan.proofs.insert.Statement.{statement}
 use Rattle.scan.proofs.insert.Tie as tie
 
-record Moved (old : List ℕ) (count k : ℕ) (list : List ℕ) (j : ℕ) : Type 0 where
-  from : k ≤ j
-  till : j ≤ count
+-- so many blocks of the entries up to `top` are still to move
+record Moved (old : List ℕ) (count k top : ℕ) (list : List ℕ) (j : ℕ) : Type 0 where
+  blocks : ℕ
+  at : j ≡ k + 16 * blocks
+  till : j ≤ top
+  reach : count ≤ top
+  inside : top < length old
   room : length list ≡ length old
   between : ℕ
-  is : list ≡ written (putAt j between (take count old)) old
+  is : list ≡ written (putAt j between (take top old)) old
 
 abbrev Inv-loop : tie.InvT-loop
-Inv-loop list₀ count k i j₀ list j = Moved list₀ count k list j
+Inv-loop list₀ count k i j₀ list j = Moved list₀ count k j₀ list j
 
 abbrev μ-loop : tie.MeasureT-loop
 μ-loop list₀ count k i j₀ list j = j
 
+sub-j : tie.Need-sub-j Inv-loop μ-loop
+sub-j c = search needs
+
+sub-j-2 : tie.Need-sub-j-2 Inv-loop μ-loop
+sub-j-2 c = search needs
+
+add-j : tie.Need-add-j Inv-loop μ-loop
+add-j c = search needs
+
+mul-j : tie.Need-mul-j Inv-loop μ-loop
+mul-j c = search needs
+
+add-j-2 : tie.Need-add-j-2 Inv-loop μ-loop
+add-j-2 c = search needs
+
 loop-holds : tie.Need-loop-holds Inv-loop μ-loop
 loop-holds c =
-    let old = c .args .list .now in
-    record { from = c .pre .0; till = omega arith; room = omega arith; between = getD old (c .args .count) 0; is = unmoved old (c .args .count) (c .pre .1) }
+    let s = c .before in
+    let old = s .args .list .now in
+    let many = (s .args .count - s .args .k + 15) / 16 in
+    let top = s .args .k + many * 16 in
+    record {
+      blocks = many;
+      at = omega arith;
+      till = omega arith;
+      reach = omega (arith, s .pre .0);
+      inside = omega (arith, s .pre .0, s .pre .1);
+      room = refl;
+      between = getD old top 0;
+      is = unmoved old top (omega (arith, s .pre .0, s .pre .1));
+    }
 
-sub-list : tie.Need-sub-list Inv-loop μ-loop
-sub-list c = search needs
+sub-j-3 : tie.Need-sub-j-3 Inv-loop μ-loop
+sub-j-3 c = omega (arith, c .before .loop .inv .at, c .loop-test .taken)
+
+move-up-requires : tie.Need-move-up-requires Inv-loop μ-loop
+move-up-requires c κs = let i = c .before .before .loop .inv in omega (arith, i .at, i .till, i .inside, i .room, c .before .loop-test .taken)
+
+loop-less : tie.Need-loop-less Inv-loop μ-loop
+loop-less c = let o = c .before .before .before .before in omega (arith, o .before .loop .inv .at, o .loop-test .taken)
+
+loop-again : tie.Need-loop-again Inv-loop μ-loop
+loop-again c =
+    let o = c .before .before .before .before in
+    let l = o .before .loop in
+    let i = l .inv in
+    let s = o .before .before .before in
+    let old = s .args .list .now in
+    let top = s .args .k + (s .args .count - s .args .k + 15) / 16 * 16 in
+    let long : length (take top old) ≡ top = length-take-le top old (omega (arith, i .inside)) in
+    let back : l .j - 16 + 16 ≡ l .j = omega (arith, i .at, o .loop-test .taken) in
+    let moved = move-up (take top old) old 16 (l .j - 16) (i .between) (l .list) (omega (arith, back, long, i .till)) (i .is ∙ ap (λ n. written (putAt n (i .between) (take top old)) old) (sym back)) in
+    record {
+      blocks = i .blocks - 1;
+      at = omega (arith, i .at, o .loop-test .taken);
+      till = omega (arith, i .till);
+      reach = i .reach;
+      inside = i .inside;
+      room = omega (arith, c .before .before .move-up .kept .0, i .room);
+      between = moved .0;
+      is = c .before .before .move-up .ensures ∙ moved .1;
+    }
 
 mul-list : tie.Need-mul-list Inv-loop μ-loop
 mul-list c = search needs
 
-slice-read-list : tie.Need-slice-read-list Inv-loop μ-loop
-slice-read-list c = search needs
-
-mul-list-2 : tie.Need-mul-list-2 Inv-loop μ-loop
-mul-list-2 c = search needs
-
 slice-write-list : tie.Need-slice-write-list Inv-loop μ-loop
-slice-write-list c = search needs
-
-sub-j : tie.Need-sub-j Inv-loop μ-loop
-sub-j c = search needs
-
-loop-less : tie.Need-loop-less Inv-loop μ-loop
-loop-less c = search needs
-
-loop-again : tie.Need-loop-again Inv-loop μ-loop
-loop-again c =
-    let l = c .before .before .loop in
-    let s = c .before .before .before in
-    let old = s .args .list .now in
-    let n = s .args .count in
-    let long = length-take-le n old (omega arith) in
-    record {
-      from = omega arith;
-      till = omega arith;
-      room = simp length-set (l .inv .room);
-      between = getD (take n old) (l .j - 1) 0;
-      is = move-up (take n old) old (l .list) (l .j) (l .inv .between) (omega arith) (omega (arith, long)) (l .inv .is);
-    }
-
-mul-list-3 : tie.Need-mul-list-3 Inv-loop μ-loop
-mul-list-3 c = search needs
-
-slice-write-list-2 : tie.Need-slice-write-list-2 Inv-loop μ-loop
-slice-write-list-2 c = search needs
+slice-write-list c = let i = c .before .loop .inv in omega (arith, i .at, i .till, i .inside, i .room)
 
 same-length : tie.Need-same-length Inv-loop μ-loop
-same-length c = search needs
+same-length c = simp length-set (c .before .loop .inv .room)
 
 returns : tie.Need-returns Inv-loop μ-loop
 returns c =
     let l = c .before .loop in
-    let s = c .before .before in
+    let i = l .inv in
+    let s = c .before .before .before in
     let old = s .args .list .now in
-    let n = s .args .count in
-    let long = length-take-le n old (omega arith) in
-    let there : l .j ≡ s .args .k = omega arith in
-    ap (λ (a : List ℕ). set a (s .args .k) (s .args .i)) (l .inv .is ∙ ap (λ m. written (putAt m (l .inv .between) (take n old)) old) there)
-    ∙ put-over (take n old) old (s .args .k) (l .inv .between) (s .args .i) (omega (arith, long))
+    let k = s .args .k in
+    let top = k + (s .args .count - k + 15) / 16 * 16 in
+    let long : length (take top old) ≡ top = length-take-le top old (omega (arith, i .inside)) in
+    let there : l .j ≡ k = omega (arith, i .at, c .loop-test .left) in
+    ap (λ (a : List ℕ). take (s .args .count + 1) (set a k (s .args .i))) (i .is ∙ ap (λ m. written (putAt m (i .between) (take top old)) old) there)
+    ∙ ap (take (s .args .count + 1)) (put-over (take top old) old k (i .between) (s .args .i) (omega (arith, long)))
+    ∙ put-within old k (s .args .count) top (s .args .i) (s .pre .0) (i .reach) (omega (arith, i .inside))
 
 pub insert-spec : {M : Type 1} → statement M
 insert-spec =
@@ -92,16 +121,17 @@ insert-spec =
     (tie.spec
     Inv-loop
     μ-loop
-    loop-holds
-    sub-list
-    mul-list
-    slice-read-list
-    mul-list-2
-    slice-write-list
     sub-j
+    sub-j-2
+    add-j
+    mul-j
+    add-j-2
+    loop-holds
+    sub-j-3
+    move-up-requires
     loop-less
     loop-again
-    mul-list-3
-    slice-write-list-2
+    mul-list
+    slice-write-list
     same-length
     returns)

@@ -1,21 +1,21 @@
--- Up to place j the entries have moved down, and from j on they are as they were. Assumes nothing.
+-- Up to place j the entries have moved down, in whole blocks, and from j on they are as they were. Assumes nothing.
 use borrow.Author.Needs.{needs}
-use mathlib.Core.Path.{_≡_, ap, subst, _∙_}
+use mathlib.Core.Path.{_≡_, refl, ap, _∙_}
 use mathlib.Core.List.{List}
 use native.Mathlib.Omega.{arith}
-use Prim.Native.Nat.{ℕ, _+_, _-_, _≤_, _<_}
-use lib.ListN.{length, getD, take, set, length-set}
+use Prim.Native.Nat.{ℕ, suc, _+_, _-_, _≤_, _<_}
+use lib.ListN.{length, take}
 use Rattle.segm.specs.Lists.{written}
 use Rattle.scan.specs.Scan.{outAt}
-use Rattle.scan.proofs.Moving.{none-moved, move-down}
+use Rattle.scan.proofs.Moving.{none-moved, move-down, out-within}
 use Rattle.scan.proofs.remove.Statement.{statement}
 use Rattle.scan.proofs.remove.Tie as tie
 
 record Moved (old : List ℕ) (count k : ℕ) (list : List ℕ) (j : ℕ) : Type 0 where
   from : k ≤ j
-  till : j < count
+  till : j < count + 15
   room : length list ≡ length old
-  is : list ≡ written (outAt k (take (j + 1) old)) old
+  is : list ≡ written (outAt k (take (suc j) old)) old
 
 abbrev Inv-loop : tie.InvT-loop
 Inv-loop list₀ count k last j₀ list j = Moved list₀ count k list j
@@ -28,53 +28,39 @@ sub-last c = search needs
 
 loop-holds : tie.Need-loop-holds Inv-loop μ-loop
 loop-holds c =
-    let old = c .args .list .now in
-    let k = c .args .k in
-    record { from = omega arith; till = omega arith; room = omega arith; is = none-moved old k (omega arith) }
+    let s = c .before in
+    record { from = omega arith; till = omega (arith, s .pre .0); room = refl; is = none-moved (s .args .list .now) (s .args .k) (omega (arith, s .pre .0, s .pre .1)) }
 
-add-list : tie.Need-add-list Inv-loop μ-loop
-add-list c = search needs
-
-mul-list : tie.Need-mul-list Inv-loop μ-loop
-mul-list c = search needs
-
-slice-read-list : tie.Need-slice-read-list Inv-loop μ-loop
-slice-read-list c = search needs
-
-mul-list-2 : tie.Need-mul-list-2 Inv-loop μ-loop
-mul-list-2 c = search needs
-
-slice-write-list : tie.Need-slice-write-list Inv-loop μ-loop
-slice-write-list c = search needs
+move-down-requires : tie.Need-move-down-requires Inv-loop μ-loop
+move-down-requires c κs = let s = c .before .before .before .before in omega (arith, c .before .loop-test .taken, c .before .before .loop .inv .room, s .pre .1)
 
 add-j : tie.Need-add-j Inv-loop μ-loop
 add-j c = search needs
 
 loop-less : tie.Need-loop-less Inv-loop μ-loop
-loop-less c = search needs
+loop-less c = let o = c .before .before .before .before in omega (arith, o .loop-test .taken)
 
 loop-again : tie.Need-loop-again Inv-loop μ-loop
 loop-again c =
-    let l = c .before .before .loop in
-    let s = c .before .before .before in
-    let old = s .args .list .now in
-    let back : l .j + 1 - 1 ≡ l .j = omega arith in
+    let o = c .before .before .before .before in
+    let l = o .before .loop in
+    let s = o .before .before .before in
     record {
       from = omega (arith, l .inv .from);
-      till = omega arith;
-      room = simp length-set (l .inv .room);
-      is = subst (λ (n : ℕ). set (l .list) n (getD (l .list) (l .j + 1) 0) ≡ written (outAt (s .args .k) (take (l .j + 1 + 1) old)) old) back (move-down old (l .list) (s .args .k) (l .j + 1) (omega (arith, l .inv .from)) (omega arith) (l .inv .is));
+      till = omega (arith, o .loop-test .taken);
+      room = omega (arith, c .before .before .move-down .kept .0, l .inv .room);
+      is = c .before .before .move-down .ensures ∙ move-down (s .args .list .now) (s .args .k) 16 (l .j) (l .list) (l .inv .from) (omega (arith, o .loop-test .taken, s .pre .1)) (l .inv .is);
     }
 
 same-length : tie.Need-same-length Inv-loop μ-loop
-same-length c = search needs
+same-length c = c .before .loop .inv .room
 
 returns : tie.Need-returns Inv-loop μ-loop
 returns c =
     let l = c .before .loop in
-    let s = c .before .before in
-    let there : l .j + 1 ≡ s .args .count = omega (arith, l .inv .till) in
-    l .inv .is ∙ ap (λ n. written (outAt (s .args .k) (take n (s .args .list .now))) (s .args .list .now)) there
+    let s = c .before .before .before in
+    ap (take (s .args .count - 1)) (l .inv .is)
+    ∙ out-within (s .args .list .now) (s .args .k) (s .args .count) (suc (l .j)) (s .pre .0) (omega (arith, c .loop-test .left)) (omega (arith, l .inv .till, s .pre .1))
 
 pub remove-spec : {M : Type 1} → statement M
 remove-spec =
@@ -84,11 +70,7 @@ remove-spec =
     μ-loop
     sub-last
     loop-holds
-    add-list
-    mul-list
-    slice-read-list
-    mul-list-2
-    slice-write-list
+    move-down-requires
     add-j
     loop-less
     loop-again
