@@ -1,4 +1,4 @@
--- Fresh arrays are working memory: of the small ones for a small drawing, of the large ones for any.
+-- Fresh arrays are working memory: the small ones for a small drawing, the large ones for any.
 use mathlib.Core.Path.{_≡_, refl}
 use mathlib.Core.List.{List}
 use Prim.Native.Nat.{ℕ, zero, suc, _≤_}

@@ -24,13 +24,6 @@ use Rattle.neighbours.proofs.Upright.{Upright, in-line, end-at}
 abbrev pub Inner : (Segment → Point) → ℤ → Segment → Type 0
 Inner e y s = (p : Point) → p .x ≡ y → side s p ≡ pos 0 → (e s ≡ p) ⊎ Between s p
 
-pub inner-b : {y : ℤ} (s : Segment) → s .a .x <ℤ y → y ≤ℤ s .b .x → Inner (λ t. t .b) y s
-inner-b {y} s f t p q z = go (order y (s .b .x))
-  where
-    go : (y <ℤ s .b .x) ⊎ (s .b .x ≤ℤ y) → (s .b ≡ p) ⊎ Between s p
-    go (inl l) = inr (inl (omega ints), inl (omega ints))
-    go (inr l) = inl (end-at (λ t. t .b) (λ t. inr refl) (record { goes = omega ints }) (omega ints) z)
-
 pub inner-a : {y : ℤ} (s : Segment) → s .a .x ≤ℤ y → y <ℤ s .b .x → Inner (λ t. t .a) y s
 inner-a {y} s f t p q z = go (order (s .a .x) y)
   where

@@ -19,7 +19,7 @@ ghost use Rattle.scan.specs.Scan.{Room, Listed};
 ghost use Rattle.open_list.specs.OpenList.{StandsOver, StandsUnder, FitsAt, ClosesAt, Spanning, CanLeave, CanEnter, Left, Entered, Older, Marked, Marks};
 
 // How many segments are open, a place of the list, and whether all tests were passed so far. The place is where a segment left or entered: at one x ends and
-// starts come in order, so that of the next one is near; and what changes at the next x is often near the first that changed at this one.
+// starts come in order, so that of the next one is near; and what changes at the next x is often near the lowest that changed at this one.
 pub struct Held {
     pub count: usize,
     pub near: usize,

@@ -2,8 +2,7 @@
 use mathlib.Core.Path.{_≡_}
 use mathlib.Core.Logic.{_⊎_, inl, inr, ⊎-elim}
 use mathlib.Core.Bool.{Bool, true, false, _&&_, _||_}
-use lib.IntN.{pos, _-ℤ_}
-use lib.Signed.{_<ℤ_}
+use lib.IntN.{pos}
 use Rattle.integers.proofs.Booleans.{both-l, both-r, one-of, is-false}
 use Rattle.integers.proofs.Linear.{ints, of-pos, of--}
 use Rattle.geom.specs.declared.Point.{Point}

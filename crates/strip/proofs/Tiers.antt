@@ -1,7 +1,7 @@
 -- Two segments that keep their order in every strip that both span do not meet wrongly; and what the test of neighbours says of the strips that both span.
 use mathlib.Core.Path.{_≡_, sym, _∙_, subst}
 use mathlib.Core.Logic.{_⊎_, inl, inr, ⊎-elim}
-use mathlib.Core.Bool.{true, false}
+use mathlib.Core.Bool.{true}
 use Prim.Native.Nat.{ℕ, zero, suc}
 use lib.IntN.{ℤ, pos, _+ℤ_, _-ℤ_, natAbs}
 use lib.Signed.{_≤ℤ_, _<ℤ_, ≤ℤ-refl}
@@ -10,8 +10,8 @@ use Rattle.integers.proofs.Order.{order, lt-le, zero-by, sub-pos}
 use Rattle.geom.specs.declared.Point.{Point}
 use Rattle.geom.proofs.Points.{Before}
 use Rattle.segm.specs.declared.Segment.{Segment}
-use Rattle.meetings.specs.Meetings.{side, meetsWrongly}
-use Rattle.strip.specs.Strip.{gap, under, underBySide, Next}
+use Rattle.meetings.specs.Meetings.{side}
+use Rattle.strip.specs.Strip.{gap, under, Next}
 use Rattle.strip.proofs.Signs.{Sign, minus, nil, plus, sign, Falls, now, next, falls-true, up-pos, up-neg, up-nil, down-nil, neg-pos, neg-neg, neg-nil, diff-nil, join-both, join-l, join-r, join-nil}
 use Rattle.strip.proofs.Gap.{slope, gap-at-a, gap-at-b, gap-turn, gap-rate, gap-trans, side-at-a, side-at-b, side-own-a, side-own-b}
 use Rattle.strip.proofs.Apart.{Between, Apart, apart, turned, Wide, wide, Over, over-wide, slope-pos, gap-rises, gap-flat, not-met, strip-rise, under-le, under-trans}

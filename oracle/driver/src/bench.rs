@@ -17,8 +17,6 @@ use std::time::{Duration, Instant};
 
 const SIZES: [usize; 3] = [64, 256, MOST_SEGMENTS];
 pub const NON_ZERO: i32 = 1;
-/// How long a row is timed before it is the next one's turn.
-const A_WHILE: Duration = Duration::from_millis(50);
 
 /// Few segments open at once, half of all open at once, and half of all at one point.
 const KINDS: [(&str, Make); 3] = [("mesh", mesh), ("nested", shapes::heaped), ("fan", shapes::wheel)];
@@ -249,10 +247,7 @@ fn medians_of<const N: usize, const ROWS: usize>(
     let mut times = [const { [const { Vec::new() }; N] }; ROWS];
     while times.iter().any(|row| row[0].len() < 11) || begin.elapsed() < Duration::from_secs(ROWS as u64) {
         for (call, times) in rows.iter_mut().zip(&mut times) {
-            let turn = Instant::now();
-            while turn.elapsed() < A_WHILE {
-                round(call, untimed, times);
-            }
+            round(call, untimed, times);
         }
     }
     times.map(|row| row.map(median))

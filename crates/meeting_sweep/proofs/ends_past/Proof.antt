@@ -1,14 +1,13 @@
 -- The ends from k up to j lie at one x. Assumes nothing.
 use borrow.Author.Needs.{needs}
 use borrow.Author.Tests.{not-true, not-false}
-use mathlib.Core.Path.{_≡_, refl, sym, ap, _∙_}
+use mathlib.Core.Path.{sym, _∙_}
 use native.Mathlib.Omega.{arith}
-use Prim.Native.Nat.{_-_, _<_}
+use Prim.Native.Nat.{_-_}
 use lib.ListN.{length, getD}
 use Rattle.integers.proofs.Booleans.{clash}
 use Rattle.geom.proofs.Points.{eqZ-true, eq-eqZ}
 use Rattle.segm.specs.Segments.{segments}
-use Rattle.segm.proofs.Segments.{length-segments}
 use Rattle.ends.specs.Ends.{endPoint}
 use Rattle.meeting_sweep.proofs.Runs.{Runs, runs-none, runs-on, runs-out}
 use Rattle.meeting_sweep.proofs.ends_past.Statement.{statement}

@@ -1,10 +1,10 @@
 -- The segments from k up to j start at one x. Assumes nothing.
 use borrow.Author.Needs.{needs}
 use borrow.Author.Tests.{not-true, not-false}
-use mathlib.Core.Path.{_≡_, refl, sym, ap, _∙_}
+use mathlib.Core.Path.{sym, _∙_}
 use native.Mathlib.Omega.{arith}
-use Prim.Native.Nat.{_-_, _<_}
-use lib.ListN.{length, getD}
+use Prim.Native.Nat.{_-_}
+use lib.ListN.{length}
 use Rattle.integers.proofs.Booleans.{clash}
 use Rattle.geom.proofs.Points.{eqZ-true, eq-eqZ}
 use Rattle.segm.specs.Segments.{segments}
