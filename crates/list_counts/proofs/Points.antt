@@ -87,7 +87,7 @@ module _ {d : Drawing} {m : ℕ} (p : Point) {l : List ℕ} (h : Held d m (p .x)
 module _ {v : Segment} (u : Upright v) where
   -- what has v's head above it has its foot above it, or starts there
   foot-under : {s : Segment} → Apart v s → Over (v .a .x) s → above s (v .b) ≡ true → Under (λ t. t .a) (v .a) s
-  foot-under {s} k o a = foot-over u (over-wide o) k (o .from) (lt-le (o .to)) (λ t. t .a) (inner-a s (o .from) (o .to)) (above-yes s (v .b) a)
+  foot-under {s} k o a = foot-over u (over-wide o) k (o .from) (lt-le (o .to)) (inner-a s (o .from) (o .to)) (above-yes s (v .b) a)
 
   -- what starts after v's foot does not have v's head above it
   pub later-not-below : {s : Segment} → Apart v s → Over (v .a .x) s → Before (v .a) (s .a) → above s (v .b) ≡ false

@@ -20,11 +20,11 @@ use Rattle.neighbours.specs.Neighbours.{Under, Above, Passes}
 use Rattle.neighbours.proofs.Upright.{Upright, in-line, end-at}
 
 -- ---- s at y
--- a point of s's line at y is the end e of s, or lies between its ends
-abbrev pub Inner : (Segment → Point) → ℤ → Segment → Type 0
-Inner e y s = (p : Point) → p .x ≡ y → side s p ≡ pos 0 → (e s ≡ p) ⊎ Between s p
+-- a point of s's line at y is the start of s, or lies between its ends
+abbrev pub Inner : ℤ → Segment → Type 0
+Inner y s = (p : Point) → p .x ≡ y → side s p ≡ pos 0 → (s .a ≡ p) ⊎ Between s p
 
-pub inner-a : {y : ℤ} (s : Segment) → s .a .x ≤ℤ y → y <ℤ s .b .x → Inner (λ t. t .a) y s
+pub inner-a : {y : ℤ} (s : Segment) → s .a .x ≤ℤ y → y <ℤ s .b .x → Inner y s
 inner-a {y} s f t p q z = go (order (s .a .x) y)
   where
     go : (s .a .x <ℤ y) ⊎ (y ≤ℤ s .a .x) → (s .a ≡ p) ⊎ Between s p
@@ -49,19 +49,19 @@ module _ {v s : Segment} (u : Upright v) (w : Wide s) (k : Apart v s) (from : s 
       go (inl a) (inr b) = let e : s .b .x ≡ v .a .x = omega ints in k .on-b (in-line u (s .b) e) (between (s .b) (side-at-b s) e)
       go (inr a) b = let e : s .a .x ≡ v .a .x = omega ints in k .on-a (in-line u (s .a) e) (between (s .a) (side-at-a s) e)
 
-  module _ (e : Segment → Point) (inner : Inner e (v .a .x) s) where
-    pub foot-over : pos 0 <ℤ side s (v .b) → Under e (v .a) s
+  module _ (inner : Inner (v .a .x) s) where
+    pub foot-over : pos 0 <ℤ side s (v .b) → Under (λ t. t .a) (v .a) s
     foot-over g = go (sign (side s (v .a)))
       where
-        go : Sign (side s (v .a)) → Under e (v .a) s
+        go : Sign (side s (v .a)) → Under (λ t. t .a) (v .a) s
         go (plus f) = inl f
         go (nil z) = ⊎-elim inr (λ b. absurd (k .a-on z b)) (inner (v .a) refl z)
         go (minus f) = absurd (not-parted f g)
 
-    pub head-under : side s (v .b) ≤ℤ pos 0 → Above e (v .b) s
+    pub head-under : side s (v .b) ≤ℤ pos 0 → Above (λ t. t .a) (v .b) s
     head-under g = go (sign (side s (v .b)))
       where
-        go : Sign (side s (v .b)) → Above e (v .b) s
+        go : Sign (side s (v .b)) → Above (λ t. t .a) (v .b) s
         go (plus f) = absurd (omega ints)
         go (nil z) = ⊎-elim inr (λ b. absurd (k .b-on z b)) (inner (v .b) (u .plumb) z)
         go (minus f) = inl f

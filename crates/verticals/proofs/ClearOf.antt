@@ -23,14 +23,14 @@ use Rattle.verticals.specs.Verticals.{liesUnder, liesAbove, ClearOf}
 pub clear-of-starting : {v s : Segment} → Upright v → Apart v s → s .a .x ≤ℤ v .a .x → v .a .x <ℤ s .b .x → ClearOf v s
 unfolding liesUnder liesAbove
 clear-of-starting {v} {s} u k from to = record {
-  under = λ h. go-under (foot-over u w k from (lt-le to) (λ t. t .a) inner (above-yes s (v .b) h));
-  over = λ h. go-over (head-under u w k from (lt-le to) (λ t. t .a) inner (above-no s (v .b) h));
+  under = λ h. go-under (foot-over u w k from (lt-le to) inner (above-yes s (v .b) h));
+  over = λ h. go-over (head-under u w k from (lt-le to) inner (above-no s (v .b) h));
 }
   where
     w : Wide s
     w = record { goes = omega ints }
 
-    inner : Inner (λ t. t .a) (v .a .x) s
+    inner : Inner (v .a .x) s
     inner = inner-a s from to
 
     go-under : Under (λ t. t .a) (v .a) s → liesUnder (v .a) s ≡ true
