@@ -30,7 +30,7 @@
    The rule is 0 even-odd, 1 nonzero, 2 positive or 3 negative.
 
    Nothing is allocated. A call needs up to 60 KB of stack for fills and splits, 80 KB for clips and
-   114 KB for slices, whatever the drawing's size. */
+   115 KB for slices, whatever the drawing's size. */
 
 #ifndef OVERLAY_H
 #define OVERLAY_H

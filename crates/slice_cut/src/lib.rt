@@ -5,7 +5,7 @@ ghost use mathlib.Core.Path.{_≡_};
 ghost use mathlib.Core.List.{map, flatten};
 ghost use Prim.Native.Nat.{_*_, _≤_};
 ghost use lib.ListN.{length};
-ghost use Rattle.segm.specs.Lists.{written};
+ghost use Rattle.segm.specs.Lists.{tally, written};
 ghost use Rattle.contour.specs.Points.{coordinates, pairUp};
 ghost use Rattle.string_split.specs.Loops.{splitLoops};
 ghost use Rattle.string_split.specs.Run.{foundOf};
@@ -57,7 +57,7 @@ fn cut_walk(
     roles: &mut [u8],
 ) -> Found
     requires { ⌜ Splittable (now walk)
-        × Working (now heads) (now nexts) (now seen) (now numbers) (now buffer)
+        × Working (length (pairUp (now walk))) (now heads) (now nexts) (now seen) (now numbers) (now buffer)
         × (length (now walk) ≤ length (now points))
         × (length (pairUp (now walk)) ≤ length (now lengths))
         × (length (pairUp (now walk)) ≤ length (now roles)) ⌝ }
@@ -98,7 +98,7 @@ fn cut_all(
 ) -> Contours
     requires { ⌜ Stand (now walks) (now «walk_lengths»)
         × (length (now directions) ≡ length (now «walk_lengths»))
-        × Working (now heads) (now nexts) (now seen) (now numbers) (now buffer)
+        × Working (tally (λ n. n) (now «walk_lengths»)) (now heads) (now nexts) (now seen) (now numbers) (now buffer)
         × (2 * length (flatten (pathsIn (now walks) (now «walk_lengths»))) ≤ length (now points))
         × (length (flatten (pathsIn (now walks) (now «walk_lengths»))) ≤ length (now lengths))
         × (length (flatten (pathsIn (now walks) (now «walk_lengths»))) ≤ length (now roles)) ⌝ }
@@ -136,7 +136,7 @@ fn cut_all(
     }
 }
 
-// The contours of all walks, with working memory of its own.
+// The contours of all walks, with memory for those of a small drawing or of any.
 pub fn cut_walks(
     walks: &[i32],
     walk_lengths: &[u32],
@@ -155,6 +155,28 @@ pub fn cut_walks(
     ensures { λ r. ⌜ (r ≡ counts (cutWalks clockwise «min_area» (pathsIn (now (walks .entry)) (now («walk_lengths» .entry))) (now (directions .entry))))
         × Holds (cutWalks clockwise «min_area» (pathsIn (now (walks .entry)) (now («walk_lengths» .entry))) (now (directions .entry))) (now (points .entry)) (now (lengths .entry)) (now (roles .entry)) (now (points .exit)) (now (lengths .exit)) (now (roles .exit)) ⌝ }
 {
+    if walks.len() <= 4 * segm::SMALL {
+        let mut heads = [0u32; 257];
+        let mut nexts = [0u32; 256];
+        let mut seen = [0i32; 512];
+        let mut numbers = [0u32; 256];
+        let mut buffer = [0i32; 512];
+        return cut_all(
+            walks,
+            walk_lengths,
+            directions,
+            clockwise,
+            min_area,
+            &mut heads,
+            &mut nexts,
+            &mut seen,
+            &mut numbers,
+            &mut buffer,
+            points,
+            lengths,
+            roles,
+        );
+    }
     let mut heads = [0u32; 2049];
     let mut nexts = [0u32; 2048];
     let mut seen = [0i32; 4096];

@@ -3,4 +3,5 @@ pub mod Adding
 pub mod OnePoint
 pub mod Taking
 pub mod Accepted
+pub mod Memory
 pub mod Cases

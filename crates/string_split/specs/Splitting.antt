@@ -1,7 +1,7 @@
 -- What the inner functions of a split do to their lists. Assumes nothing.
 use mathlib.Core.Path.{_≡_}
 use mathlib.Core.List.{List, _++_, map, flatten}
-use Prim.Native.Nat.{ℕ, _+_, _*_, _%_, _≤_}
+use Prim.Native.Nat.{ℕ, _+_, _*_, _%_, _≤_, _<_}
 use lib.ListN.{length, take, drop}
 use lib.IntN.{ℤ}
 use Rattle.geom.specs.declared.Point.{Point}
@@ -20,13 +20,14 @@ pub record Adds (loops : List (List Point)) (found after : Found) (out₀ : List
   pub out-is : out ≡ take (2 * found .points) out₀ ++ written (coordinates (flatten loops)) (drop (2 * found .points) out₀)
   pub lengths-are : lengths ≡ take (found .loops) lengths₀ ++ written (map length loops) (drop (found .loops) lengths₀)
 
--- lists long enough to work with
-pub record Working (heads nexts : List ℕ) (seen : List ℤ) (numbers : List ℕ) (buffer : List ℤ) : Type 0 where
-  pub heads-fit : 2049 ≤ length heads
-  pub nexts-fit : 2048 ≤ length nexts
-  pub seen-fit : 4096 ≤ length seen
-  pub numbers-fit : 2048 ≤ length numbers
-  pub buffer-is : length buffer ≡ 4096
+-- lists long enough to split n points with
+pub record Working (n : ℕ) (heads nexts : List ℕ) (seen : List ℤ) (numbers : List ℕ) (buffer : List ℤ) : Type 0 where
+  pub heads-fit : n < length heads
+  pub nexts-fit : n ≤ length nexts
+  pub seen-fit : 2 * n ≤ length seen
+  pub numbers-fit : n ≤ length numbers
+  pub buffer-fits : 2 * n ≤ length buffer
+  pub buffer-few : length buffer ≤ 4096
 
 -- points that can be split: whole, few and in range
 pub record Splittable (points : List ℤ) : Type 0 where

@@ -116,10 +116,7 @@ fn take_points(
 ) -> Taken
     requires { ⌜ Splittable (now points)
         × Binned 0 (now heads) (now nexts) (now seen) (now numbers)
-        × (2048 ≤ length (now nexts))
-        × (4096 ≤ length (now seen))
-        × (2048 ≤ length (now numbers))
-        × (length (now buffer) ≡ 4096)
+        × Working (length (pairUp (now points))) (now heads) (now nexts) (now seen) (now numbers) (now buffer)
         × (length (now points) ≤ length (now out))
         × (length (pairUp (now points)) ≤ length (now lengths)) ⌝ }
     ensures { λ r. ⌜ (r .found ≡ foundOf (keep (isLarge «min_area») (bufferPoints [] [] (pairUp (now (points .entry))) .loops)))
@@ -184,7 +181,7 @@ pub fn split_loops(
     lengths: &mut [u32],
 ) -> Found
     requires { ⌜ Splittable (now points)
-        × Working (now heads) (now nexts) (now seen) (now numbers) (now buffer)
+        × Working (length (pairUp (now points))) (now heads) (now nexts) (now seen) (now numbers) (now buffer)
         × (length (now points) ≤ length (now out))
         × (length (pairUp (now points)) ≤ length (now lengths)) ⌝ }
     ensures { λ r. ⌜ (r ≡ foundOf (splitLoops «min_area» (pairUp (now (points .entry)))))

@@ -56,12 +56,30 @@ fn check_split(points: &[i32], out: usize, lengths: usize) -> Verdict
     find_out(points)
 }
 
-// Splits points, with its own working memory.
+// Splits points, with memory for as many as a small drawing has ends or for any.
 fn split_points(points: &[i32], min_area: u64, out: &mut [i32], lengths: &mut [u32]) -> Found
     requires { ⌜ Splittable (now points) × (length (now points) ≤ length (now out)) × (length (pairUp (now points)) ≤ length (now lengths)) ⌝ }
     ensures { λ r. ⌜ (r ≡ foundOf (splitLoops «min_area» (pairUp (now (points .entry)))))
         × Writes (splitLoops «min_area» (pairUp (now (points .entry)))) (now (out .entry)) (now (lengths .entry)) (now (out .exit)) (now (lengths .exit)) ⌝ }
 {
+    if points.len() <= 4 * segm::SMALL {
+        let mut heads = [0u32; 257];
+        let mut nexts = [0u32; 256];
+        let mut seen = [0i32; 512];
+        let mut numbers = [0u32; 256];
+        let mut buffer = [0i32; 512];
+        return split_loops(
+            points,
+            min_area,
+            &mut heads,
+            &mut nexts,
+            &mut seen,
+            &mut numbers,
+            &mut buffer,
+            out,
+            lengths,
+        );
+    }
     let mut heads = [0u32; 2049];
     let mut nexts = [0u32; 2048];
     let mut seen = [0i32; 4096];

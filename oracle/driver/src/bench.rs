@@ -236,9 +236,9 @@ fn medians<const N: usize>(call: impl FnMut(usize)) -> [f64; N] {
     times
 }
 
-/// In microseconds, over as many rounds as a second a row allows, at least eleven. The calls of a row take turns, and so
-/// do the rows, for a while each, so that a change of the processor's speed meets all of them. Before a timed call come
-/// so many untimed ones of the same: the first after another's takes longer.
+/// In microseconds, over as many rounds as a second a row allows, at least eleven. All calls of all rows take turns, so
+/// that they meet the same changes of the processor's speed, and no row finds it used to that row alone. Before a timed
+/// call come so many untimed ones of the same: the first after another's takes longer.
 fn medians_of<const N: usize, const ROWS: usize>(
     mut rows: [impl FnMut(usize); ROWS],
     untimed: usize,

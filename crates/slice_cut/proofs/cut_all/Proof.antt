@@ -97,6 +97,9 @@ module _ (i : tie.In-loop Inv-loop μ-loop) where
   as-many : length (pairUp part) ≡ n
   as-many = omega (arith, length-pairs part, length-path stand k from inside place)
 
+  few-of-all : length (pairUp part) ≤ tally (λ n. n) lengths
+  few-of-all = omega (arith, as-many, path-few stand k from inside place)
+
   -- the walk's points have room past those that are written
   room : (l .loop .at + n ≤ length (flatten walks)) × (l .loop .contours + n ≤ length (flatten walks))
   room =
@@ -197,11 +200,12 @@ cut-walk-requires c κs =
     let r = q .inv .2 in (
       splittable (stand i) (k i) (from i) (inside i) (place i),
       record {
-        heads-fit = omega (arith, p .2 .heads-fit, r .heads-room);
-        nexts-fit = omega (arith, p .2 .nexts-fit, r .nexts-room);
-        seen-fit = omega (arith, p .2 .seen-fit, r .seen-room);
-        numbers-fit = omega (arith, p .2 .numbers-fit, r .numbers-room);
-        buffer-is = r .buffer-room ∙ p .2 .buffer-is;
+        heads-fit = omega (arith, few-of-all i, p .2 .heads-fit, r .heads-room);
+        nexts-fit = omega (arith, few-of-all i, p .2 .nexts-fit, r .nexts-room);
+        seen-fit = omega (arith, few-of-all i, p .2 .seen-fit, r .seen-room);
+        numbers-fit = omega (arith, few-of-all i, p .2 .numbers-fit, r .numbers-room);
+        buffer-fits = omega (arith, few-of-all i, p .2 .buffer-fits, r .buffer-room);
+        buffer-few = omega (arith, p .2 .buffer-few, r .buffer-room);
       },
       omega (arith, length-path (stand i) (k i) (from i) (inside i) (place i), past (q .points) (2 * q .at) (2 * n i) (omega (arith, points-room i))),
       omega (arith, as-many i, past (q .lengths) (q .contours) (n i) (lengths-room i)),

@@ -1,8 +1,13 @@
--- Working memory of its own is long enough. Assumes nothing.
+-- Memory for the walks of a small drawing or of any. Assumes nothing.
 use borrow.Author.Needs.{needs}
 use native.Mathlib.Omega.{arith}
+use Rattle.segm.specs.Lists.{tally}
+use Rattle.string_split.proofs.Memory.{small-memory, any-memory}
 use Rattle.slice_cut.proofs.cut_walks.Statement.{statement}
 use Rattle.slice_cut.proofs.cut_walks.Tie as tie
+
+mul-if1 : tie.Need-mul-if1
+mul-if1 c = search needs
 
 slice-aggregate-cut-all : tie.Need-slice-aggregate-cut-all
 slice-aggregate-cut-all c = search needs
@@ -20,7 +25,11 @@ slice-aggregate-cut-all-5 : tie.Need-slice-aggregate-cut-all-5
 slice-aggregate-cut-all-5 c = search needs
 
 cut-all-requires : tie.Need-cut-all-requires
-cut-all-requires c κs = let p = c .before .before .before .before .before .before .before .before .before .before .before .before .pre in (p .0, p .1, record { heads-fit = omega arith; nexts-fit = omega arith; seen-fit = omega arith; numbers-fit = omega arith; buffer-is = omega arith }, p .2, p .3, p .4)
+cut-all-requires c κs =
+    let t = c .before .before .before .before .before .before .before .before in
+    let s = t .before .before .before .before .before in
+    let p = s .pre in
+    (p .0, p .1, small-memory (tally (λ n. n) (s .args .walk-lengths .now)) (omega (arith, p .0 .inside, t .if1 .taken)), p .2, p .3, p .4)
 
 same-length : tie.Need-same-length
 same-length c = search needs
@@ -34,10 +43,44 @@ same-length-3 c = search needs
 returns : tie.Need-returns
 returns c = search needs
 
+slice-aggregate-cut-all-6 : tie.Need-slice-aggregate-cut-all-6
+slice-aggregate-cut-all-6 c = search needs
+
+slice-aggregate-cut-all-7 : tie.Need-slice-aggregate-cut-all-7
+slice-aggregate-cut-all-7 c = search needs
+
+slice-aggregate-cut-all-8 : tie.Need-slice-aggregate-cut-all-8
+slice-aggregate-cut-all-8 c = search needs
+
+slice-aggregate-cut-all-9 : tie.Need-slice-aggregate-cut-all-9
+slice-aggregate-cut-all-9 c = search needs
+
+slice-aggregate-cut-all-10 : tie.Need-slice-aggregate-cut-all-10
+slice-aggregate-cut-all-10 c = search needs
+
+cut-all-requires-2 : tie.Need-cut-all-requires-2
+cut-all-requires-2 c κs =
+    let s = c .before .before .before .before .before .before .before .before .before .before .before .before .before in
+    let p = s .pre in
+    (p .0, p .1, any-memory (tally (λ n. n) (s .args .walk-lengths .now)) (p .0 .few), p .2, p .3, p .4)
+
+same-length-4 : tie.Need-same-length-4
+same-length-4 c = search needs
+
+same-length-5 : tie.Need-same-length-5
+same-length-5 c = search needs
+
+same-length-6 : tie.Need-same-length-6
+same-length-6 c = search needs
+
+returns-2 : tie.Need-returns-2
+returns-2 c = search needs
+
 pub cut-walks-spec : {M : Type 1} → statement M
 cut-walks-spec =
     tie.close
     (tie.spec
+    mul-if1
     slice-aggregate-cut-all
     slice-aggregate-cut-all-2
     slice-aggregate-cut-all-3
@@ -47,4 +90,14 @@ cut-walks-spec =
     same-length
     same-length-2
     same-length-3
-    returns)
+    returns
+    slice-aggregate-cut-all-6
+    slice-aggregate-cut-all-7
+    slice-aggregate-cut-all-8
+    slice-aggregate-cut-all-9
+    slice-aggregate-cut-all-10
+    cut-all-requires-2
+    same-length-4
+    same-length-5
+    same-length-6
+    returns-2)

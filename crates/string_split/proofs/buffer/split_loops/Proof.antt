@@ -27,15 +27,15 @@ add-bins : tie.Need-add-bins
 add-bins c = search needs
 
 slice-relend-prefix-clear : tie.Need-slice-relend-prefix-clear
-slice-relend-prefix-clear c = search needs
+slice-relend-prefix-clear c = let s = c .before .before .before .before in omega (arith, length-pairs (s .args .points .now), s .pre .1 .heads-fit)
 
 slice-aggregate-clear : tie.Need-slice-aggregate-clear
-slice-aggregate-clear c = let s = c .before .before .before .before .before in sym (length-take-le (length (s .args .points .now) / 2 + 1) (s .args .heads .now) (omega (arith, s .pre .0 .few, s .pre .1 .heads-fit)))
+slice-aggregate-clear c = let s = c .before .before .before .before .before in sym (length-take-le (length (s .args .points .now) / 2 + 1) (s .args .heads .now) (omega (arith, length-pairs (s .args .points .now), s .pre .1 .heads-fit)))
 
 clear-requires : tie.Need-clear-requires
 clear-requires c κs =
     let s = c .before .before .before .before .before .before .before .before in
-    omega (arith, s .pre .0 .few, s .pre .1 .heads-fit, length-take-le (length (s .args .points .now) / 2 + 1) (s .args .heads .now) (omega (arith, s .pre .0 .few, s .pre .1 .heads-fit)))
+    omega (arith, length-take-le (length (s .args .points .now) / 2 + 1) (s .args .heads .now) (omega (arith, length-pairs (s .args .points .now), s .pre .1 .heads-fit)))
 
 -- the bins, in the part that came back
 module _ (k : tie.After-clear) where
@@ -46,7 +46,7 @@ module _ (k : tie.After-clear) where
   bins = length (s .args .points .now) / 2 + 1
 
   bins-fit : length (take bins (s .args .heads .now)) ≡ bins
-  bins-fit = length-take-le bins (s .args .heads .now) (omega (arith, s .pre .0 .few, s .pre .1 .heads-fit))
+  bins-fit = length-take-le bins (s .args .heads .now) (omega (arith, length-pairs (s .args .points .now), s .pre .1 .heads-fit))
 
   abbrev cleared : List ℕ
   cleared = k .clear .last .0 ++ drop bins (s .args .heads .now)
@@ -58,7 +58,7 @@ module _ (k : tie.After-clear) where
   bins-back = take-at (k .clear .last .0) (drop bins (s .args .heads .now)) bins (k .clear .kept .0 ∙ bins-fit)
 
 slice-relend-prefix-take-points : tie.Need-slice-relend-prefix-take-points
-slice-relend-prefix-take-points c = search needs
+slice-relend-prefix-take-points c = let k = c .before .before in omega (arith, cleared-length k, length-pairs (s k .args .points .now), s k .pre .1 .heads-fit)
 
 slice-aggregate-take-points : tie.Need-slice-aggregate-take-points
 slice-aggregate-take-points c = let k = c .before .before .before in sym (ap length (bins-back k) ∙ k .clear .kept .0 ∙ bins-fit k)
@@ -67,8 +67,20 @@ take-points-requires : tie.Need-take-points-requires
 take-points-requires c κs =
     let k = c .before .before .before .before .before .before .before .before .before in
     let a = s k .args in
-    let p = s k .pre in
-    (p .0, subst (λ (h : List ℕ). Binned 0 h (a .nexts .now) (a .seen .now) (a .numbers .now)) (sym (bins-back k)) (k .clear .ensures), p .1 .nexts-fit, p .1 .seen-fit, p .1 .numbers-fit, p .1 .buffer-is, p .2, p .3)
+    let p = s k .pre in (
+      p .0,
+      subst (λ (h : List ℕ). Binned 0 h (a .nexts .now) (a .seen .now) (a .numbers .now)) (sym (bins-back k)) (k .clear .ensures),
+      record {
+        heads-fit = omega (arith, length-pairs (a .points .now), ap length (bins-back k), k .clear .kept .0, bins-fit k);
+        nexts-fit = p .1 .nexts-fit;
+        seen-fit = p .1 .seen-fit;
+        numbers-fit = p .1 .numbers-fit;
+        buffer-fits = p .1 .buffer-fits;
+        buffer-few = p .1 .buffer-few;
+      },
+      p .2,
+      p .3,
+    )
 
 -- the points taken
 module _ (t : tie.After-take-points) where
@@ -119,7 +131,7 @@ module _ (t : tie.After-take-points) where
   )
 
   room : 2 * len ≤ length buffer
-  room = omega (arith, points-fit, few, t .take-points .kept .1 .1 .1 .1 .1 .1 .0, s k .pre .1 .buffer-is)
+  room = omega (arith, points-fit, few, t .take-points .kept .1 .1 .1 .1 .1 .1 .0, s k .pre .1 .buffer-fits)
 
   -- the rest, in its part of the buffer
   abbrev part : List ℤ

@@ -124,9 +124,9 @@ sight-point-requires c κs =
       i .binned,
       record {
         few = omega (arith, i .few);
-        nexts-fit = omega (arith, i .few, i .nexts-room, q .2);
-        seen-fit = omega (arith, i .few, i .seen-room, q .3);
-        numbers-fit = omega (arith, i .few, i .numbers-room, q .4);
+        nexts-fit = omega (arith, i .few, i .nexts-room, q .2 .nexts-fit);
+        seen-fit = omega (arith, i .few, i .seen-room, q .2 .seen-fit);
+        numbers-fit = omega (arith, i .few, i .numbers-room, q .2 .numbers-fit);
       },
       in-range p,
     )
@@ -158,11 +158,11 @@ close-requires k κs =
     let n = loops-room (c e) in (
       in-range (p e),
       short (c e),
-      omega (arith, i .buffer-room, q .5),
-      omega (arith, i .buffer-room, q .5),
+      omega (arith, i .buffer-room, q .2 .buffer-fits),
+      omega (arith, i .buffer-room, q .2 .buffer-few),
       i .taking .near,
-      omega (arith, i .out-room, q .6, length-pairs (s (c e) .args .points .now)),
-      omega (arith, i .lengths-room, q .7),
+      omega (arith, i .out-room, q .3, length-pairs (s (c e) .args .points .now)),
+      omega (arith, i .lengths-room, q .4),
       omega arith,
       omega arith,
     )
