@@ -17,6 +17,8 @@ use std::time::{Duration, Instant};
 
 const SIZES: [usize; 3] = [64, 256, MOST_SEGMENTS];
 pub const NON_ZERO: i32 = 1;
+/// How long a row is timed before it is the next one's turn.
+const A_WHILE: Duration = Duration::from_millis(50);
 
 /// Few segments open at once, half of all open at once, and half of all at one point.
 const KINDS: [(&str, Make); 3] = [("mesh", mesh), ("nested", shapes::heaped), ("fan", shapes::wheel)];
@@ -236,9 +238,9 @@ fn medians<const N: usize>(call: impl FnMut(usize)) -> [f64; N] {
     times
 }
 
-/// In microseconds, over as many rounds as a second a row allows, at least eleven. All calls of all rows take turns, so
-/// that they meet the same changes of the processor's speed, and no row finds it used to that row alone. Before a timed
-/// call come so many untimed ones of the same: the first after another's takes longer.
+/// In microseconds, over as many rounds as a second a row allows, at least eleven. The calls of a row take turns, and so
+/// do the rows, for a while each, so that a change of the processor's speed meets all of them. Before a timed call come
+/// so many untimed ones of the same: the first after another's takes longer.
 fn medians_of<const N: usize, const ROWS: usize>(
     mut rows: [impl FnMut(usize); ROWS],
     untimed: usize,
@@ -247,7 +249,10 @@ fn medians_of<const N: usize, const ROWS: usize>(
     let mut times = [const { [const { Vec::new() }; N] }; ROWS];
     while times.iter().any(|row| row[0].len() < 11) || begin.elapsed() < Duration::from_secs(ROWS as u64) {
         for (call, times) in rows.iter_mut().zip(&mut times) {
-            round(call, untimed, times);
+            let turn = Instant::now();
+            while turn.elapsed() < A_WHILE {
+                round(call, untimed, times);
+            }
         }
     }
     times.map(|row| row.map(median))
