@@ -14,9 +14,9 @@ pub enum Filled {
 fn fills_in(
     segments: &[i32],
     rule: i32,
-    flat: &mut [u32],
-    starts: &mut [u32],
-    nodes: &mut [u32],
+    flat: &mut [u16],
+    starts: &mut [u16],
+    nodes: &mut [u16],
     tops: &mut [i32],
     fills: &mut [u8],
 ) -> Filled
@@ -37,9 +37,9 @@ pub fn fills(segments: &[i32], rule: i32, fills: &mut [u8]) -> Filled
     ensures { λ r. ⌜ outcome r (now (fills .exit)) ≡ fillsOutcome (now (segments .entry)) rule (now (fills .entry)) ⌝ }
 {
     if segm::count(segments) <= segm::SMALL {
-        let mut flat = [0u32; 256];
-        let mut starts = [0u32; 257];
-        let mut nodes = [0u32; 256];
+        let mut flat = [0u16; 256];
+        let mut starts = [0u16; 257];
+        let mut nodes = [0u16; 256];
         let mut tops = [0i32; segm::SMALL];
         return fills_in(
             segments,
@@ -51,9 +51,9 @@ pub fn fills(segments: &[i32], rule: i32, fills: &mut [u8]) -> Filled
             fills,
         );
     }
-    let mut flat = [0u32; 2048];
-    let mut starts = [0u32; 2049];
-    let mut nodes = [0u32; 2048];
+    let mut flat = [0u16; 2048];
+    let mut starts = [0u16; 2049];
+    let mut nodes = [0u16; 2048];
     let mut tops = [0i32; 1024];
     fills_in(
         segments,

@@ -130,7 +130,7 @@ fn find_first(search: Search, s: &[i32]) -> Verdict
 
 // Refusal 8, at the first place of a segment that meets a later one wrongly. The sweep tells whether there is one, and only then are pairs looked at, to name it.
 // Where there is none the sweep has left the top counts.
-fn find_meeting(s: &[i32], flat: &[u32], tops: &mut [i32]) -> Verdict
+fn find_meeting(s: &[i32], flat: &[u16], tops: &mut [i32]) -> Verdict
     requires { ⌜ (let d = segments (now s) in
         Sound d
         × (now flat ≡ ordering (endBefore d) (upFrom 0 (2 * length d)))
@@ -146,7 +146,7 @@ fn find_meeting(s: &[i32], flat: &[u32], tops: &mut [i32]) -> Verdict
 }
 
 // Refusal 9, at the first place of a segment that touches an unbalanced point.
-fn find_unbalanced(s: &[i32], nodes: &[u32]) -> Verdict
+fn find_unbalanced(s: &[i32], nodes: &[u16]) -> Verdict
     requires { ⌜ Sound (segments (now s)) × Numbered (segments (now s)) (now nodes) ⌝ }
     ensures { λ r. ⌜ r ≡ first (unbalancedAt (segments (now (s .entry)))) (segments (now (s .entry))) ⌝ }
 {
@@ -158,7 +158,7 @@ fn find_unbalanced(s: &[i32], nodes: &[u32]) -> Verdict
 }
 
 // Refusals 8 and 9, by the ordered ends and their nodes; the top counts of a drawing that has neither.
-fn find_by_ends(s: &[i32], flat: &[u32], nodes: &[u32], tops: &mut [i32]) -> Verdict
+fn find_by_ends(s: &[i32], flat: &[u16], nodes: &[u16], tops: &mut [i32]) -> Verdict
     requires { ⌜ (let d = segments (now s) in
         Sound d
         × OrderedIn d (now flat)
@@ -181,9 +181,9 @@ fn in_order(
     s: &[i32],
     unknown: bool,
     short: bool,
-    flat: &mut [u32],
-    starts: &mut [u32],
-    nodes: &mut [u32],
+    flat: &mut [u16],
+    starts: &mut [u16],
+    nodes: &mut [u16],
     tops: &mut [i32],
 ) -> Verdict
     requires { ⌜ Room (segments (now s)) (now flat) (now starts) (now nodes) (now tops) ⌝ }
@@ -231,9 +231,9 @@ pub fn check_fills(
     segments: &[i32],
     rule: i32,
     fills: usize,
-    flat: &mut [u32],
-    starts: &mut [u32],
-    nodes: &mut [u32],
+    flat: &mut [u16],
+    starts: &mut [u16],
+    nodes: &mut [u16],
     tops: &mut [i32],
 ) -> Verdict
     requires { ⌜ RoomOf (now segments) (now flat) (now starts) (now nodes) (now tops) ⌝ }
@@ -254,9 +254,9 @@ pub fn check_clip(
     boundary: i32,
     points: usize,
     lengths: usize,
-    flat: &mut [u32],
-    starts: &mut [u32],
-    nodes: &mut [u32],
+    flat: &mut [u16],
+    starts: &mut [u16],
+    nodes: &mut [u16],
     tops: &mut [i32],
 ) -> Verdict
     requires { ⌜ RoomOf (now segments) (now flat) (now starts) (now nodes) (now tops) ⌝ }
@@ -277,9 +277,9 @@ pub fn check_slice(
     points: usize,
     lengths: usize,
     roles: usize,
-    flat: &mut [u32],
-    starts: &mut [u32],
-    nodes: &mut [u32],
+    flat: &mut [u16],
+    starts: &mut [u16],
+    nodes: &mut [u16],
     tops: &mut [i32],
 ) -> Verdict
     requires { ⌜ RoomOf (now segments) (now flat) (now starts) (now nodes) (now tops) ⌝ }

@@ -44,7 +44,7 @@ fn cleared(bits: u8, forth: bool) -> u8
 }
 
 // Link k.
-fn link_at(nodes: &[u32], bits: &[u8], k: usize) -> Link
+fn link_at(nodes: &[u16], bits: &[u8], k: usize) -> Link
     requires { ⌜ (k < length (now bits)) × (length (now bits) ≤ 1024) × (2 * length (now bits) ≤ length (now nodes)) ⌝ }
     ensures { λ r. ⌜ r ≡ linkAt (now (nodes .entry)) (now (bits .entry)) k ⌝ }
 {
@@ -102,7 +102,7 @@ pub fn is_left(bits: &[u8], e: usize, out: bool) -> bool
 }
 
 // The first end at node v whose line bit fits and is left.
-fn find_next(flat: &[u32], starts: &[u32], bits: &[u8], v: usize, out: bool) -> Next
+fn find_next(flat: &[u16], starts: &[u16], bits: &[u8], v: usize, out: bool) -> Next
     requires { ⌜ (length (now bits) ≤ 1024) × NodeAt (length (now bits)) (now flat) (now starts) v ⌝ }
     ensures { λ r. ⌜ r ≡ firstEnd (length (now (bits .entry))) out (now (bits .entry)) (part (now (flat .entry)) (now (starts .entry)) v) ⌝ }
 {
@@ -119,7 +119,7 @@ fn find_next(flat: &[u32], starts: &[u32], bits: &[u8], v: usize, out: bool) -> 
 }
 
 // Clears the line bit of a move that leaves end e.
-pub fn take(nodes: &[u32], bits: &mut [u8], e: usize, out: bool)
+pub fn take(nodes: &[u16], bits: &mut [u8], e: usize, out: bool)
     requires { ⌜ (e < 2 * length (now bits)) × (length (now bits) ≤ 1024) × (2 * length (now bits) ≤ length (now nodes)) × (isLeft (now bits) (moveOf (length (now bits)) out e) ≡ true) ⌝ }
     ensures { λ r. ⌜ now (bits .exit) ≡ taken (now (bits .entry)) (moveOf (length (now (bits .entry))) out e) ⌝ }
 {
@@ -130,7 +130,7 @@ pub fn take(nodes: &[u32], bits: &mut [u8], e: usize, out: bool)
 }
 
 // The next move of a walk that left end e, its line bit cleared.
-fn go_on(flat: &[u32], starts: &[u32], nodes: &[u32], bits: &mut [u8], e: usize, out: bool) -> Next
+fn go_on(flat: &[u16], starts: &[u16], nodes: &[u16], bits: &mut [u8], e: usize, out: bool) -> Next
     requires { ⌜ (e < 2 * length (now bits)) × Sound (length (now bits)) (graph (now flat) (now starts) (now nodes)) ⌝ }
     ensures { λ r. ⌜ (r ≡ nextEnd (graph (now (flat .entry)) (now (starts .entry)) (now (nodes .entry))) out (now (bits .entry)) e) × (now (bits .exit) ≡ takenBy out (now (bits .entry)) r) ⌝ }
 {
@@ -146,13 +146,13 @@ fn go_on(flat: &[u32], starts: &[u32], nodes: &[u32], bits: &mut [u8], e: usize,
 
 // The moves of the path that left end first, its line bit cleared already. Returns their number.
 pub fn follow(
-    flat: &[u32],
-    starts: &[u32],
-    nodes: &[u32],
+    flat: &[u16],
+    starts: &[u16],
+    nodes: &[u16],
     bits: &mut [u8],
     first: usize,
     out: bool,
-    moves: &mut [u32],
+    moves: &mut [u16],
 ) -> usize
     requires { ⌜ (first < 2 * length (now bits)) × Sound (length (now bits)) (graph (now flat) (now starts) (now nodes)) × (bitsLeft (now bits) < length (now moves)) ⌝ }
     ensures { λ r. ⌜ (r ≡ length (movesOn (graph (now (flat .entry)) (now (starts .entry)) (now (nodes .entry))) out (now (bits .entry)) (Leave first)))
@@ -165,7 +165,7 @@ pub fn follow(
         let Next::Leave(e) = next else {
             break;
         };
-        moves[n] = e as u32;
+        moves[n] = e as u16;
         n += 1;
         next = go_on(flat, starts, nodes, bits, e, out);
     }

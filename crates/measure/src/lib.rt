@@ -19,9 +19,9 @@ fn verdict_of(segments: &[i32]) -> Verdict
     ensures { λ r. ⌜ r ≡ verdictOf (now (segments .entry)) ⌝ }
 {
     if segm::count(segments) <= segm::SMALL {
-        let mut flat = [0u32; 256];
-        let mut starts = [0u32; 257];
-        let mut nodes = [0u32; 256];
+        let mut flat = [0u16; 256];
+        let mut starts = [0u16; 257];
+        let mut nodes = [0u16; 256];
         let mut tops = [0i32; segm::SMALL];
         return checks::check_clip(
             segments,
@@ -36,9 +36,9 @@ fn verdict_of(segments: &[i32]) -> Verdict
             &mut tops,
         );
     }
-    let mut flat = [0u32; 2048];
-    let mut starts = [0u32; 2049];
-    let mut nodes = [0u32; 2048];
+    let mut flat = [0u16; 2048];
+    let mut starts = [0u16; 2049];
+    let mut nodes = [0u16; 2048];
     let mut tops = [0i32; 1024];
     checks::check_clip(
         segments,
@@ -76,9 +76,9 @@ fn is_swept(s: &[i32]) -> bool
     requires { ⌜ Good (segments (now s)) ⌝ }
     ensures { λ r. ⌜ r ≡ true ⌝ }
 {
-    let mut flat = [0u32; 2048];
-    let mut starts = [0u32; 2049];
-    let mut nodes = [0u32; 2048];
+    let mut flat = [0u16; 2048];
+    let mut starts = [0u16; 2049];
+    let mut nodes = [0u16; 2048];
     let mut tops = [0i32; 1024];
     graph::write_nodes(s, &mut flat, &mut starts, &mut nodes);
     let e = 2 * segm::count(s);

@@ -36,7 +36,7 @@ ghost use Rattle.meeting_sweep.specs.Events.{Past, Happened, ClearEvent}
 // All that is at one x: the ends there are passed, then the starts. Places are sought near a guess.
 fn event(
     s: &[i32],
-    ends: &[u32],
+    ends: &[u16],
     from: usize,
     to: usize,
     list: &mut [u16],
@@ -82,7 +82,7 @@ fn at_one_x(s: &[i32], e: usize, f: usize) -> bool
 }
 
 // The first of the ordered ends from k on that does not lie at the x of the one at k.
-fn ends_past(s: &[i32], flat: &[u32], k: usize) -> usize
+fn ends_past(s: &[i32], flat: &[u16], k: usize) -> usize
     requires { ⌜ k < length (now flat) ⌝ }
     ensures { λ r. ⌜ Past (λ j. endPoint (segments (now (s .entry))) (getD (now (flat .entry)) j 0) .x) k (length (now (flat .entry))) (endPoint (segments (now (s .entry))) (getD (now (flat .entry)) k 0) .x) r ⌝ }
 {
@@ -115,7 +115,7 @@ fn starts_past(s: &[i32], k: usize, e: usize) -> usize
 }
 
 // The sweep, from x to x of the ordered ends. The list is working memory; the tops are 0 before it.
-fn sweep(s: &[i32], flat: &[u32], list: &mut [u16], tops: &mut [i32]) -> bool
+fn sweep(s: &[i32], flat: &[u16], list: &mut [u16], tops: &mut [i32]) -> bool
     requires { ⌜ (let d = segments (now s) in
         Ready d
         × (now flat ≡ ordering (endBefore d) (upFrom 0 (2 * length d)))
@@ -153,7 +153,7 @@ fn sweep(s: &[i32], flat: &[u32], list: &mut [u16], tops: &mut [i32]) -> bool
 }
 
 // Whether no two segments meet wrongly, of a drawing with its ordered ends. Where none do the tops, which are 0 before, are their top counts.
-pub fn is_clear(s: &[i32], flat: &[u32], tops: &mut [i32]) -> bool
+pub fn is_clear(s: &[i32], flat: &[u16], tops: &mut [i32]) -> bool
     requires { ⌜ (let d = segments (now s) in
         Ready d
         × (now flat ≡ ordering (endBefore d) (upFrom 0 (2 * length d)))

@@ -124,7 +124,7 @@ fn closes_at(s: &[i32], list: &[u16], k: usize) -> bool
 }
 
 // End e is passed: where a segment that is not vertical ends there, it leaves the list.
-fn leave_one(s: &[i32], e: u32, list: &mut [u16], count: usize, near: usize) -> Held
+fn leave_one(s: &[i32], e: u16, list: &mut [u16], count: usize, near: usize) -> Held
     requires { ⌜ (let d = segments (now s) in let l = take count (now list) in
         Ready d
         × (e < 2 * length d)
@@ -227,7 +227,7 @@ pub fn lowest_place(none_before: bool, lowest: usize, here: usize) -> usize {
 }
 
 // All these ends are passed, one after the other. The place told is the lowest at which one left, or the guess.
-pub fn leave_all(s: &[i32], ends: &[u32], list: &mut [u16], count: usize, guess: usize) -> Held
+pub fn leave_all(s: &[i32], ends: &[u16], list: &mut [u16], count: usize, guess: usize) -> Held
     requires { ⌜ (let d = segments (now s) in let l = take count (now list) in
         Ready d
         × ((e : ℕ) → e ∈ now ends → e < 2 * length d)

@@ -27,9 +27,9 @@ pub enum Walks {
 // The walk that begins with link k, to the points that its moves leave.
 fn walk(
     links: &[i32],
-    flat: &[u32],
-    starts: &[u32],
-    nodes: &[u32],
+    flat: &[u16],
+    starts: &[u16],
+    nodes: &[u16],
     bits: &mut [u8],
     k: usize,
     points: &mut [i32],
@@ -63,9 +63,9 @@ fn walk(
 // All walks: their points, how many each has, and its direction.
 pub fn write_walks(
     links: &[i32],
-    flat: &[u32],
-    starts: &[u32],
-    nodes: &[u32],
+    flat: &[u16],
+    starts: &[u16],
+    nodes: &[u16],
     bits: &mut [u8],
     points: &mut [i32],
     lengths: &mut [u32],

@@ -68,8 +68,8 @@ fn add(links: &[i32], direction: bool, f: usize, best: Next, e: usize) -> Next
 // The nearest of the ends at node v but f that can be left.
 fn find_other(
     links: &[i32],
-    flat: &[u32],
-    starts: &[u32],
+    flat: &[u16],
+    starts: &[u16],
     bits: &[u8],
     v: usize,
     f: usize,
@@ -97,9 +97,9 @@ fn find_other(
 // The end that the next move leaves at the point of f, the current link's end there: of those that can be left the nearest other one, or f itself.
 pub fn find_nearest(
     links: &[i32],
-    flat: &[u32],
-    starts: &[u32],
-    nodes: &[u32],
+    flat: &[u16],
+    starts: &[u16],
+    nodes: &[u16],
     bits: &[u8],
     f: usize,
     direction: bool,

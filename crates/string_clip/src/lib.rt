@@ -51,9 +51,9 @@ fn clip_with(
     s: &[i32],
     rule: Rule,
     filter: Filter,
-    flat: &[u32],
-    starts: &[u32],
-    nodes: &[u32],
+    flat: &[u16],
+    starts: &[u16],
+    nodes: &[u16],
     tops: &[i32],
     links: &mut [i32],
     points: &mut [i32],
@@ -79,9 +79,9 @@ fn clip_accepted(
     s: &[i32],
     rule: Rule,
     filter: Filter,
-    flat: &[u32],
-    starts: &[u32],
-    nodes: &[u32],
+    flat: &[u16],
+    starts: &[u16],
+    nodes: &[u16],
     tops: &[i32],
     points: &mut [i32],
     lengths: &mut [u32],
@@ -131,9 +131,9 @@ fn clip_in(
     rule: i32,
     invert: i32,
     boundary: i32,
-    flat: &mut [u32],
-    starts: &mut [u32],
-    nodes: &mut [u32],
+    flat: &mut [u16],
+    starts: &mut [u16],
+    nodes: &mut [u16],
     tops: &mut [i32],
     points: &mut [i32],
     lengths: &mut [u32],
@@ -181,9 +181,9 @@ pub fn clip(
     ensures { λ r. ⌜ outcome r (now (points .exit)) (now (lengths .exit)) ≡ clipOutcome (now (segments .entry)) rule invert boundary (now (points .entry)) (now (lengths .entry)) ⌝ }
 {
     if segm::count(segments) <= segm::SMALL {
-        let mut flat = [0u32; 256];
-        let mut starts = [0u32; 257];
-        let mut nodes = [0u32; 256];
+        let mut flat = [0u16; 256];
+        let mut starts = [0u16; 257];
+        let mut nodes = [0u16; 256];
         let mut tops = [0i32; segm::SMALL];
         return clip_in(
             segments,
@@ -198,9 +198,9 @@ pub fn clip(
             lengths,
         );
     }
-    let mut flat = [0u32; 2048];
-    let mut starts = [0u32; 2049];
-    let mut nodes = [0u32; 2048];
+    let mut flat = [0u16; 2048];
+    let mut starts = [0u16; 2049];
+    let mut nodes = [0u16; 2048];
     let mut tops = [0i32; 1024];
     clip_in(
         segments,
@@ -229,9 +229,9 @@ fn both_in(
     s: &[i32],
     rule: i32,
     boundary: i32,
-    flat: &mut [u32],
-    starts: &mut [u32],
-    nodes: &mut [u32],
+    flat: &mut [u16],
+    starts: &mut [u16],
+    nodes: &mut [u16],
     tops: &mut [i32],
     inside_points: &mut [i32],
     inside_lengths: &mut [u32],
@@ -291,9 +291,9 @@ fn both_at_once(
         × (outcome (r .outside) (now («outside_points» .exit)) (now («outside_lengths» .exit)) ≡ clipOutcome (now (segments .entry)) rule (pos 1) boundary (now («outside_points» .entry)) (now («outside_lengths» .entry))) ⌝ }
 {
     if segm::count(segments) <= segm::SMALL {
-        let mut flat = [0u32; 256];
-        let mut starts = [0u32; 257];
-        let mut nodes = [0u32; 256];
+        let mut flat = [0u16; 256];
+        let mut starts = [0u16; 257];
+        let mut nodes = [0u16; 256];
         let mut tops = [0i32; segm::SMALL];
         return both_in(
             segments,
@@ -309,9 +309,9 @@ fn both_at_once(
             outside_lengths,
         );
     }
-    let mut flat = [0u32; 2048];
-    let mut starts = [0u32; 2049];
-    let mut nodes = [0u32; 2048];
+    let mut flat = [0u16; 2048];
+    let mut starts = [0u16; 2049];
+    let mut nodes = [0u16; 2048];
     let mut tops = [0i32; 1024];
     both_in(
         segments,

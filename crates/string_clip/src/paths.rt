@@ -9,7 +9,7 @@ ghost use Rattle.contour.specs.Points.{coordinates, origin};
 ghost use Rattle.string_clip.specs.Writing.{throughEnds, endsPoints};
 
 // Point i that the walk comes through whose moves leave these ends.
-fn point_through(links: &[i32], moves: &[u32], i: usize) -> Point
+fn point_through(links: &[i32], moves: &[u16], i: usize) -> Point
     requires { ⌜ (length (segments (now links)) ≤ 1024) × (0 < length (now moves)) × (i ≤ length (now moves)) ⌝ }
     ensures { λ r. ⌜ r ≡ getD (throughEnds (segments (now (links .entry))) (now (moves .entry))) i origin ⌝ }
 {
@@ -21,7 +21,7 @@ fn point_through(links: &[i32], moves: &[u32], i: usize) -> Point
 }
 
 // Point q of the path: a backward path is reversed.
-fn path_point(links: &[i32], moves: &[u32], out: bool, q: usize) -> Point
+fn path_point(links: &[i32], moves: &[u16], out: bool, q: usize) -> Point
     requires { ⌜ (length (segments (now links)) ≤ 1024) × (0 < length (now moves)) × (q ≤ length (now moves)) ⌝ }
     ensures { λ r. ⌜ r ≡ getD (endsPoints (segments (now (links .entry))) out (now (moves .entry))) q origin ⌝ }
 {
@@ -32,7 +32,7 @@ fn path_point(links: &[i32], moves: &[u32], out: bool, q: usize) -> Point
 }
 
 // Writes the points of the path whose moves leave these ends.
-pub fn write_path(links: &[i32], moves: &[u32], out: bool, points: &mut [i32])
+pub fn write_path(links: &[i32], moves: &[u16], out: bool, points: &mut [i32])
     requires { ⌜ (length (segments (now links)) ≤ 1024) × (0 < length (now moves)) × (2 * suc (length (now moves)) ≤ length (now points)) ⌝ }
     ensures { λ r. ⌜ now (points .exit) ≡ written (coordinates (endsPoints (segments (now (links .entry))) out (now (moves .entry)))) (now (points .entry)) ⌝ }
 {

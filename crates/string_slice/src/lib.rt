@@ -37,9 +37,9 @@ pub enum Sliced {
 fn slice_with(
     s: &[i32],
     asked: Asked,
-    flat: &[u32],
-    starts: &[u32],
-    nodes: &[u32],
+    flat: &[u16],
+    starts: &[u16],
+    nodes: &[u16],
     tops: &[i32],
     walks: &mut [i32],
     walk_lengths: &mut [u32],
@@ -92,9 +92,9 @@ fn slice_with(
 fn slice_accepted(
     s: &[i32],
     asked: Asked,
-    flat: &[u32],
-    starts: &[u32],
-    nodes: &[u32],
+    flat: &[u16],
+    starts: &[u16],
+    nodes: &[u16],
     tops: &[i32],
     points: &mut [i32],
     lengths: &mut [u32],
@@ -154,9 +154,9 @@ fn slice_in(
     rule: i32,
     direction: i32,
     min_area: u64,
-    flat: &mut [u32],
-    starts: &mut [u32],
-    nodes: &mut [u32],
+    flat: &mut [u16],
+    starts: &mut [u16],
+    nodes: &mut [u16],
     tops: &mut [i32],
     points: &mut [i32],
     lengths: &mut [u32],
@@ -214,9 +214,9 @@ pub fn slice(
         ≡ sliceOutcome (now (segments .entry)) rule direction «min_area» (now (points .entry)) (now (lengths .entry)) (now (roles .entry)) ⌝ }
 {
     if segm::count(segments) <= segm::SMALL {
-        let mut flat = [0u32; 256];
-        let mut starts = [0u32; 257];
-        let mut nodes = [0u32; 256];
+        let mut flat = [0u16; 256];
+        let mut starts = [0u16; 257];
+        let mut nodes = [0u16; 256];
         let mut tops = [0i32; segm::SMALL];
         return slice_in(
             segments,
@@ -232,9 +232,9 @@ pub fn slice(
             roles,
         );
     }
-    let mut flat = [0u32; 2048];
-    let mut starts = [0u32; 2049];
-    let mut nodes = [0u32; 2048];
+    let mut flat = [0u16; 2048];
+    let mut starts = [0u16; 2049];
+    let mut nodes = [0u16; 2048];
     let mut tops = [0i32; 1024];
     slice_in(
         segments,

@@ -108,9 +108,9 @@ fn show(v: Verdict) {
 }
 
 fn show_fills(d: &[i32], rule: i32, fills: usize) {
-    let mut flat = [0u32; 2048];
-    let mut starts = [0u32; 2049];
-    let mut nodes = [0u32; 2048];
+    let mut flat = [0u16; 2048];
+    let mut starts = [0u16; 2049];
+    let mut nodes = [0u16; 2048];
     let mut tops = [0i32; 1024];
     show(checks::check_fills(
         d,
@@ -124,9 +124,9 @@ fn show_fills(d: &[i32], rule: i32, fills: usize) {
 }
 
 fn show_clip(d: &[i32], rule: i32, invert: i32, boundary: i32, points: usize, lengths: usize) {
-    let mut flat = [0u32; 2048];
-    let mut starts = [0u32; 2049];
-    let mut nodes = [0u32; 2048];
+    let mut flat = [0u16; 2048];
+    let mut starts = [0u16; 2049];
+    let mut nodes = [0u16; 2048];
     let mut tops = [0i32; 1024];
     show(checks::check_clip(
         d,
@@ -143,9 +143,9 @@ fn show_clip(d: &[i32], rule: i32, invert: i32, boundary: i32, points: usize, le
 }
 
 fn show_slice(d: &[i32], rule: i32, direction: i32, points: usize, lengths: usize, roles: usize) {
-    let mut flat = [0u32; 2048];
-    let mut starts = [0u32; 2049];
-    let mut nodes = [0u32; 2048];
+    let mut flat = [0u16; 2048];
+    let mut starts = [0u16; 2049];
+    let mut nodes = [0u16; 2048];
     let mut tops = [0i32; 1024];
     show(checks::check_slice(
         d,

@@ -189,7 +189,7 @@ fn pass_end(s: &[i32], e: usize, foot: i32, top: i32) -> Last
 }
 
 // Whether no end of a column lies within a vertical segment that starts in it, and these do not overlap.
-pub fn are_unbroken(s: &[i32], ends: &[u32]) -> bool
+pub fn are_unbroken(s: &[i32], ends: &[u16]) -> bool
     requires { ⌜ Ready (segments (now s)) × Column (segments (now s)) (now ends) ⌝ }
     ensures { λ r. ⌜ (r ≡ true) ↔ Unbroken (segments (now (s .entry))) (now (ends .entry)) ⌝ }
 {
