@@ -20,7 +20,7 @@ fn bin_index(bins: usize, p: Point) -> usize
 }
 
 // Empties the bins.
-pub fn clear(heads: &mut [u32], nexts: &[u32], seen: &[i32], numbers: &[u32])
+pub fn clear(heads: &mut [u16], nexts: &[u16], seen: &[i32], numbers: &[u16])
     requires { ⌜ 0 < length (now heads) ⌝ }
     ensures { λ _. ⌜ Binned 0 (now (heads .exit)) (now (nexts .entry)) (now (seen .entry)) (now (numbers .entry)) ⌝ }
 {
@@ -32,7 +32,7 @@ pub fn clear(heads: &mut [u32], nexts: &[u32], seen: &[i32], numbers: &[u32])
 }
 
 // The item that holds p, or 0. The count is for the contract.
-pub fn find(heads: &[u32], nexts: &[u32], seen: &[i32], count: usize, p: Point) -> usize
+pub fn find(heads: &[u16], nexts: &[u16], seen: &[i32], count: usize, p: Point) -> usize
     requires { ⌜ Linked count (now heads) (now nexts) (now seen) × (inRange p ≡ true) ⌝ }
     ensures { λ r. ⌜ Found count (now (seen .entry)) p r ⌝ }
 {
@@ -49,13 +49,13 @@ pub fn find(heads: &[u32], nexts: &[u32], seen: &[i32], count: usize, p: Point) 
 
 // Stores p and its number as the next item.
 pub fn store(
-    heads: &mut [u32],
-    nexts: &mut [u32],
+    heads: &mut [u16],
+    nexts: &mut [u16],
     seen: &mut [i32],
-    numbers: &mut [u32],
+    numbers: &mut [u16],
     count: usize,
     p: Point,
-    number: u32,
+    number: u16,
 )
     requires { ⌜ Binned count (now heads) (now nexts) (now seen) (now numbers) × Room count (now nexts) (now seen) (now numbers) × (inRange p ≡ true) × Unseen count (now seen) p ⌝ }
     ensures { λ _. ⌜ (memory (suc count) (now (seen .exit)) (now (numbers .exit)) ≡ memory count (now (seen .entry)) (now (numbers .entry)) ++ (sighting p number ∷ []))
@@ -64,7 +64,7 @@ pub fn store(
     let b = bin_index(heads.len(), p);
     let head = heads[b];
     nexts[count] = head;
-    heads[b] = (count + 1) as u32;
+    heads[b] = (count + 1) as u16;
     contour::put_point(seen, count, p);
     numbers[count] = number;
 }

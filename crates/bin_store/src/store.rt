@@ -17,24 +17,24 @@ pub struct BinStore {
 // The memory after a look-up, and the number stored for the point.
 pub struct Inserted {
     pub store: BinStore,
-    pub number: u32,
+    pub number: u16,
 }
 
 // How many items there are after a look-up, and the number stored for the point.
 pub struct Seen {
     pub count: usize,
-    pub number: u32,
+    pub number: u16,
 }
 
 // The number stored for p, which is this one if p was not sighted before.
 pub fn insert(
     store: BinStore,
-    heads: &mut [u32],
-    nexts: &mut [u32],
+    heads: &mut [u16],
+    nexts: &mut [u16],
     seen: &mut [i32],
-    numbers: &mut [u32],
+    numbers: &mut [u16],
     p: Point,
-    number: u32,
+    number: u16,
 ) -> Inserted
     requires { ⌜ Sound store (now heads) (now nexts) (now seen) (now numbers) × Room (store .count) (now nexts) (now seen) (now numbers) × (inRange p ≡ true) ⌝ }
     ensures { λ r. ⌜ Sights (memory (store .count) (now (seen .entry)) (now (numbers .entry))) p number store (r .store) (now (heads .exit)) (now (nexts .exit)) (now (seen .exit)) (now (numbers .exit)) (r .number) ⌝ }
@@ -61,13 +61,13 @@ pub fn insert(
 // The same, the memory lent.
 pub fn insert_if_not_exist(
     store: &mut BinStore,
-    heads: &mut [u32],
-    nexts: &mut [u32],
+    heads: &mut [u16],
+    nexts: &mut [u16],
     seen: &mut [i32],
-    numbers: &mut [u32],
+    numbers: &mut [u16],
     p: Point,
-    number: u32,
-) -> u32
+    number: u16,
+) -> u16
     requires { ⌜ Sound (now store) (now heads) (now nexts) (now seen) (now numbers) × Room (now store .count) (now nexts) (now seen) (now numbers) × (inRange p ≡ true) ⌝ }
     ensures { λ r. ⌜ Sights (memory (now (store .entry) .count) (now (seen .entry)) (now (numbers .entry))) p number (now (store .entry)) (now (store .exit)) (now (heads .exit)) (now (nexts .exit)) (now (seen .exit)) (now (numbers .exit)) r ⌝ }
 {
@@ -79,12 +79,12 @@ pub fn insert_if_not_exist(
 // The same by plain parameters, with as many bins as there are heads: its callers need no memory of their own.
 pub fn sight_point(
     count: usize,
-    heads: &mut [u32],
-    nexts: &mut [u32],
+    heads: &mut [u16],
+    nexts: &mut [u16],
     seen: &mut [i32],
-    numbers: &mut [u32],
+    numbers: &mut [u16],
     p: Point,
-    number: u32,
+    number: u16,
 ) -> Seen
     requires { ⌜ Binned count (now heads) (now nexts) (now seen) (now numbers) × Room count (now nexts) (now seen) (now numbers) × (inRange p ≡ true) ⌝ }
     ensures { λ r. ⌜ (memory (r .count) (now (seen .exit)) (now (numbers .exit)) ≡ sight (memory count (now (seen .entry)) (now (numbers .entry))) p number)

@@ -47,10 +47,10 @@ fn cut_walk(
     direction: bool,
     clockwise: bool,
     min_area: u64,
-    heads: &mut [u32],
-    nexts: &mut [u32],
+    heads: &mut [u16],
+    nexts: &mut [u16],
     seen: &mut [i32],
-    numbers: &mut [u32],
+    numbers: &mut [u16],
     buffer: &mut [i32],
     points: &mut [i32],
     lengths: &mut [u32],
@@ -83,14 +83,14 @@ fn cut_walk(
 // The contours of all walks, in order.
 fn cut_all(
     walks: &[i32],
-    walk_lengths: &[u32],
+    walk_lengths: &[u16],
     directions: &[u8],
     clockwise: bool,
     min_area: u64,
-    heads: &mut [u32],
-    nexts: &mut [u32],
+    heads: &mut [u16],
+    nexts: &mut [u16],
     seen: &mut [i32],
-    numbers: &mut [u32],
+    numbers: &mut [u16],
     buffer: &mut [i32],
     points: &mut [i32],
     lengths: &mut [u32],
@@ -139,7 +139,7 @@ fn cut_all(
 // The contours of all walks, with memory for those of a small drawing or of any.
 pub fn cut_walks(
     walks: &[i32],
-    walk_lengths: &[u32],
+    walk_lengths: &[u16],
     directions: &[u8],
     clockwise: bool,
     min_area: u64,
@@ -156,10 +156,10 @@ pub fn cut_walks(
         × Holds (cutWalks clockwise «min_area» (pathsIn (now (walks .entry)) (now («walk_lengths» .entry))) (now (directions .entry))) (now (points .entry)) (now (lengths .entry)) (now (roles .entry)) (now (points .exit)) (now (lengths .exit)) (now (roles .exit)) ⌝ }
 {
     if walks.len() <= 4 * segm::SMALL {
-        let mut heads = [0u32; 257];
-        let mut nexts = [0u32; 256];
+        let mut heads = [0u16; 257];
+        let mut nexts = [0u16; 256];
         let mut seen = [0i32; 512];
-        let mut numbers = [0u32; 256];
+        let mut numbers = [0u16; 256];
         let mut buffer = [0i32; 512];
         return cut_all(
             walks,
@@ -177,10 +177,10 @@ pub fn cut_walks(
             roles,
         );
     }
-    let mut heads = [0u32; 2049];
-    let mut nexts = [0u32; 2048];
+    let mut heads = [0u16; 2049];
+    let mut nexts = [0u16; 2048];
     let mut seen = [0i32; 4096];
-    let mut numbers = [0u32; 2048];
+    let mut numbers = [0u16; 2048];
     let mut buffer = [0i32; 4096];
     cut_all(
         walks,

@@ -68,7 +68,7 @@ pub fn write_walks(
     nodes: &[u16],
     bits: &mut [u8],
     points: &mut [i32],
-    lengths: &mut [u32],
+    lengths: &mut [u16],
     directions: &mut [u8],
 ) -> Walks
     requires { ⌜ Walking (segments (now links)) (now flat) (now starts) (now nodes) (now bits)
@@ -90,7 +90,7 @@ pub fn write_walks(
             let Walked::Closed(n) = walked else {
                 return Walks::Stuck;
             };
-            lengths[walks] = n as u32;
+            lengths[walks] = n as u16;
             walks += 1;
             at += n;
         }

@@ -42,7 +42,7 @@ fn slice_with(
     nodes: &[u16],
     tops: &[i32],
     walks: &mut [i32],
-    walk_lengths: &mut [u32],
+    walk_lengths: &mut [u16],
     directions: &mut [u8],
     points: &mut [i32],
     lengths: &mut [u32],
@@ -112,7 +112,7 @@ fn slice_accepted(
 {
     if segm::count(s) <= segm::SMALL {
         let mut walks = [0i32; 512];
-        let mut walk_lengths = [0u32; 256];
+        let mut walk_lengths = [0u16; 256];
         let mut directions = [0u8; 256];
         return slice_with(
             s,
@@ -130,7 +130,7 @@ fn slice_accepted(
         );
     }
     let mut walks = [0i32; 4096];
-    let mut walk_lengths = [0u32; 2048];
+    let mut walk_lengths = [0u16; 2048];
     let mut directions = [0u8; 2048];
     slice_with(
         s,

@@ -34,7 +34,7 @@ fn walk_links(
     tops: &[i32],
     bits: &mut [u8],
     points: &mut [i32],
-    lengths: &mut [u32],
+    lengths: &mut [u16],
     directions: &mut [u8],
 ) -> Walks
     requires { ⌜ Good (segments (now s))
@@ -72,7 +72,7 @@ pub fn make_walks(
     nodes: &[u16],
     tops: &[i32],
     points: &mut [i32],
-    lengths: &mut [u32],
+    lengths: &mut [u16],
     directions: &mut [u8],
 ) -> Walks
     requires { ⌜ Good (segments (now s))

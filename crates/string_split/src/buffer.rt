@@ -59,7 +59,7 @@ fn add_loop(
 // Puts p after the first `len` points of the buffer and, if its number cuts, writes the loop that it closes. Returns what was found then.
 fn close(
     p: Point,
-    number: u32,
+    number: u16,
     min_area: u64,
     buffer: &mut [i32],
     len: usize,
@@ -94,7 +94,7 @@ fn close(
 }
 
 // How many points the buffer has after one with this number.
-fn length_after(number: u32, len: usize) -> usize
+fn length_after(number: u16, len: usize) -> usize
     requires { ⌜ len < 2048 ⌝ }
     ensures { λ r. ⌜ r ≡ cond (ltb number len) number (suc len) ⌝ }
 {
@@ -106,10 +106,10 @@ fn length_after(number: u32, len: usize) -> usize
 fn take_points(
     points: &[i32],
     min_area: u64,
-    heads: &mut [u32],
-    nexts: &mut [u32],
+    heads: &mut [u16],
+    nexts: &mut [u16],
     seen: &mut [i32],
-    numbers: &mut [u32],
+    numbers: &mut [u16],
     buffer: &mut [i32],
     out: &mut [i32],
     lengths: &mut [u32],
@@ -134,7 +134,7 @@ fn take_points(
     let mut i: usize = 0;
     while i < n {
         let p = contour::point_at(points, i);
-        let s = bin_store::sight_point(count, heads, nexts, seen, numbers, p, (len + 1) as u32);
+        let s = bin_store::sight_point(count, heads, nexts, seen, numbers, p, (len + 1) as u16);
         let number = s.number;
         found = close(p, number, min_area, buffer, len, out, lengths, found);
         count = s.count;
@@ -172,10 +172,10 @@ fn add_rest(
 pub fn split_loops(
     points: &[i32],
     min_area: u64,
-    heads: &mut [u32],
-    nexts: &mut [u32],
+    heads: &mut [u16],
+    nexts: &mut [u16],
     seen: &mut [i32],
-    numbers: &mut [u32],
+    numbers: &mut [u16],
     buffer: &mut [i32],
     out: &mut [i32],
     lengths: &mut [u32],

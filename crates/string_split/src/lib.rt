@@ -63,10 +63,10 @@ fn split_points(points: &[i32], min_area: u64, out: &mut [i32], lengths: &mut [u
         × Writes (splitLoops «min_area» (pairUp (now (points .entry)))) (now (out .entry)) (now (lengths .entry)) (now (out .exit)) (now (lengths .exit)) ⌝ }
 {
     if points.len() <= 4 * segm::SMALL {
-        let mut heads = [0u32; 257];
-        let mut nexts = [0u32; 256];
+        let mut heads = [0u16; 257];
+        let mut nexts = [0u16; 256];
         let mut seen = [0i32; 512];
-        let mut numbers = [0u32; 256];
+        let mut numbers = [0u16; 256];
         let mut buffer = [0i32; 512];
         return split_loops(
             points,
@@ -80,10 +80,10 @@ fn split_points(points: &[i32], min_area: u64, out: &mut [i32], lengths: &mut [u
             lengths,
         );
     }
-    let mut heads = [0u32; 2049];
-    let mut nexts = [0u32; 2048];
+    let mut heads = [0u16; 2049];
+    let mut nexts = [0u16; 2048];
     let mut seen = [0i32; 4096];
-    let mut numbers = [0u32; 2048];
+    let mut numbers = [0u16; 2048];
     let mut buffer = [0i32; 4096];
     split_loops(
         points,
