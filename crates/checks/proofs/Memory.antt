@@ -3,11 +3,11 @@ use mathlib.Core.Path.{_≡_, refl}
 use mathlib.Core.List.{List}
 use Prim.Native.Nat.{ℕ, zero, suc, _≤_}
 use native.Mathlib.Omega.{arith}
-use lib.ListN.{getD, replicate}
+use lib.ListN.{length, getD, replicate}
 use lib.IntN.{ℤ, pos}
-use Rattle.segm.specs.Segments.{count}
+use Rattle.segm.specs.Segments.{Drawing, count}
 use Rattle.segm.proofs.Segments.{length-segments}
-use Rattle.checks.specs.Search.{RoomOf}
+use Rattle.checks.specs.Search.{RoomOf, Memory}
 
 fresh : (n i : ℕ) → getD (replicate n (pos 0)) i (pos 0) ≡ pos 0
 fresh zero i = refl
@@ -22,3 +22,10 @@ module _ (numbers : List ℤ) where
 
   pub any-memory : RoomOf numbers (replicate 2048 0) (replicate 2049 0) (replicate 2048 0) (replicate 1024 (pos 0))
   any-memory = record { flat-room = λ h. omega arith; starts-room = λ h. omega arith; nodes-room = λ h. omega arith; tops-room = λ h. omega arith; blank = fresh 1024 }
+
+module _ (d : Drawing) where
+  pub few-ends : length d ≤ 128 → Memory d (replicate 256 0) (replicate 128 0) (replicate 144 0) (replicate 256 (pos 0))
+  few-ends h = record { keys-room = omega arith; scratch-room = omega arith; list-room = omega arith; sums-room = omega arith; sums-blank = fresh 256 }
+
+  pub any-ends : length d ≤ 1024 → Memory d (replicate 2048 0) (replicate 1024 0) (replicate 1040 0) (replicate 2048 (pos 0))
+  any-ends h = record { keys-room = omega arith; scratch-room = omega arith; list-room = omega arith; sums-room = omega arith; sums-blank = fresh 2048 }

@@ -3,20 +3,22 @@
 use geom::Point;
 use segm::Segment;
 ghost use mathlib.Core.Path.{_≡_};
-ghost use Prim.Native.Nat.{_-_, _*_, _<_, _≤_};
-ghost use lib.ListN.{length, drop};
+ghost use Prim.Native.Nat.{ℕ, _+_, _-_, _*_, _<_, _≤_};
+ghost use lib.ListN.{length, getD, drop};
+ghost use lib.IntN.{pos};
 ghost use Rattle.segm.specs.Lists.{any, upFrom};
 ghost use Rattle.segm.specs.Segments.{segments};
 ghost use Rattle.ends.specs.Ends.{endBefore};
 ghost use Rattle.ends.specs.Ordering.{ordering};
 ghost use Rattle.meetings.specs.Meetings.{Proper, meetsWrongly};
 ghost use Rattle.count_up.specs.CountUp.{Within, Counted};
+ghost use Rattle.graph.specs.Nodes.{NodesIn};
 ghost use Rattle.balance.specs.Balance.{Numbered};
 ghost use Rattle.checks.specs.declared.Verdict.the-variants.{Accepted};
 ghost use Rattle.checks.specs.Drawing.{fault, faultAt, meetingAt, unbalancedAt};
 ghost use Rattle.checks.specs.Verdict.{wrongLength, unknownChoice, tooShort, first, _then_, inOrder, verdict};
 ghost use Rattle.checks.specs.Runs.{upTo, lent, fillsRun, clipRun, sliceRun};
-ghost use Rattle.checks.specs.Search.{Sound, Ready, numberAt, OrderedIn, NumberedIn, NodesOf, CountedOf, Room, RoomOf};
+ghost use Rattle.checks.specs.Search.{Sound, Ready, numberAt, OrderedIn, NumberedIn, NodesOf, CountedOf, Room, RoomOf, Memory};
 
 // What a check finds: nothing wrong, or a refusal's number and place.
 pub enum Verdict {
@@ -130,53 +132,153 @@ fn find_first(search: Search, s: &[i32]) -> Verdict
 
 // Refusal 8, at the first place of a segment that meets a later one wrongly. The sweep tells whether there is one, and only then are pairs looked at, to name it.
 // Where there is none the sweep has left the top counts.
-fn find_meeting(s: &[i32], flat: &[u16], tops: &mut [i32]) -> Verdict
+fn find_meeting(s: &[i32], flat: &[u16], list: &mut [u16], tops: &mut [i32]) -> Verdict
     requires { ⌜ (let d = segments (now s) in
         Sound d
         × (now flat ≡ ordering (endBefore d) (upFrom 0 (2 * length d)))
+        × (length d + 16 ≤ length (now list))
         × (length d ≤ length (now tops))
         × Within 0 (now tops)) ⌝ }
     ensures { λ r. ⌜ (let d = segments (now (s .entry)) in
         (r ≡ first (meetingAt d) d) × (r ≡ Accepted → Counted d (now (tops .exit)))) ⌝ }
 {
-    if meeting_sweep::is_clear(s, flat, tops) {
+    if meeting_sweep::is_clear(s, flat, list, tops) {
         return Verdict::Accepted;
     }
     find_first(Search::Meetings, s)
 }
 
 // Refusal 9, at the first place of a segment that touches an unbalanced point.
-fn find_unbalanced(s: &[i32], nodes: &[u16]) -> Verdict
-    requires { ⌜ Sound (segments (now s)) × Numbered (segments (now s)) (now nodes) ⌝ }
+fn find_unbalanced(s: &[i32], nodes: &[u16], sums: &mut [i32]) -> Verdict
+    requires { ⌜ Sound (segments (now s))
+        × Numbered (segments (now s)) (now nodes)
+        × (2 * length (segments (now s)) ≤ length (now sums))
+        × ((v : ℕ) → getD (now sums) v (pos 0) ≡ pos 0) ⌝ }
     ensures { λ r. ⌜ r ≡ first (unbalancedAt (segments (now (s .entry)))) (segments (now (s .entry))) ⌝ }
 {
-    let place = balance::first_unbalanced(s, nodes);
+    let place = balance::first_unbalanced(s, nodes, sums);
     if segm::count(s) <= place {
         return Verdict::Accepted;
     }
     Verdict::Refused(9, place)
 }
 
-// Refusals 8 and 9, by the ordered ends and their nodes; the top counts of a drawing that has neither.
-fn find_by_ends(s: &[i32], flat: &[u16], nodes: &[u16], tops: &mut [i32]) -> Verdict
+// Refusals 8 and 9, by the ordered ends and their nodes; the top counts of a drawing that has neither. The lists `list` and `sums` are working memory.
+fn find_by_ends(
+    s: &[i32],
+    flat: &[u16],
+    nodes: &[u16],
+    list: &mut [u16],
+    sums: &mut [i32],
+    tops: &mut [i32],
+) -> Verdict
     requires { ⌜ (let d = segments (now s) in
         Sound d
         × OrderedIn d (now flat)
         × NumberedIn d (now nodes)
+        × (length d + 16 ≤ length (now list))
+        × (2 * length d ≤ length (now sums))
+        × ((v : ℕ) → getD (now sums) v (pos 0) ≡ pos 0)
         × (length d ≤ length (now tops))
         × Within 0 (now tops)) ⌝ }
     ensures { λ r. ⌜ (let d = segments (now (s .entry)) in
         (r ≡ (first (meetingAt d) d then first (unbalancedAt d) d)) × (r ≡ Accepted → Counted d (now (tops .exit)))) ⌝ }
 {
     let e = 2 * segm::count(s);
-    let meetings = find_meeting(s, &flat[..e], tops);
+    let meetings = find_meeting(s, &flat[..e], list, tops);
     let Verdict::Accepted = meetings else {
         return meetings;
     };
-    find_unbalanced(s, &nodes[..e])
+    find_unbalanced(s, &nodes[..e], sums)
 }
 
-// Every refusal in its order, of which 10 and 11 have been tried. An accepted drawing's nodes and top counts are left in the lists.
+// Refusals 8 and 9 of a drawing that 2 to 7 leave, whose ends are ordered for it. An accepted drawing's nodes and top counts are left in the lists before `keys`,
+// which all the same as those from there on are working memory.
+fn check_ends(
+    s: &[i32],
+    flat: &mut [u16],
+    starts: &mut [u16],
+    nodes: &mut [u16],
+    tops: &mut [i32],
+    keys: &mut [u64],
+    scratch: &mut [u64],
+    list: &mut [u16],
+    sums: &mut [i32],
+) -> Verdict
+    requires { ⌜ (let d = segments (now s) in
+        Sound d × Room d (now flat) (now starts) (now nodes) (now tops) × Memory d (now keys) (now scratch) (now list) (now sums)) ⌝ }
+    ensures { λ r. ⌜ (let d = segments (now (s .entry)) in
+        (r ≡ (first (meetingAt d) d then first (unbalancedAt d) d))
+        × (r ≡ Accepted → (NodesIn d (now (flat .exit)) (now (starts .exit)) (now (nodes .exit)) × Counted d (now (tops .exit))))) ⌝ }
+{
+    graph::write_nodes(s, flat, starts, nodes, keys, scratch);
+    find_by_ends(s, flat, nodes, list, sums, tops)
+}
+
+// The same of a small drawing, with memory for that.
+fn check_few(
+    s: &[i32],
+    flat: &mut [u16],
+    starts: &mut [u16],
+    nodes: &mut [u16],
+    tops: &mut [i32],
+) -> Verdict
+    requires { ⌜ (let d = segments (now s) in
+        Sound d × (length d ≤ 128) × Room d (now flat) (now starts) (now nodes) (now tops)) ⌝ }
+    ensures { λ r. ⌜ (let d = segments (now (s .entry)) in
+        (r ≡ (first (meetingAt d) d then first (unbalancedAt d) d))
+        × (r ≡ Accepted → (NodesIn d (now (flat .exit)) (now (starts .exit)) (now (nodes .exit)) × Counted d (now (tops .exit))))) ⌝ }
+{
+    let mut keys = [0u64; 256];
+    let mut scratch = [0u64; segm::SMALL];
+    let mut list = [0u16; 144];
+    let mut sums = [0i32; 256];
+    check_ends(
+        s,
+        flat,
+        starts,
+        nodes,
+        tops,
+        &mut keys,
+        &mut scratch,
+        &mut list,
+        &mut sums,
+    )
+}
+
+// The same of any drawing.
+fn check_any(
+    s: &[i32],
+    flat: &mut [u16],
+    starts: &mut [u16],
+    nodes: &mut [u16],
+    tops: &mut [i32],
+) -> Verdict
+    requires { ⌜ (let d = segments (now s) in
+        Sound d × Room d (now flat) (now starts) (now nodes) (now tops)) ⌝ }
+    ensures { λ r. ⌜ (let d = segments (now (s .entry)) in
+        (r ≡ (first (meetingAt d) d then first (unbalancedAt d) d))
+        × (r ≡ Accepted → (NodesIn d (now (flat .exit)) (now (starts .exit)) (now (nodes .exit)) × Counted d (now (tops .exit))))) ⌝ }
+{
+    let mut keys = [0u64; 2048];
+    let mut scratch = [0u64; 1024];
+    let mut list = [0u16; 1040];
+    let mut sums = [0i32; 2048];
+    check_ends(
+        s,
+        flat,
+        starts,
+        nodes,
+        tops,
+        &mut keys,
+        &mut scratch,
+        &mut list,
+        &mut sums,
+    )
+}
+
+// Every refusal in its order, of which 10 and 11 have been tried. An accepted drawing's nodes and top counts are left in the lists. Whoever needs memory is called
+// last, so that a small drawing has only that of its size on the stack.
 fn in_order(
     s: &[i32],
     unknown: bool,
@@ -193,7 +295,8 @@ fn in_order(
     if !segm::is_whole(s) {
         return Verdict::Refused(2, 0);
     }
-    if 1024 < segm::count(s) {
+    let n = segm::count(s);
+    if 1024 < n {
         return Verdict::Refused(2, 0);
     }
     if unknown {
@@ -206,8 +309,10 @@ fn in_order(
     let Verdict::Accepted = faults else {
         return faults;
     };
-    graph::write_nodes(s, flat, starts, nodes);
-    find_by_ends(s, flat, nodes, tops)
+    if n <= segm::SMALL {
+        return check_few(s, flat, starts, nodes, tops);
+    }
+    check_any(s, flat, starts, nodes, tops)
 }
 
 // Whether a choice is none of 0 to the greatest.

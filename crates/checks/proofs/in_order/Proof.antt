@@ -98,43 +98,11 @@ module _ (c : tie.After-enum-told) where
   two-left : inOrder (wrongLength (s f .args .s .now)) (s f .args .unknown) (s f .args .short) (d f) ≡ (first (meetingAt (d f)) (d f) then first (unbalancedAt (d f)) (d f))
   two-left = searches f ∙ ap (λ (v : Verdict). v then first (meetingAt (d f)) (d f) then first (unbalancedAt (d f)) (d f)) faultless
 
-write-nodes-requires : tie.Need-write-nodes-requires
-write-nodes-requires c κs =
-    let e = c .before .before .before in
-    let h = s (f e) .pre in
-    let few = sound e .few in
-    (rising-starts (d (f e)) (at (d (f e)) (sound e)), near-ends (d (f e)) (λ i l. let p = proper-at (d (f e)) (sound e) i l in (p .near-a, p .near-b)), few, h .flat-room few, h .starts-room few, h .nodes-room few)
-
--- the nodes were written
-module _ (w : tie.After-write-nodes) where
-  abbrev a : tie.After-enum-told
-  a = w .before .before .before .before
-
-  abbrev dw : Drawing
-  dw = d (f a)
-
-  abbrev h : tie.Start
-  h = s (f a)
-
-  few : length dw ≤ 1024
-  few = sound a .few
-
-  written : Nodes dw (take (2 * length dw) (w .write-nodes .last .1 .0)) (w .write-nodes .last .1 .1 .0) (take (2 * length dw) (w .write-nodes .last .1 .1 .1 .0))
-  written = w .write-nodes .ensures
-
-  ordered : OrderedIn dw (w .write-nodes .last .1 .0)
-  ordered = record { all-ends = omega (arith, h .pre .flat-room few, w .write-nodes .kept .1 .0); order = written .order }
-
-  each-end : 2 * length dw ≤ length (w .write-nodes .last .1 .1 .1 .0)
-  each-end = omega (arith, h .pre .nodes-room few, w .write-nodes .kept .1 .1 .1 .0)
-
-  numbers : NumberedIn dw (w .write-nodes .last .1 .1 .1 .0)
-  numbers = record { each-end = each-end; numbered = numbered written (length-take-le _ _ each-end) }
-
-find-by-ends-requires : tie.Need-find-by-ends-requires
-find-by-ends-requires c κs =
-    let w = c .before .before .before .before .before .before .before .before .before in
-    (sound (a w), ordered w, numbers w, h w .pre .tops-room (few w), λ i. omega (arith, ap natAbs (h w .pre .blank i)))
+check-few-requires : tie.Need-check-few-requires
+check-few-requires c κs =
+    let e = c .before .before .before .before .before in
+    let k = e .before .before .before .before .before .before in
+    (sound e, omega (arith, length-segments (s (f e) .args .s .now), k .count .ensures, c .before .before .before .before .if5 .taken), s (f e) .pre)
 
 same-length : tie.Need-same-length
 same-length c = search needs
@@ -149,7 +117,31 @@ same-length-4 : tie.Need-same-length-4
 same-length-4 c = search needs
 
 returns-6 : tie.Need-returns-6
-returns-6 c = let w = c .before .before .before .before .before .before .before .before .before .before .before in (c .before .find-by-ends .ensures .0 ∙ sym (two-left (a w)), λ e. (written w, c .before .find-by-ends .ensures .1 e))
+returns-6 c =
+    let k = c .before .before .before .before .before .before .before in
+    let e = k .before .before .before .before .before .before in
+    (k .check-few .ensures .0 ∙ sym (two-left e), k .check-few .ensures .1)
+
+check-any-requires : tie.Need-check-any-requires
+check-any-requires c κs = let e = c .before .before .before .before .before in (sound e, s (f e) .pre)
+
+same-length-5 : tie.Need-same-length-5
+same-length-5 c = search needs
+
+same-length-6 : tie.Need-same-length-6
+same-length-6 c = search needs
+
+same-length-7 : tie.Need-same-length-7
+same-length-7 c = search needs
+
+same-length-8 : tie.Need-same-length-8
+same-length-8 c = search needs
+
+returns-7 : tie.Need-returns-7
+returns-7 c =
+    let k = c .before .before .before .before .before .before .before in
+    let e = k .before .before .before .before .before .before in
+    (k .check-any .ensures .0 ∙ sym (two-left e), k .check-any .ensures .1)
 
 pub in-order-spec : {M : Type 1} → statement M
 in-order-spec =
@@ -165,10 +157,15 @@ in-order-spec =
     enum-told
     enum-told-2
     returns-5
-    write-nodes-requires
-    find-by-ends-requires
+    check-few-requires
     same-length
     same-length-2
     same-length-3
     same-length-4
-    returns-6)
+    returns-6
+    check-any-requires
+    same-length-5
+    same-length-6
+    same-length-7
+    same-length-8
+    returns-7)
