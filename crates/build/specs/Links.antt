@@ -1,9 +1,9 @@
 -- Kept links: which segments a clip run keeps. The contracts of `build` cite these. Assumes nothing.
-use mathlib.Core.List.{map}
+use mathlib.Core.List.{List, map}
 use mathlib.Core.Bool.{Bool, not, _&&_, cond}
 use Prim.Native.Nat.{ℕ, _+_, _/_, _%_}
 use lib.Dec.{eqb, ltb}
-use lib.IntN.{ℤ, pos}
+use lib.IntN.{ℤ, pos, natAbs}
 use Rattle.geom.specs.Points.{eqZ}
 use Rattle.segm.specs.declared.Segment.{Segment}
 use Rattle.segm.specs.Lists.{keep}
@@ -44,3 +44,7 @@ linesIf kept s = cond kept s (record { a = s .a; b = s .b; winding = s .winding;
 -- the segments of a drawing, those that a run does not keep without their line bits. (The walk over these has the paths of the kept links)
 unfoldable pub masked : Rule → Filter → Drawing → Drawing
 masked rule filter d = map (λ s. linesIf (keeps filter (fill rule d s)) s) d
+
+-- their line bits: all that the walk needs of them beside the drawing itself
+abbrev pub maskedBits : Rule → Filter → Drawing → List ℕ
+maskedBits rule filter d = map (λ (s : Segment). natAbs (s .bits)) (masked rule filter d)

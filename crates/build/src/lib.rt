@@ -1,9 +1,9 @@
-// From a drawing to its fills and to the links of a clip run. Every function here is proved, and the crate assumes nothing of its own.
+// From a drawing to its fills and to the line bits of a clip run. Every function here is proved, and the crate assumes nothing of its own.
 mod links;
 mod run;
 
 pub use links::Filter;
 pub use links::filter_of;
-pub use links::masked_links;
+pub use links::masked_bits;
 pub use run::Filled;
 pub use run::fills;

@@ -1,14 +1,13 @@
-// Kept links: the segments that a clip run keeps. All are handed on, so that the nodes of the drawing serve, and the others lose their line bits.
+// Kept links: the segments that a clip run keeps. The others have no line bits, so that the drawing and its nodes serve as they are.
 use fill_rule::Rule;
-use segm::Segment;
 ghost use mathlib.Core.Path.{_≡_};
-ghost use Prim.Native.Nat.{_*_, _≤_};
+ghost use mathlib.Core.Bool.{cond};
+ghost use Prim.Native.Nat.{_/_, _≤_};
 ghost use lib.ListN.{length};
-ghost use Rattle.segm.specs.Lists.{written};
-ghost use Rattle.segm.specs.Segments.{width, segments, laid};
+ghost use Rattle.segm.specs.Segments.{segments};
 ghost use Rattle.count_up.specs.CountUp.{Counted};
 ghost use Rattle.checks.specs.Accepted.{Good};
-ghost use Rattle.build.specs.Links.{keepsSides, keeps, filterOf, linesIf, masked};
+ghost use Rattle.build.specs.Links.{keepsSides, keeps, filterOf, maskedBits};
 
 // The four filters of a clip run: which side of the outline, and whether lines on the outline count as inside.
 pub enum Filter {
@@ -53,31 +52,25 @@ fn keeps(filter: Filter, fill: u8) -> bool
     (fill / 4 != 0) & keeps_sides(filter, u8::count_ones(fill & 3))
 }
 
-// The segment, without its line bits if it is not kept.
-fn lines_if(kept: bool, t: Segment) -> Segment
-    ensures { λ r. ⌜ r ≡ linesIf kept t ⌝ }
+// The line bits of a segment of this fill, none if it is not kept.
+fn kept_bits(filter: Filter, fill: u8) -> u8
+    ensures { λ r. ⌜ r ≡ cond (keeps filter fill) (fill / 4) 0 ⌝ }
 {
-    if kept {
-        return t;
-    }
-    let mut u = t;
-    u.bits = 0;
-    u
+    if keeps(filter, fill) { fill / 4 } else { 0 }
 }
 
-// Writes the segments of an accepted drawing, those that a clip run does not keep without their line bits.
-pub fn masked_links(s: &[i32], rule: Rule, filter: Filter, tops: &[i32], links: &mut [i32])
+// Writes the line bits of each segment of an accepted drawing, none for those that a clip run does not keep.
+pub fn masked_bits(s: &[i32], rule: Rule, filter: Filter, tops: &[i32], bits: &mut [u8])
     requires { ⌜ Good (segments (now s))
         × Counted (segments (now s)) (now tops)
         × (length (segments (now s)) ≤ length (now tops))
-        × (length (segments (now s)) * width ≤ length (now links)) ⌝ }
-    ensures { λ _. ⌜ now (links .exit) ≡ written (laid (masked rule filter (segments (now (s .entry))))) (now (links .entry)) ⌝ }
+        × (length (now bits) ≡ length (segments (now s))) ⌝ }
+    ensures { λ _. ⌜ now (bits .exit) ≡ maskedBits rule filter (segments (now (s .entry))) ⌝ }
 {
     let n = segm::count(s);
     let mut i: usize = 0;
     while i < n {
-        let kept = keeps(filter, top_fills::fill_at(s, rule, tops, i));
-        segm::put(links, i, lines_if(kept, segm::segment_at(s, i)));
+        bits[i] = kept_bits(filter, top_fills::fill_at(s, rule, tops, i));
         i += 1;
     }
 }

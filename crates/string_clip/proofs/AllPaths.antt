@@ -15,36 +15,32 @@ use Rattle.segm.specs.Segments.{Drawing}
 use Rattle.segm.proofs.Lists.{flatten-++, flatten-one}
 use Rattle.contour.specs.Points.{coordinates, Writes}
 use Rattle.contour.proofs.Written.{writes-one}
-use Rattle.clip_walk.specs.Walk.{has, lineBits, Move, move, takenAll, bitsLeft, begins, andThen, pathFrom, walkFrom, walk}
+use Rattle.clip_walk.specs.Walk.{has, Move, move, takenAll, bitsLeft, begins, andThen, pathFrom, walkFrom}
 use Rattle.string_clip.specs.Paths.{pathPoints}
-use Rattle.string_clip.specs.Writing.{pathAt, linksPaths}
+use Rattle.string_clip.specs.Writing.{pathAt, bitsPaths}
 use Rattle.clip_walk.proofs.Unroll.{taken-other, path-keeps, path-fewer, walk-on}
 use Rattle.clip_walk.proofs.Flat.{length-taken}
 use Rattle.clip_walk.proofs.Begins.{first-left, begins-at, begins-nowhere}
 
-module _ (links : Drawing) where
+module _ (links : Drawing) (bits₀ : List ℕ) where
   -- ---- the loop
-  -- the paths from these bits on
-  abbrev pathsFrom : List ℕ → List (List Point)
-  pathsFrom bits = map (pathPoints links) (walkFrom (bitsLeft bits) links bits)
-
   pub record Walked (points₀ : List ℤ) (lengths₀ bits : List ℕ) (points : List ℤ) (lengths : List ℕ) (paths at k : ℕ) : Type 0 where
     pub done : List (List Point)
     pub paths-are : paths ≡ length done
     pub at-is : at ≡ length (flatten done)
     pub writes : Writes done points₀ lengths₀ points lengths
-    pub all : done ++ pathsFrom bits ≡ linksPaths links
+    pub all : done ++ bitsPaths links bits ≡ bitsPaths links bits₀
     pub passed : (j : ℕ) → j < k → getD bits j 0 % 4 ≡ 0
     pub as-many : length bits ≡ length links
 
-  pub none-yet : (points₀ : List ℤ) (lengths₀ bits : List ℕ) → bits ≡ lineBits links → length bits ≡ length links → Walked points₀ lengths₀ bits points₀ lengths₀ 0 0 0
-  unfolding written coordinates flatten walk
-  none-yet points₀ lengths₀ bits e q = record {
+  pub none-yet : (points₀ : List ℤ) (lengths₀ : List ℕ) → length bits₀ ≡ length links → Walked points₀ lengths₀ bits₀ points₀ lengths₀ 0 0 0
+  unfolding written coordinates flatten
+  none-yet points₀ lengths₀ q = record {
     done = [];
     paths-are = refl;
     at-is = refl;
     writes = record { points-are = refl; lengths-are = refl };
-    all = ap pathsFrom e;
+    all = refl;
     passed = λ j h. absurd (omega arith);
     as-many = q;
   }
@@ -80,7 +76,7 @@ module _ (links : Drawing) where
       begin : begins links bits ≡ some (move k (has true (getD bits k 0)))
       begin = begins-at bits links k inside (w .passed) line
 
-      next : pathsFrom bits ≡ found ∷ pathsFrom after
+      next : bitsPaths links bits ≡ found ∷ bitsPaths links after
       next =
           ap (map (pathPoints links)) (
           walk-on links bits
@@ -90,22 +86,22 @@ module _ (links : Drawing) where
       pub fewer : bitsLeft after < bitsLeft bits
       fewer = path-fewer links bits (move k (has true (getD bits k 0))) begin
 
-      all-is : linksPaths links ≡ w .done ++ (found ∷ pathsFrom after)
+      all-is : bitsPaths links bits₀ ≡ w .done ++ (found ∷ bitsPaths links after)
       all-is = sym (w .all) ∙ ap (w .done ++_) next
 
-      pub points-fit : at + length found ≤ length (flatten (linksPaths links))
+      pub points-fit : at + length found ≤ length (flatten (bitsPaths links bits₀))
       unfolding flatten
       points-fit = omega (
         arith,
         w .at-is,
         ap (λ (l : List (List Point)). length (flatten l)) all-is,
-        ap length (flatten-++ (w .done) (found ∷ pathsFrom after)),
-        length-append (flatten (w .done)) (found ++ flatten (pathsFrom after)),
-        length-append found (flatten (pathsFrom after)),
+        ap length (flatten-++ (w .done) (found ∷ bitsPaths links after)),
+        length-append (flatten (w .done)) (found ++ flatten (bitsPaths links after)),
+        length-append found (flatten (bitsPaths links after)),
       )
 
-      pub paths-fit : paths < length (linksPaths links)
-      paths-fit = omega (arith, w .paths-are, ap length all-is, length-append (w .done) (found ∷ pathsFrom after))
+      pub paths-fit : paths < length (bitsPaths links bits₀)
+      paths-fit = omega (arith, w .paths-are, ap length all-is, length-append (w .done) (found ∷ bitsPaths links after))
 
       -- its points come after the others, and its length
       pub more : (part : List ℤ) → part ≡ written (coordinates found) (take (length points - 2 * at) (drop (2 * at) points)) → paths < length lengths₀
@@ -116,15 +112,15 @@ module _ (links : Drawing) where
             paths-are = omega (arith, w .paths-are, length-append (w .done) (found ∷ []));
             at-is = omega (arith, w .at-is, ap length (flatten-one (w .done) found), length-append (flatten (w .done)) found);
             writes = writes-one (w .writes) found part (w .at-is) (w .paths-are) room e;
-            all = append-snoc (w .done) found (pathsFrom after) ∙ sym all-is;
+            all = append-snoc (w .done) found (bitsPaths links after) ∙ sym all-is;
             passed = λ j h. path-keeps links (λ (b : List ℕ). getD b j 0 % 4 ≡ 0) (λ b m e. taken-other b m j e) bits (move k (has true (getD bits k 0))) (first-left bits k line) (w .passed j h);
             as-many = path-keeps links (λ (b : List ℕ). length b ≡ length links) (λ b m e h. length-taken b m ∙ h) bits (move k (has true (getD bits k 0))) (first-left bits k line) (w .as-many);
           }
 
     -- past the last link every path is written
-    pub whole : length links ≤ k → w .done ≡ linksPaths links
+    pub whole : length links ≤ k → w .done ≡ bitsPaths links bits₀
     whole h =
-        let none-left : pathsFrom bits ≡ [] =
+        let none-left : bitsPaths links bits ≡ [] =
         ap (map (pathPoints links)) (
         walk-on links bits
         ∙ ap (λ (o : Option Move). andThen o (λ m. pathFrom links bits m ∷ walkFrom (bitsLeft (takenAll bits (pathFrom links bits m))) links (takenAll bits (pathFrom links bits m)))) (begins-nowhere bits links (λ j l. w .passed j (omega arith)))

@@ -1,6 +1,6 @@
 -- What a walk comes to: its steps and travel by the line bits of its links, and how many points and paths it can have.
-use mathlib.Core.Path.{_≡_, refl, sym, _∙_, ap, ap₂}
-use mathlib.Core.List.{List, [], _∷_, map, flatten}
+use mathlib.Core.Path.{_≡_, refl, _∙_, ap, ap₂}
+use mathlib.Core.List.{List, [], _∷_, flatten}
 use mathlib.Core.Logic.{inl, inr}
 use mathlib.Core.Bool.{Bool, true, false, cond}
 use Prim.Native.Nat.{ℕ, suc, _+_, _*_, _≤_}
@@ -12,17 +12,18 @@ use Rattle.geom.specs.declared.Point.{Point}
 use Rattle.segm.specs.declared.Segment.{Segment}
 use Rattle.segm.specs.Lists.{_∈_, tally, one}
 use Rattle.segm.specs.Segments.{Drawing}
-use Rattle.segm.proofs.Tallies.{tally-cong, tally-one, tally-map, length-keep}
+use Rattle.segm.proofs.Tallies.{tally-one, length-keep}
 use Rattle.checks.specs.Accepted.{Good}
 use Rattle.fill_rule.specs.declared.Rule.{Rule}
 use Rattle.build.specs.declared.links.Filter.{Filter}
 use Rattle.ray.specs.Ray.{fill}
 use Rattle.build.specs.Links.{keeps, keptLinks}
-use Rattle.clip_walk.specs.Walk.{has, lineBits, Step, asDrawn, linesIn, bitsLeft, walk}
-use Rattle.string_clip.specs.Paths.{linesOf, pathPoints, clipPaths, stepsFrom, stepsOfPath, stepsOf, travelOf}
+use Rattle.clip_walk.specs.Walk.{has, lineBits, asDrawn, linesIn, walk}
+use Rattle.string_clip.specs.Paths.{clipPaths, stepsFrom, stepsOfPath, stepsOf, travelOf}
+use Rattle.string_clip.specs.Writing.{bitsPaths, travelOver}
 use Rattle.clip_walk.proofs.Moves.{Proper, value, worth, ones}
 use Rattle.clip_walk.proofs.Flat.{bits-few}
-use Rattle.string_clip.proofs.Steps.{Long, walk-long, walk-steps}
+use Rattle.string_clip.proofs.Steps.{Long, few-worth, paths-long, bits-steps}
 use Rattle.string_clip.proofs.Own.{kept-proper}
 
 -- ---- the travel of a segment, either way
@@ -35,13 +36,8 @@ travel-either true s = refl
 travel-either false s = ap₂ _+_ (abs-either (s .a .x) (s .b .x)) (abs-either (s .a .y) (s .b .y))
 
 -- ---- steps and travel by line bits
-worth-tally : (f : Step → ℕ) (links : Drawing) → worth f links (lineBits links) ≡ tally (λ s. value f s (natAbs (s .bits))) links
-unfolding worth tally
-worth-tally f [] = refl
-worth-tally f (s ∷ links) = ap (value f s (natAbs (s .bits)) +_) (worth-tally f links)
-
-value-travel : (s : Segment) → value travelOf s (natAbs (s .bits)) ≡ linesOf s * travelOf (asDrawn true s)
-value-travel s = go (has true (natAbs (s .bits))) (has false (natAbs (s .bits)))
+value-travel : (s : Segment) (b : ℕ) → value travelOf s b ≡ linesIn b * travelOf (asDrawn true s)
+value-travel s b = go (has true b) (has false b)
   where
     go : (p q : Bool) → cond p (travelOf (asDrawn true s)) 0 + cond q (travelOf (asDrawn false s)) 0 ≡ (one p + one q) * travelOf (asDrawn true s)
     go true true = omega (arith, travel-either false s)
@@ -49,11 +45,11 @@ value-travel s = go (has true (natAbs (s .bits))) (has false (natAbs (s .bits)))
     go false true = omega (arith, travel-either false s)
     go false false = omega arith
 
-few-lines : (links : Drawing) → tally linesOf links ≤ 2 * length links
-unfolding bitsLeft
-few-lines links =
-    let f : Segment → ℕ = λ s. natAbs (s .bits) in
-    omega (arith, bits-few (lineBits links), tally-map linesIn f links, length-map links f)
+worth-travel : (links : Drawing) (bits : List ℕ) → worth travelOf links bits ≡ travelOver links bits
+unfolding worth travelOver
+worth-travel [] bits = refl
+worth-travel (s ∷ links) [] = refl
+worth-travel (s ∷ links) (b ∷ bits) = ap₂ _+_ (value-travel s b) (worth-travel links bits)
 
 -- ---- points and paths
 steps-length : (p : Point) (l : List Point) → length (stepsFrom p l) ≡ length l
@@ -77,37 +73,36 @@ paths-length (p ∷ paths) h =
     omega (arith, h p (inl refl), length-append p (flatten paths), length-append (stepsOfPath p) (stepsOf paths))
 
 -- ---- the walk
--- what the paths over links come to
-pub record Found (links : Drawing) (paths : List (List Point)) : Type 0 where
-  pub steps : length (stepsOf paths) ≡ tally linesOf links
-  pub travel : tally travelOf (stepsOf paths) ≡ tally (λ s. linesOf s * travelOf (asDrawn true s)) links
+-- what the paths over links come to, by their line bits
+pub record Found (links : Drawing) (bits : List ℕ) (paths : List (List Point)) : Type 0 where
+  pub travel : tally travelOf (stepsOf paths) ≡ travelOver links bits
   pub points : length (flatten paths) ≡ length (stepsOf paths) + length paths
   pub few-paths : length paths ≤ length (stepsOf paths)
-  pub few-steps : length (stepsOf paths) ≤ 2 * length links
+  pub few-steps : length (stepsOf paths) ≤ 2 * length bits
 
-pub walk-found : (links : Drawing) → Proper links → Found links (map (pathPoints links) (walk links))
-walk-found links proper =
-    let paths = map (pathPoints links) (walk links) in
-    let l = paths-length paths (walk-long links) in
-    let s : length (stepsOf paths) ≡ tally linesOf links = sym (tally-one (stepsOf paths)) ∙ walk-steps links proper ones ∙ worth-tally ones links in
+pub bits-found : (links : Drawing) → Proper links → (bits : List ℕ) → Found links bits (bitsPaths links bits)
+bits-found links proper bits =
+    let paths = bitsPaths links bits in
+    let l = paths-length paths (paths-long links bits) in
     record {
-      steps = s;
-      travel = walk-steps links proper travelOf ∙ worth-tally travelOf links ∙ tally-cong links (λ t m. value-travel t);
+      travel = bits-steps links proper bits travelOf ∙ worth-travel links bits;
       points = l .0;
       few-paths = l .1;
-      few-steps = omega (arith, few-lines links);
+      few-steps = omega (arith, tally-one (stepsOf paths), bits-steps links proper bits ones, few-worth links bits, bits-few bits);
     }
 
--- paths over n links or fewer fit in lists of 8n and 2n entries
-pub found-fit : {links : Drawing} {paths : List (List Point)} → Found links paths → (n : ℕ) → length links ≤ n → (2 * length (flatten paths) ≤ 8 * n) × (length paths ≤ 2 * n)
+-- paths by n bytes of line bits or fewer fit in lists of 8n and 2n entries
+pub found-fit : {links : Drawing} {bits : List ℕ} {paths : List (List Point)} → Found links bits paths → (n : ℕ) → length bits ≤ n → (2 * length (flatten paths) ≤ 8 * n) × (length paths ≤ 2 * n)
 found-fit f n h = (omega (arith, f .points, f .few-paths, f .few-steps), omega (arith, f .few-paths, f .few-steps))
 
 -- ---- a clip run
 module _ (d : Drawing) (g : Good d) (rule : Rule) (filter : Filter) where
-  pub clip-found : Found (keptLinks rule filter d) (clipPaths rule filter d)
-  unfolding clipPaths
-  clip-found = walk-found (keptLinks rule filter d) (kept-proper rule filter d (g .proper))
+  pub clip-found : Found (keptLinks rule filter d) (lineBits (keptLinks rule filter d)) (clipPaths rule filter d)
+  unfolding clipPaths walk
+  clip-found = bits-found (keptLinks rule filter d) (kept-proper rule filter d (g .proper)) (lineBits (keptLinks rule filter d))
 
   pub clip-fits : (2 * length (flatten (clipPaths rule filter d)) ≤ 8 * length d) × (length (clipPaths rule filter d) ≤ 2 * length d)
   unfolding keptLinks
-  clip-fits = found-fit clip-found (length d) (length-keep (λ s. keeps filter (fill rule d s)) d)
+  clip-fits =
+      let bits : Segment → ℕ = λ s. natAbs (s .bits) in
+      found-fit clip-found (length d) (omega (arith, length-map (keptLinks rule filter d) bits, length-keep (λ s. keeps filter (fill rule d s)) d))

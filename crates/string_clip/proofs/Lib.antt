@@ -9,5 +9,6 @@ pub mod Links
 pub mod OnePath
 pub mod AllPaths
 pub mod NoLines
+pub mod SameEnds
 pub mod Masked
 pub mod Answers

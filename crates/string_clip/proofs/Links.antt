@@ -1,20 +1,26 @@
--- Links: how many line bits are set, and how large the travel over one is.
+-- Links: how many line bits are set, and the travel over one and over all.
 use mathlib.Core.Path.{_≡_, refl, ap₂}
+use mathlib.Core.List.{List, [], _∷_}
+use mathlib.Core.Logic.{inl, inr}
 use mathlib.Core.Bool.{true, false}
 use Prim.Native.Nat.{ℕ, zero, suc, _+_, _*_, _/_, _%_, _<_, _≤_}
 use native.Mathlib.Nat as N
+use native.Mathlib.Numerals.{add-one}
 use native.Mathlib.Omega.{arith}
 use lib.Dec.{eqb}
-use lib.IntN.{natAbs}
+use lib.ListN.{length, getD, drop}
+use lib.Seq.{drop-cons}
 use Rattle.integers.proofs.Booleans.{both-l, both-r}
 use Rattle.integers.proofs.Order.{abs--}
 use Rattle.geom.specs.Points.{inRange}
 use Rattle.geom.proofs.Points.{near-x, near-y}
 use Rattle.segm.specs.declared.Segment.{Segment}
-use Rattle.segm.specs.Lists.{one}
+use Rattle.segm.specs.Lists.{_∈_, one}
+use Rattle.segm.specs.Segments.{Drawing, nowhere, segmentAt}
 use Rattle.checks.specs.Drawing.{endsInRange}
-use Rattle.clip_walk.specs.Walk.{has, asDrawn}
-use Rattle.string_clip.specs.Paths.{travelOf, linesOf}
+use Rattle.clip_walk.specs.Walk.{has, asDrawn, linesIn}
+use Rattle.string_clip.specs.Paths.{travelOf}
+use Rattle.string_clip.specs.Writing.{travelOver}
 
 -- ---- line bits that are set
 one-is : (m : ℕ) → m < 2 → one (eqb m 1) ≡ m
@@ -35,5 +41,18 @@ module _ (s : Segment) (e : endsInRange s ≡ true) where
       let b = both-r (inRange (s .a)) (inRange (s .b)) e in
       omega (arith, abs-- (s .b .x) (s .a .x), abs-- (s .b .y) (s .a .y), near-x (s .a) a, near-x (s .b) b, near-y (s .a) a, near-y (s .b) b)
 
-  pub link-bound : linesOf s * travelOf (asDrawn true s) ≤ 134217728
-  link-bound = N.mul-le-mul {n₂ = 2} {m₂ = 67108864} (omega (arith, lines-are (natAbs (s .bits)))) step-bound
+  pub link-bound : (bits : ℕ) → linesIn bits * travelOf (asDrawn true s) ≤ 134217728
+  link-bound bits = N.mul-le-mul {n₂ = 2} {m₂ = 67108864} (omega (arith, lines-are bits)) step-bound
+
+-- of all links
+pub travel-bound : (links : Drawing) (bits : List ℕ) → ((s : Segment) → s ∈ links → endsInRange s ≡ true) → travelOver links bits ≤ length links * 134217728
+unfolding travelOver
+travel-bound [] bits h = omega arith
+travel-bound (s ∷ links) [] h = omega arith
+travel-bound (s ∷ links) (b ∷ bits) h = omega (arith, link-bound s (h s (inl refl)) b, travel-bound links bits (λ t m. h t (inr m)))
+
+-- from one link on
+pub travel-next : (links : Drawing) (bits : List ℕ) (i : ℕ) → i < length links → i < length bits
+    → travelOver (drop i links) (drop i bits) ≡ linesIn (getD bits i 0) * travelOf (asDrawn true (segmentAt links i)) + travelOver (drop (i + 1) links) (drop (i + 1) bits)
+unfolding travelOver segmentAt
+travel-next links bits i h k = rw (add-one, drop-cons links i nowhere h, drop-cons bits i 0 k)

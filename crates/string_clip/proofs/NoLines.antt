@@ -19,9 +19,12 @@ use Rattle.segm.proofs.Tallies.{keep-map}
 use Rattle.graph.specs.Nodes.{node}
 use Rattle.clip_walk.specs.Walk.{has, clear, lineBits, Step, asDrawn, Move, move, isLeft, taken, takenAll, bitsLeft, firstLeft, bothMoves, begins, way, over, fitting, goesOn, andThen, follow, pathFrom, walkFrom, walk}
 use Rattle.string_clip.specs.Paths.{through, finished, pathPoints}
-use Rattle.string_clip.specs.Writing.{linksPaths}
 use Rattle.clip_walk.proofs.Moves.{none-set}
 use Rattle.clip_walk.proofs.Unroll.{turn}
+
+-- all paths of links, by their own line bits
+abbrev pub linksPaths : Drawing → List (List Point)
+linksPaths links = map (pathPoints links) (walk links)
 
 -- ---- one entry more
 -- where entry k stands once another is put in at place n

@@ -7,13 +7,13 @@ use mathlib.Core.Bool.{Bool, true, false, cond}
 use Prim.Native.Nat.{ℕ, zero, suc, _+_, _<_, _≤_}
 use native.Mathlib.Omega.{arith}
 use lib.ListN.{length, length-map, length-reverse}
-use lib.IntN.{natAbs}
 use Rattle.geom.specs.declared.Point.{Point}
 use Rattle.segm.specs.Lists.{_∈_, tally, one}
 use Rattle.segm.specs.Segments.{Drawing}
 use Rattle.segm.proofs.Tallies.{tally-++}
 use Rattle.clip_walk.specs.Walk.{has, lineBits, Step, step, asDrawn, Move, takenAll, bitsLeft, begins, way, over, andThen, pathFrom, walkFrom, walk}
 use Rattle.string_clip.specs.Paths.{through, finished, pathPoints, stepsFrom, stepsOfPath, stepsOf}
+use Rattle.string_clip.specs.Writing.{bitsPaths}
 use Rattle.clip_walk.proofs.Moves.{Proper, worth, ones, begins-some, begins-none, Chain, drawnBy, path-does}
 use Rattle.clip_walk.proofs.Unroll.{turn}
 
@@ -83,10 +83,12 @@ no-worth f (s ∷ links) (b ∷ bits) e = go (has true b) (has false b) e (no-wo
     go false true h ih = absurd (omega arith)
     go false false h ih = omega (arith, ih (omega arith))
 
-all-worth : (links : Drawing) → worth ones links (lineBits links) ≡ bitsLeft (lineBits links)
+-- the bits that are left, of those that have a link
+pub few-worth : (links : Drawing) (bits : List ℕ) → worth ones links bits ≤ bitsLeft bits
 unfolding worth bitsLeft tally
-all-worth [] = refl
-all-worth (s ∷ links) = ap (λ z. (one (has true (natAbs (s .bits))) + one (has false (natAbs (s .bits)))) + z) (all-worth links)
+few-worth [] bits = omega arith
+few-worth (s ∷ links) [] = omega arith
+few-worth (s ∷ links) (b ∷ bits) = omega (arith, few-worth links bits)
 
 module _ (links : Drawing) where
   -- from the bits that are left on
@@ -103,9 +105,8 @@ module _ (links : Drawing) where
       go (some m) (inl e) ih = omega (arith, ap length e, path-long links bits m)
       go (some m) (inr i) ih = ih (takenAll bits (pathFrom links bits m)) path i
 
-  pub walk-long : (path : List Point) → path ∈ map (pathPoints links) (walk links) → Long path
-  unfolding walk
-  walk-long path i = from-long (bitsLeft (lineBits links)) (lineBits links) path i
+  pub paths-long : (bits : List ℕ) (path : List Point) → path ∈ bitsPaths links bits → Long path
+  paths-long bits path i = from-long (bitsLeft bits) bits path i
 
   module _ (proper : Proper links) where
     -- with turns enough for the bits that are left, the walk takes them all
@@ -125,7 +126,11 @@ module _ (links : Drawing) where
             let fewer : worth ones links after ≤ turns = omega (arith, does .0 ones, path-some links bits m) in
             omega (arith, tally-++ f (stepsOfPath (pathPoints links path)) (stepsOf (pathsFrom turns after)), path-steps f links bits m (does .1), ih after fewer f, does .0 f)
 
-    -- what the steps of the walk come to, for any worth of a step
+    -- what the steps of a walk come to, for any worth of a step
+    pub bits-steps : (bits : List ℕ) (f : Step → ℕ) → tally f (stepsOf (bitsPaths links bits)) ≡ worth f links bits
+    bits-steps bits f = from-steps (bitsLeft bits) bits (few-worth links bits) f
+
+    -- and those of all line bits of the links
     pub walk-steps : (f : Step → ℕ) → tally f (stepsOf (map (pathPoints links) (walk links))) ≡ worth f links (lineBits links)
     unfolding walk
-    walk-steps f = from-steps (bitsLeft (lineBits links)) (lineBits links) (omega (arith, all-worth links)) f
+    walk-steps f = bits-steps (lineBits links) f

@@ -4,12 +4,11 @@ use mathlib.Core.Bool.{Bool, true, false}
 use Prim.Native.Nat.{ℕ, _+_}
 use lib.IntN.{natAbs, _-ℤ_}
 use Rattle.geom.specs.declared.Point.{Point}
-use Rattle.segm.specs.declared.Segment.{Segment}
 use Rattle.segm.specs.Segments.{Drawing}
 use Rattle.fill_rule.specs.declared.Rule.{Rule}
 use Rattle.build.specs.declared.links.Filter.{Filter}
 use Rattle.build.specs.Links.{keptLinks}
-use Rattle.clip_walk.specs.Walk.{linesIn, Step, step, Move, over, walk}
+use Rattle.clip_walk.specs.Walk.{Step, step, Move, over, walk}
 
 -- the points that moves come through, the first included
 unfoldable pub through : Drawing → Bool → List Move → List Point
@@ -49,7 +48,3 @@ stepsOf (path ∷ paths) = stepsOfPath path ++ stepsOf paths
 -- the travel of a step: |dx| + |dy|
 unfoldable pub travelOf : Step → ℕ
 travelOf σ = natAbs (σ .end .x -ℤ σ .start .x) + natAbs (σ .end .y -ℤ σ .start .y)
-
--- how many line bits are set in a segment
-abbrev pub linesOf : Segment → ℕ
-linesOf s = linesIn (natAbs (s .bits))

@@ -1,31 +1,17 @@
--- What the code asks of its links, and what it writes: the points of moves named by ends, one path, and all paths. Assumes nothing.
+-- What the code asks of its links, and what it writes: the points of moves named by ends, one path, all paths, and their travel. Assumes nothing.
 use mathlib.Core.Path.{_≡_}
 use mathlib.Core.List.{List, [], _∷_, map, flatten}
 use mathlib.Core.Bool.{Bool, true}
-use Prim.Native.Nat.{ℕ, _≤_}
+use Prim.Native.Nat.{ℕ, _+_, _*_}
 use lib.ListN.{length, getD}
-use lib.IntN.{pos}
-use lib.Signed.{_≤ℤ_}
 use Rattle.geom.specs.declared.Point.{Point}
-use Rattle.geom.specs.Points.{ltP}
-use Rattle.segm.specs.declared.Segment.{Segment}
-use Rattle.segm.specs.Lists.{_∈_}
 use Rattle.segm.specs.Segments.{Drawing}
 use Rattle.ends.specs.Ends.{endPoint}
-use Rattle.graph.specs.Nodes.{otherEnd, Rising, Nodes}
-use Rattle.checks.specs.Drawing.{endsInRange}
-use Rattle.clip_walk.specs.Walk.{has, Move, move, pathFrom, walk}
+use Rattle.graph.specs.Nodes.{otherEnd, Nodes}
+use Rattle.checks.specs.Accepted.{Good}
+use Rattle.clip_walk.specs.Walk.{has, asDrawn, Move, move, linesIn, bitsLeft, pathFrom, walkFrom}
 use Rattle.string_clip.specs.declared.run.Written.{Written}
-use Rattle.string_clip.specs.Paths.{finished, pathPoints}
-
--- ---- links
--- what the links of an accepted drawing have, whichever are kept
-pub record Kept (links : Drawing) : Type 0 where
-  pub few : length links ≤ 1024
-  pub near : (s : Segment) → s ∈ links → endsInRange s ≡ true
-  pub proper : (s : Segment) → s ∈ links → ltP (s .a) (s .b) ≡ true
-  pub bits : (s : Segment) → s ∈ links → (pos 0 ≤ℤ s .bits) × (s .bits ≤ℤ pos 3)
-  pub rising : Rising links
+use Rattle.string_clip.specs.Paths.{finished, pathPoints, travelOf}
 
 -- ---- points
 -- the points that the moves which leave these ends come through
@@ -42,17 +28,23 @@ endsPoints links out es = finished out (throughEnds links es)
 abbrev pub pathAt : Drawing → List ℕ → ℕ → List Move
 pathAt links bits k = pathFrom links bits (move k (has true (getD bits k 0)))
 
--- what a walk over links needs of its lists
+-- what a walk over links needs of its lists. The links are all segments of a drawing, and only their ends count: their line bits are those of the list
 pub record Walking (links : Drawing) (flat starts nodes bits : List ℕ) : Type 0 where
-  pub kept : Kept links
+  pub good : Good links
   pub nodes-are : Nodes links flat starts nodes
   pub as-many : length bits ≡ length links
 
 -- ---- all paths
--- of the links that a run keeps
-abbrev pub linksPaths : Drawing → List (List Point)
-linksPaths links = map (pathPoints links) (walk links)
+-- those of the line bits of a list
+abbrev pub bitsPaths : Drawing → List ℕ → List (List Point)
+bitsPaths links bits = map (pathPoints links) (walkFrom (bitsLeft bits) links bits)
 
 -- how many paths and points these are
 abbrev pub writtenOf : List (List Point) → Written
 writtenOf paths = record { paths = length paths; points = length (flatten paths) }
+
+-- the travel of all steps over links, one for each line bit of the list
+unfoldable pub travelOver : Drawing → List ℕ → ℕ
+travelOver [] bits = 0
+travelOver (s ∷ links) [] = 0
+travelOver (s ∷ links) (b ∷ bits) = linesIn b * travelOf (asDrawn true s) + travelOver links bits

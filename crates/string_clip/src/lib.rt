@@ -14,7 +14,7 @@ ghost use mathlib.Core.Logic.{_↔_};
 ghost use Prim.Native.Nat.{_*_, _≤_};
 ghost use lib.ListN.{length};
 ghost use lib.IntN.{pos};
-ghost use Rattle.segm.specs.Segments.{width, segments};
+ghost use Rattle.segm.specs.Segments.{segments};
 ghost use Rattle.contour.specs.Points.{Writes};
 ghost use Rattle.graph.specs.Nodes.{NodesIn};
 ghost use Rattle.count_up.specs.CountUp.{Counted};
@@ -46,7 +46,7 @@ pub struct Both {
     pub outside: Clipped,
 }
 
-// Clips an accepted drawing with its nodes and top counts. The list `links` is working memory.
+// Clips an accepted drawing with its nodes and top counts. The lists `bits` and `moves` are working memory.
 fn clip_with(
     s: &[i32],
     rule: Rule,
@@ -55,7 +55,8 @@ fn clip_with(
     starts: &[u16],
     nodes: &[u16],
     tops: &[i32],
-    links: &mut [i32],
+    bits: &mut [u8],
+    moves: &mut [u16],
     points: &mut [i32],
     lengths: &mut [u32],
 ) -> Totals
@@ -63,15 +64,26 @@ fn clip_with(
         × NodesIn (segments (now s)) (now flat) (now starts) (now nodes)
         × Counted (segments (now s)) (now tops)
         × (length (segments (now s)) ≤ length (now tops))
-        × (length (segments (now s)) * width ≤ length (now links))
+        × (length (segments (now s)) ≤ length (now bits))
+        × (2 * length (segments (now s)) ≤ length (now moves))
         × (8 * length (segments (now s)) ≤ length (now points))
         × (2 * length (segments (now s)) ≤ length (now lengths)) ⌝ }
     ensures { λ r. ⌜ (r ≡ totals (clipPaths rule filter (segments (now (s .entry)))))
         × Writes (clipPaths rule filter (segments (now (s .entry)))) (now (points .entry)) (now (lengths .entry)) (now (points .exit)) (now (lengths .exit)) ⌝ }
 {
-    build::masked_links(s, rule, filter, tops, links);
-    let n = segm::size(segm::count(s));
-    clip_links(&links[..n], flat, starts, nodes, points, lengths)
+    let m = segm::count(s);
+    let e = 2 * m;
+    build::masked_bits(s, rule, filter, tops, &mut bits[..m]);
+    clip_links(
+        s,
+        &flat[..e],
+        starts,
+        &nodes[..e],
+        &mut bits[..m],
+        moves,
+        points,
+        lengths,
+    )
 }
 
 // Clips an accepted drawing with its nodes and top counts, with memory for a small drawing or for any.
@@ -96,7 +108,8 @@ fn clip_accepted(
         × Writes (clipPaths rule filter (segments (now (s .entry)))) (now (points .entry)) (now (lengths .entry)) (now (points .exit)) (now (lengths .exit)) ⌝ }
 {
     if segm::count(s) <= segm::SMALL {
-        let mut links = [0i32; 768];
+        let mut bits = [0u8; segm::SMALL];
+        let mut moves = [0u16; 256];
         return clip_with(
             s,
             rule,
@@ -105,12 +118,14 @@ fn clip_accepted(
             starts,
             nodes,
             tops,
-            &mut links,
+            &mut bits,
+            &mut moves,
             points,
             lengths,
         );
     }
-    let mut links = [0i32; segm::MOST];
+    let mut bits = [0u8; 1024];
+    let mut moves = [0u16; 2048];
     clip_with(
         s,
         rule,
@@ -119,7 +134,8 @@ fn clip_accepted(
         starts,
         nodes,
         tops,
-        &mut links,
+        &mut bits,
+        &mut moves,
         points,
         lengths,
     )

@@ -11,13 +11,17 @@ count-requires c κs = search needs
 slice-aggregate-clip-with : tie.Need-slice-aggregate-clip-with
 slice-aggregate-clip-with c = search needs
 
+slice-aggregate-clip-with-2 : tie.Need-slice-aggregate-clip-with-2
+slice-aggregate-clip-with-2 c = search needs
+
 clip-with-requires : tie.Need-clip-with-requires
 clip-with-requires c κs =
-    let t = c .before .before .before in
+    let t = c .before .before .before .before in
     let k = t .before in
     let s = k .before .before .before .before .before in
     let p = s .pre in
-    (p .0, p .1, p .2, p .3, omega (arith, length-segments (s .args .s .now), k .count .ensures, t .if1 .taken), p .4, p .5)
+    let n = length-segments (s .args .s .now) in
+    (p .0, p .1, p .2, p .3, omega (arith, n, k .count .ensures, t .if1 .taken), omega (arith, n, k .count .ensures, t .if1 .taken), p .4, p .5)
 
 same-length : tie.Need-same-length
 same-length c = search needs
@@ -28,11 +32,17 @@ same-length-2 c = search needs
 returns : tie.Need-returns
 returns c = search needs
 
-slice-aggregate-clip-with-2 : tie.Need-slice-aggregate-clip-with-2
-slice-aggregate-clip-with-2 c = search needs
+slice-aggregate-clip-with-3 : tie.Need-slice-aggregate-clip-with-3
+slice-aggregate-clip-with-3 c = search needs
+
+slice-aggregate-clip-with-4 : tie.Need-slice-aggregate-clip-with-4
+slice-aggregate-clip-with-4 c = search needs
 
 clip-with-requires-2 : tie.Need-clip-with-requires-2
-clip-with-requires-2 c κs = search needs
+clip-with-requires-2 c κs =
+    let k = c .before .before .before .before .before in
+    let p = k .before .before .before .before .before .pre in
+    (p .0, p .1, p .2, p .3, omega (arith, p .0 .few), omega (arith, p .0 .few), p .4, p .5)
 
 same-length-3 : tie.Need-same-length-3
 same-length-3 c = search needs
@@ -49,11 +59,13 @@ clip-accepted-spec =
     (tie.spec
     count-requires
     slice-aggregate-clip-with
+    slice-aggregate-clip-with-2
     clip-with-requires
     same-length
     same-length-2
     returns
-    slice-aggregate-clip-with-2
+    slice-aggregate-clip-with-3
+    slice-aggregate-clip-with-4
     clip-with-requires-2
     same-length-3
     same-length-4

@@ -1,93 +1,111 @@
--- The masked links stand at the front of the list that they were laid to, and have the nodes of the drawing. Assumes nothing.
+-- The parts of the working memory that the drawing needs are lent and come back, the line bits in theirs. Assumes nothing.
 use borrow.Author.Needs.{needs}
 use mathlib.Core.Path.{_≡_, sym, ap, subst, _∙_}
-use mathlib.Core.List.{List}
+use mathlib.Core.List.{List, _++_}
 use native.Mathlib.Omega.{arith}
 use Prim.Native.Nat.{ℕ, _*_, _≤_}
-use lib.ListN.{length, take}
-use lib.Seq.{length-take-le}
-use lib.IntN.{ℤ}
+use lib.ListN.{length, take, drop}
+use lib.Seq.{length-take-le, length-front}
 use Rattle.geom.specs.declared.Point.{Point}
-use Rattle.segm.specs.Segments.{Drawing, width, segments}
+use Rattle.segm.specs.Segments.{Drawing, segments}
 use Rattle.segm.proofs.Segments.{length-segments}
-use Rattle.segm.proofs.Laid.{segments-written}
-use Rattle.graph.specs.Nodes.{NodesIn}
-use Rattle.build.specs.Links.{masked}
+use Rattle.ends.proofs.Parts.{prefix-back, prefix-length}
+use Rattle.graph.specs.Nodes.{Nodes}
+use Rattle.graph.proofs.Fronts.{front-nodes, ends-room, numbers-room}
+use Rattle.build.specs.Links.{maskedBits}
 use Rattle.contour.specs.Points.{Writes}
 use Rattle.string_clip.specs.Paths.{clipPaths}
 use Rattle.string_clip.specs.Run.{totals}
-use Rattle.string_clip.specs.Writing.{Kept, linksPaths}
-use Rattle.string_clip.proofs.Masked.{masked-paths, masked-kept, length-masked, masked-nodes}
+use Rattle.string_clip.specs.Writing.{Walking, bitsPaths}
+use Rattle.string_clip.proofs.Masked.{masked-paths}
 use Rattle.string_clip.proofs.clip_with.Statement.{statement}
 use Rattle.string_clip.proofs.clip_with.Tie as tie
-
-masked-links-requires : tie.Need-masked-links-requires
-masked-links-requires c κs = search needs
 
 count-requires : tie.Need-count-requires
 count-requires c κs = search needs
 
--- what was counted
-module _ (q : tie.After-count) where
-  abbrev k : tie.After-masked-links
-  k = q .before .before
-
+module _ (k : tie.After-count) where
   abbrev s : tie.Start
-  s = k .before .before .before .before .before .before
+  s = k .before .before .before .before .before .before .before
 
   abbrev d : Drawing
   d = segments (s .args .s .now)
 
-  number : q .count .result ≡ length d
-  number = q .count .ensures ∙ sym (length-segments (s .args .s .now))
+  abbrev m : ℕ
+  m = k .count .result
 
-  abbrev links : Drawing
-  links = masked (s .args .rule) (s .args .filter) d
+  m-is : m ≡ length d
+  m-is = k .count .ensures ∙ sym (length-segments (s .args .s .now))
 
-  as-many : length links ≡ length d
-  as-many = length-masked (s .args .rule) (s .args .filter) d
+  -- the nodes, in the parts of the lists that are theirs
+  nodes-are : Nodes d (take (2 * m) (s .args .flat .now)) (s .args .starts .now) (take (2 * m) (s .args .nodes .now))
+  nodes-are = front-nodes d (s .args .flat .now) (s .args .starts .now) (s .args .nodes .now) (s .pre .1) m m-is
 
-size-requires : tie.Need-size-requires
-size-requires c κs = omega (arith, number c, s c .pre .0 .few)
+  flat-room : 2 * m ≤ length (s .args .flat .now)
+  flat-room = ends-room d (s .args .flat .now) (s .args .starts .now) (s .args .nodes .now) (s .pre .1) m m-is
 
-module _ (z : tie.After-size) where
-  abbrev q : tie.After-count
-  q = z .before
+  nodes-room : 2 * m ≤ length (s .args .nodes .now)
+  nodes-room = numbers-room d (s .args .flat .now) (s .args .starts .now) (s .args .nodes .now) (s .pre .1) m m-is
 
-  abbrev list : List ℤ
-  list = k q .masked-links .last .1 .1 .1 .1 .0
+  bits-room : m ≤ length (s .args .bits .now)
+  bits-room = omega (arith, m-is, s .pre .4)
 
-  size-is : z .size .result ≡ length (links q) * width
-  size-is = z .size .ensures ∙ ap (_* width) (number q ∙ sym (as-many q))
+mul-e : tie.Need-mul-e
+mul-e c = record { fits = omega (arith, m-is c, s c .pre .0 .few) }
 
-  room : z .size .result ≤ length list
-  room = omega (arith, size-is, as-many q, s q .pre .0 .few, k q .masked-links .kept .1 .1 .1 .1 .0, s q .pre .4)
+slice-relend-prefix-masked-bits : tie.Need-slice-relend-prefix-masked-bits
+slice-relend-prefix-masked-bits c = bits-room c
 
-  links-are : segments (take (z .size .result) list) ≡ links q
-  links-are =
-      ap (λ (n : ℕ). segments (take n list)) size-is
-      ∙ ap (λ (l : List ℤ). segments (take (length (links q) * width) l)) (k q .masked-links .ensures)
-      ∙ segments-written (links q) (s q .args .links .now)
+slice-aggregate-masked-bits : tie.Need-slice-aggregate-masked-bits
+slice-aggregate-masked-bits c = sym (length-take-le _ _ (bits-room (c .before)))
 
-  paths-are : linksPaths (segments (take (z .size .result) list)) ≡ clipPaths (s q .args .rule) (s q .args .filter) (d q)
-  paths-are = ap linksPaths links-are ∙ masked-paths (s q .args .rule) (s q .args .filter) (d q)
+masked-bits-requires : tie.Need-masked-bits-requires
+masked-bits-requires c κs = let n = c .before in let p = s n .pre in (p .0, p .2, p .3, length-take-le _ _ (bits-room n) ∙ m-is n)
 
-slice-reshare-prefix-clip-links : tie.Need-slice-reshare-prefix-clip-links
-slice-reshare-prefix-clip-links c = room c
+-- the line bits, in the part that came back
+module _ (i : tie.After-masked-bits) where
+  abbrev k : tie.After-count
+  k = i .before .before
+
+  abbrev written : List ℕ
+  written = i .masked-bits .last .1 .1 .1 .1 .0
+
+  abbrev bits-after : List ℕ
+  bits-after = written ++ drop (m k) (s k .args .bits .now)
+
+  bits-back : take (m k) bits-after ≡ maskedBits (s k .args .rule) (s k .args .filter) (d k)
+  bits-back = prefix-back (m k) (s k .args .bits .now) written (bits-room k) (i .masked-bits .kept .1 .1 .1 .1 .0) ∙ i .masked-bits .ensures
+
+  bits-number : length (take (m k) bits-after) ≡ m k
+  bits-number = prefix-length (m k) (s k .args .bits .now) written (bits-room k) (i .masked-bits .kept .1 .1 .1 .1 .0)
+
+  walking : Walking (d k) (take (2 * m k) (s k .args .flat .now)) (s k .args .starts .now) (take (2 * m k) (s k .args .nodes .now)) (take (m k) bits-after)
+  walking = record { good = s k .pre .0; nodes-are = nodes-are k; as-many = bits-number ∙ m-is k }
+
+  paths-are : bitsPaths (d k) (take (m k) bits-after) ≡ clipPaths (s k .args .rule) (s k .args .filter) (d k)
+  paths-are = ap (λ (b : List ℕ). bitsPaths (d k) b) bits-back ∙ masked-paths (s k .args .rule) (s k .args .filter) (d k)
 
 slice-aggregate-clip-links : tie.Need-slice-aggregate-clip-links
-slice-aggregate-clip-links c = sym (length-take-le _ _ (room (c .before)))
+slice-aggregate-clip-links c = sym (length-take-le _ _ (flat-room (k (c .before .before .before))))
+
+slice-aggregate-clip-links-2 : tie.Need-slice-aggregate-clip-links-2
+slice-aggregate-clip-links-2 c = sym (length-take-le _ _ (nodes-room (k (c .before .before .before .before))))
+
+slice-relend-prefix-clip-links : tie.Need-slice-relend-prefix-clip-links
+slice-relend-prefix-clip-links c = let i = c .before .before .before .before in omega (arith, bits-room (k i), length-front (s (k i) .args .bits .now) (written i) (m (k i)) (i .masked-bits .kept .1 .1 .1 .1 .0))
+
+slice-aggregate-clip-links-3 : tie.Need-slice-aggregate-clip-links-3
+slice-aggregate-clip-links-3 c = sym (bits-number (c .before .before .before .before .before))
 
 clip-links-requires : tie.Need-clip-links-requires
 clip-links-requires c κs =
-    let z = c .before .before .before in
-    let p = s (q z) .pre in
-    let a = s (q z) .args in
-    let n : length (segments (take (z .size .result) (list z))) ≡ length (d (q z)) = ap length (links-are z) ∙ as-many (q z) in (
-      subst Kept (sym (links-are z)) (masked-kept (a .rule) (a .filter) (d (q z)) (p .0)),
-      subst (λ (e : Drawing). NodesIn e (a .flat .now) (a .starts .now) (a .nodes .now)) (sym (links-are z)) (masked-nodes (a .rule) (a .filter) (d (q z)) (a .flat .now) (a .starts .now) (a .nodes .now) (p .1)),
-      omega (arith, n, p .5),
-      omega (arith, n, p .6),
+    let i = c .before .before .before .before .before .before .before .before in
+    let n = k i in
+    let p = s n .pre in (
+      walking i,
+      omega (arith, bits-number i, m-is n, p .5),
+      omega (arith, bits-number i, m-is n, p .6),
+      omega (arith, bits-number i, m-is n, p .7),
     )
 
 same-length : tie.Need-same-length
@@ -99,26 +117,34 @@ same-length-2 c = search needs
 same-length-3 : tie.Need-same-length-3
 same-length-3 c = search needs
 
+same-length-4 : tie.Need-same-length-4
+same-length-4 c = search needs
+
 returns : tie.Need-returns
 returns c =
-    let l = c .before .before .before in
-    let z = l .before .before .before .before in
-    let a = s (q z) .args in (
-      l .clip-links .ensures .0 ∙ ap totals (paths-are z),
-      subst (λ (p : List (List Point)). Writes p (a .points .now) (a .lengths .now) (l .clip-links .last .1 .1 .1 .1 .0) (l .clip-links .last .1 .1 .1 .1 .1 .0)) (paths-are z) (l .clip-links .ensures .1),
+    let l = c .before .before .before .before .before .before .before in
+    let i = l .before .before .before .before .before .before .before .before .before in
+    let a = s (k i) .args in (
+      l .clip-links .ensures .0 ∙ ap totals (paths-are i),
+      subst (λ (p : List (List Point)). Writes p (a .points .now) (a .lengths .now) (l .clip-links .last .1 .1 .1 .1 .1 .1 .0) (l .clip-links .last .1 .1 .1 .1 .1 .1 .1 .0)) (paths-are i) (l .clip-links .ensures .1),
     )
 
 pub clip-with-spec : {M : Type 1} → statement M
 clip-with-spec =
     tie.close
     (tie.spec
-    masked-links-requires
     count-requires
-    size-requires
-    slice-reshare-prefix-clip-links
+    mul-e
+    slice-relend-prefix-masked-bits
+    slice-aggregate-masked-bits
+    masked-bits-requires
     slice-aggregate-clip-links
+    slice-aggregate-clip-links-2
+    slice-relend-prefix-clip-links
+    slice-aggregate-clip-links-3
     clip-links-requires
     same-length
     same-length-2
     same-length-3
+    same-length-4
     returns)

@@ -11,21 +11,21 @@ use Rattle.segm.specs.Segments.{Drawing, segments}
 use Rattle.contour.specs.Points.{Writes}
 use Rattle.clip_walk.specs.Walk.{bitsLeft, takenAll}
 use Rattle.string_clip.specs.Paths.{pathPoints}
-use Rattle.string_clip.specs.Writing.{pathAt, linksPaths}
-use Rattle.string_clip.proofs.Found.{walk-found, found-fit}
+use Rattle.string_clip.specs.Writing.{pathAt, bitsPaths}
+use Rattle.string_clip.proofs.Found.{bits-found, found-fit}
 use Rattle.string_clip.proofs.AllPaths.{Walked, none-yet, pass, fewer, points-fit, paths-fit, more, whole}
 use Rattle.string_clip.proofs.run.write_paths.Statement.{statement}
 use Rattle.string_clip.proofs.run.write_paths.Tie as tie
 
-record State (links : Drawing) (points₀ : List ℤ) (lengths₀ moves₀ bits moves : List ℕ) (points : List ℤ) (lengths : List ℕ) (paths at k : ℕ) : Type 0 where
-  walked : Walked links points₀ lengths₀ bits points lengths paths at k
+record State (links : Drawing) (bits₀ : List ℕ) (points₀ : List ℤ) (lengths₀ moves₀ bits moves : List ℕ) (points : List ℤ) (lengths : List ℕ) (paths at k : ℕ) : Type 0 where
+  walked : Walked links bits₀ points₀ lengths₀ bits points lengths paths at k
   moves-room : length moves ≡ length moves₀
   points-room : length points ≡ length points₀
   lengths-room : length lengths ≡ length lengths₀
 
 abbrev Inv-loop : tie.InvT-loop
 Inv-loop links flat starts nodes bits₀ moves₀ points₀ lengths₀ m paths₀ at₀ k₀ bits moves points lengths paths at k =
-    State (segments links) points₀ lengths₀ moves₀ bits moves points lengths paths at k
+    State (segments links) bits₀ points₀ lengths₀ moves₀ bits moves points lengths paths at k
 
 abbrev μ-loop : tie.MeasureT-loop
 μ-loop links flat starts nodes bits₀ moves₀ points₀ lengths₀ m paths₀ at₀ k₀ bits moves points lengths paths at k = bitsLeft bits + (m - k)
@@ -34,7 +34,7 @@ loop-holds : tie.Need-loop-holds Inv-loop μ-loop
 loop-holds c =
     let s = c .before .before .before .before .before .before in
     record {
-      walked = none-yet (segments (s .args .links .now)) (s .args .points .now) (s .args .lengths .now) (s .args .bits .now) (s .pre .1) (s .pre .0 .as-many);
+      walked = none-yet (segments (s .args .links .now)) (s .args .bits .now) (s .args .points .now) (s .args .lengths .now) (s .pre .0 .as-many);
       moves-room = refl;
       points-room = refl;
       lengths-room = refl;
@@ -47,18 +47,21 @@ module _ (l : tie.At-loop Inv-loop μ-loop) where
   abbrev links : Drawing
   links = segments (s .args .links .now)
 
-  abbrev w : Walked links (s .args .points .now) (s .args .lengths .now) (l .loop .bits) (l .loop .points) (l .loop .lengths) (l .loop .paths) (l .loop .at) (l .loop .k)
+  abbrev bits₀ : List ℕ
+  bits₀ = s .args .bits .now
+
+  abbrev w : Walked links bits₀ (s .args .points .now) (s .args .lengths .now) (l .loop .bits) (l .loop .points) (l .loop .lengths) (l .loop .paths) (l .loop .at) (l .loop .k)
   w = l .loop .inv .walked
 
   -- all points and paths fit in the lists
-  all-fit : (2 * length (flatten (linksPaths links)) ≤ 8 * length (s .args .bits .now)) × (length (linksPaths links) ≤ 2 * length (s .args .bits .now))
-  all-fit = found-fit (walk-found links (s .pre .0 .kept .proper)) (length (s .args .bits .now)) (omega (arith, s .pre .0 .as-many))
+  all-fit : (2 * length (flatten (bitsPaths links bits₀)) ≤ 8 * length bits₀) × (length (bitsPaths links bits₀) ≤ 2 * length bits₀)
+  all-fit = found-fit (bits-found links (s .pre .0 .good .proper) bits₀) (length bits₀) (omega arith)
 
 slice-read-if1 : tie.Need-slice-read-if1 Inv-loop μ-loop
 slice-read-if1 c = let l = c .before .before in omega (arith, c .before .loop-test .taken, w l .as-many, s l .pre .0 .as-many)
 
 add-k : tie.Need-add-k Inv-loop μ-loop
-add-k c = let l = c .before .before .before in record { fits = omega (arith, c .before .before .loop-test .taken, s l .pre .0 .as-many, s l .pre .0 .kept .few) }
+add-k c = let l = c .before .before .before in record { fits = omega (arith, c .before .before .loop-test .taken, s l .pre .0 .as-many, s l .pre .0 .good .few) }
 
 loop-less : tie.Need-loop-less Inv-loop μ-loop
 loop-less c = let l = c .before .before .before in omega (arith, c .before .before .loop-test .taken)
@@ -67,7 +70,7 @@ loop-again : tie.Need-loop-again Inv-loop μ-loop
 loop-again c =
     let l = c .before .before .before in
     record {
-      walked = pass (links l) (w l) (c .if1 .taken);
+      walked = pass (links l) (bits₀ l) (w l) (c .if1 .taken);
       moves-room = l .loop .inv .moves-room;
       points-room = l .loop .inv .points-room;
       lengths-room = l .loop .inv .lengths-room;
@@ -89,37 +92,37 @@ module _ (e : tie.Else1 Inv-loop μ-loop) where
   points-room : 2 * (l .loop .at + length found) ≤ length (l .loop .points)
   points-room = omega (
     arith,
-    points-fit (links l) (w l) inside line,
+    points-fit (links l) (bits₀ l) (w l) inside line,
     all-fit l,
-    s l .pre .3,
+    s l .pre .2,
     l .loop .inv .points-room,
   )
 
   paths-room : l .loop .paths < length (s l .args .lengths .now)
   paths-room = omega (
     arith,
-    paths-fit (links l) (w l) inside line,
+    paths-fit (links l) (bits₀ l) (w l) inside line,
     all-fit l,
-    s l .pre .4,
+    s l .pre .3,
   )
 
   few-paths : l .loop .paths < 2048
   few-paths = omega (
     arith,
-    paths-fit (links l) (w l) inside line,
+    paths-fit (links l) (bits₀ l) (w l) inside line,
     all-fit l,
     s l .pre .0 .as-many,
-    s l .pre .0 .kept .few,
+    s l .pre .0 .good .few,
   )
 
   -- few points
   few : l .loop .at + length found ≤ 4096
   few = omega (
     arith,
-    points-fit (links l) (w l) inside line,
+    points-fit (links l) (bits₀ l) (w l) inside line,
     all-fit l,
     s l .pre .0 .as-many,
-    s l .pre .0 .kept .few,
+    s l .pre .0 .good .few,
   )
 
 mul-next-path : tie.Need-mul-next-path Inv-loop μ-loop
@@ -141,10 +144,10 @@ next-path-requires : tie.Need-next-path-requires Inv-loop μ-loop
 next-path-requires c κs =
     let e = c .before .before .before in
     let p = s (l e) .pre in (
-      record { kept = p .0 .kept; nodes-are = p .0 .nodes-are; as-many = w (l e) .as-many },
+      record { good = p .0 .good; nodes-are = p .0 .nodes-are; as-many = w (l e) .as-many },
       omega (arith, inside e, w (l e) .as-many),
       line e,
-      omega (arith, w (l e) .as-many, p .0 .as-many, p .2, l e .loop .inv .moves-room),
+      omega (arith, w (l e) .as-many, p .0 .as-many, p .1, l e .loop .inv .moves-room),
       omega (
         arith,
         points-room e,
@@ -168,11 +171,11 @@ module _ (n : tie.After-next-path Inv-loop μ-loop) where
       take (2 * l e .loop .at) (l e .loop .points)
       ++ (n .next-path .last .1 .1 .1 .1 .1 .1 .1 .0 ++ drop (length (l e .loop .points) - 2 * l e .loop .at) (drop (2 * l e .loop .at) (l e .loop .points)))
 
-  walked-on : Walked (links (l e)) (s (l e) .args .points .now) (s (l e) .args .lengths .now) (n .next-path .last .1 .1 .1 .1 .0) points-after (set (l e .loop .lengths) (l e .loop .paths) (n .next-path .result)) (l e .loop .paths + 1) (l e .loop .at + n .next-path .result) (l e .loop .k)
+  walked-on : Walked (links (l e)) (bits₀ (l e)) (s (l e) .args .points .now) (s (l e) .args .lengths .now) (n .next-path .last .1 .1 .1 .1 .0) points-after (set (l e .loop .lengths) (l e .loop .paths) (n .next-path .result)) (l e .loop .paths + 1) (l e .loop .at + n .next-path .result) (l e .loop .k)
   walked-on =
-      subst (λ (b : List ℕ). Walked (links (l e)) (s (l e) .args .points .now) (s (l e) .args .lengths .now) b points-after (set (l e .loop .lengths) (l e .loop .paths) (n .next-path .result)) (l e .loop .paths + 1) (l e .loop .at + n .next-path .result) (l e .loop .k)) (sym after-is)
-      (subst (λ m. Walked (links (l e)) (s (l e) .args .points .now) (s (l e) .args .lengths .now) (takenAll (l e .loop .bits) (pathAt (links (l e)) (l e .loop .bits) (l e .loop .k))) points-after (set (l e .loop .lengths) (l e .loop .paths) m) (l e .loop .paths + 1) (l e .loop .at + m) (l e .loop .k)) (sym number)
-      (more (links (l e)) (w (l e)) (inside e) (line e) _ (n .next-path .ensures .1) (paths-room e)))
+      subst (λ (b : List ℕ). Walked (links (l e)) (bits₀ (l e)) (s (l e) .args .points .now) (s (l e) .args .lengths .now) b points-after (set (l e .loop .lengths) (l e .loop .paths) (n .next-path .result)) (l e .loop .paths + 1) (l e .loop .at + n .next-path .result) (l e .loop .k)) (sym after-is)
+      (subst (λ m. Walked (links (l e)) (bits₀ (l e)) (s (l e) .args .points .now) (s (l e) .args .lengths .now) (takenAll (l e .loop .bits) (pathAt (links (l e)) (l e .loop .bits) (l e .loop .k))) points-after (set (l e .loop .lengths) (l e .loop .paths) m) (l e .loop .paths + 1) (l e .loop .at + m) (l e .loop .k)) (sym number)
+      (more (links (l e)) (bits₀ (l e)) (w (l e)) (inside e) (line e) _ (n .next-path .ensures .1) (paths-room e)))
 
 cast-lengths : tie.Need-cast-lengths Inv-loop μ-loop
 cast-lengths c = let n = c .before .before .before .before .before in record { fits = omega (arith, number n, few (e n)) }
@@ -195,7 +198,7 @@ loop-less-2 c =
     omega (
       arith,
       ap bitsLeft (after-is n),
-      fewer (links (l (e n))) (w (l (e n))) (inside (e n)) (line (e n)),
+      fewer (links (l (e n))) (bits₀ (l (e n))) (w (l (e n))) (inside (e n)) (line (e n)),
     )
 
 loop-again-2 : tie.Need-loop-again-2 Inv-loop μ-loop
@@ -225,7 +228,7 @@ returns : tie.Need-returns Inv-loop μ-loop
 returns c =
     let l = c .before in
     let a = s l .args in
-    let q : w l .done ≡ linksPaths (links l) = whole (links l) (w l) (omega (arith, c .loop-test .left, s l .pre .0 .as-many)) in (
+    let q : w l .done ≡ bitsPaths (links l) (bits₀ l) = whole (links l) (bits₀ l) (w l) (omega (arith, c .loop-test .left, s l .pre .0 .as-many)) in (
       ap₂ (λ (p : ℕ) (t : ℕ). record { paths = p; points = t }) (w l .paths-are ∙ ap length q) (w l .at-is ∙ ap (λ (d : List (List Point)). length (flatten d)) q),
       subst (λ (d : List (List Point)). Writes d (a .points .now) (a .lengths .now) (l .loop .points) (l .loop .lengths)) q (w l .writes),
     )

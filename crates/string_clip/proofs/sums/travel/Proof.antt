@@ -1,58 +1,50 @@
--- The sum so far is the travel over the links passed. Assumes nothing.
+-- The sum so far and the travel over the links to come are the whole. Assumes nothing.
 use borrow.Author.Needs.{needs}
-use mathlib.Core.Path.{_≡_, refl, sym, ap, ap₂, _∙_}
+use mathlib.Core.Path.{_≡_, ap, _∙_}
+use mathlib.Core.List.{List, []}
 use mathlib.Core.Bool.{true}
 use native.Mathlib.Omega.{arith}
 use Prim.Native.Nat.{ℕ, _+_, _*_, _-_, _<_}
-use lib.ListN.{length, take}
-use lib.Seq.{take-all}
+use lib.ListN.{length, getD, drop, drop-of-length-le}
 use Rattle.segm.specs.declared.Segment.{Segment}
-use Rattle.segm.specs.Lists.{tally}
-use Rattle.segm.specs.Segments.{Drawing, segments, nowhere, segmentAt}
-use Rattle.segm.proofs.Tallies.{tally-take, tally-part, tally-bound}
-use Rattle.segm.proofs.Segments.{count-inside, count-past, segment-in}
-use Rattle.clip_walk.specs.Walk.{asDrawn}
-use Rattle.string_clip.specs.Paths.{travelOf, linesOf}
-use Rattle.string_clip.proofs.Links.{link-bound}
+use Rattle.segm.specs.Segments.{Drawing, segments, segmentAt}
+use Rattle.segm.proofs.Segments.{segment-in}
+use Rattle.clip_walk.specs.Walk.{asDrawn, linesIn}
+use Rattle.string_clip.specs.Paths.{travelOf}
+use Rattle.string_clip.specs.Writing.{travelOver}
+use Rattle.string_clip.proofs.Links.{travel-bound, travel-next}
 use Rattle.string_clip.proofs.sums.travel.Statement.{statement}
 use Rattle.string_clip.proofs.sums.travel.Tie as tie
 
--- of all steps over a link
-abbrev over : Segment → ℕ
-over s = linesOf s * travelOf (asDrawn true s)
-
 abbrev Inv-loop : tie.InvT-loop
-Inv-loop links n sum₀ i₀ sum i = sum ≡ tally over (take i (segments links))
+Inv-loop links bits sum₀ i₀ sum i = sum + travelOver (drop i (segments links)) (drop i bits) ≡ travelOver (segments links) bits
 
 abbrev μ-loop : tie.MeasureT-loop
-μ-loop links n sum₀ i₀ sum i = n - i
-
-count-requires : tie.Need-count-requires Inv-loop μ-loop
-count-requires c κs = search needs
+μ-loop links bits sum₀ i₀ sum i = length bits - i
 
 loop-holds : tie.Need-loop-holds Inv-loop μ-loop
-unfolding tally
-loop-holds c = refl
+loop-holds c = omega arith
 
-segment-at-requires : tie.Need-segment-at-requires Inv-loop μ-loop
-segment-at-requires c κs = search needs
+segment-in-requires : tie.Need-segment-in-requires Inv-loop μ-loop
+segment-in-requires c κs = search needs
 
--- the place looked at
-inside : (c : tie.In-loop Inv-loop μ-loop) → c .before .loop .i < length (segments (c .before .before .before .args .links .now))
-inside c = let n = c .before .before in count-inside (n .before .args .links .now) (n .count .ensures) (c .loop-test .taken)
+shared-slice-read-link-travel : tie.Need-shared-slice-read-link-travel Inv-loop μ-loop
+shared-slice-read-link-travel c = search needs
 
 link-travel-requires : tie.Need-link-travel-requires Inv-loop μ-loop
 link-travel-requires c κs =
-    let l = c .before .before in
+    let o = c .before in
+    let l = o .before .before in
     let s = l .before .before in
-    let m = segment-in (segments (s .args .links .now)) (l .loop .i) (c .segment-at .ensures) (inside (c .before)) in
-    let b = s .pre .bits (c .segment-at .result) m in
-    (s .pre .near (c .segment-at .result) m, b .0, b .1)
+    s .pre .0 .near (o .segment-in .result) (segment-in (segments (s .args .links .now)) (l .loop .i) (o .segment-in .ensures) (omega arith))
 
--- the new sum
+-- one link more
 module _ (c : tie.After-link-travel Inv-loop μ-loop) where
+  abbrev o : tie.After-segment-in Inv-loop μ-loop
+  o = c .before .before
+
   abbrev l : tie.At-loop Inv-loop μ-loop
-  l = c .before .before .before
+  l = o .before .before
 
   abbrev s : tie.Start Inv-loop μ-loop
   s = l .before .before
@@ -60,13 +52,19 @@ module _ (c : tie.After-link-travel Inv-loop μ-loop) where
   abbrev d : Drawing
   d = segments (s .args .links .now)
 
-  next : l .loop .sum + c .link-travel .result ≡ tally over (take (l .loop .i + 1) d)
-  unfolding segmentAt
-  next = ap₂ _+_ (l .loop .inv) (c .link-travel .ensures ∙ ap over (c .before .segment-at .ensures)) ∙ sym (tally-take over d nowhere (l .loop .i) (inside (c .before .before)))
+  abbrev bits : List ℕ
+  bits = s .args .bits .now
+
+  link : c .link-travel .result ≡ linesIn (getD bits (l .loop .i) 0) * travelOf (asDrawn true (segmentAt d (l .loop .i)))
+  link = c .link-travel .ensures ∙ ap (λ (t : Segment). linesIn (getD bits (l .loop .i) 0) * travelOf (asDrawn true t)) (o .segment-in .ensures)
+
+  next : (l .loop .sum + c .link-travel .result) + travelOver (drop (l .loop .i + 1) d) (drop (l .loop .i + 1) bits) ≡ travelOver d bits
+  next =
+      let here : l .loop .i < length bits = o .before .loop-test .taken in
+      omega (arith, link, l .loop .inv, travel-next d bits (l .loop .i) (omega (arith, s .pre .1)) here)
 
 add-sum : tie.Need-add-sum Inv-loop μ-loop
-add-sum c =
-    record { fits = omega (arith, next c, tally-part over (d c) (l c .loop .i + 1), tally-bound over 134217728 (d c) (λ t m. link-bound t (s c .pre .near t m)), s c .pre .few) }
+add-sum c = record { fits = omega (arith, next c, travel-bound (d c) (bits c) (s c .pre .0 .near), s c .pre .0 .few) }
 
 add-i : tie.Need-add-i Inv-loop μ-loop
 add-i c = search needs
@@ -78,11 +76,12 @@ loop-again : tie.Need-loop-again Inv-loop μ-loop
 loop-again c = next c
 
 returns : tie.Need-returns Inv-loop μ-loop
+unfolding travelOver
 returns c =
     let l = c .before in
-    let n = l .before in
-    let links = n .before .args .links .now in
-    l .loop .inv ∙ ap (tally over) (take-all (l .loop .i) (segments links) (count-past links (n .count .ensures) (c .loop-test .left)))
+    let s = l .before .before in
+    let past : drop (l .loop .i) (segments (s .args .links .now)) ≡ [] = drop-of-length-le (segments (s .args .links .now)) {i = l .loop .i} (omega (arith, c .loop-test .left, s .pre .1)) in
+    omega (arith, l .loop .inv, ap (λ (e : Drawing). travelOver e (drop (l .loop .i) (s .args .bits .now))) past)
 
 pub travel-spec : {M : Type 1} → statement M
 travel-spec =
@@ -90,9 +89,9 @@ travel-spec =
     (tie.spec
     Inv-loop
     μ-loop
-    count-requires
     loop-holds
-    segment-at-requires
+    segment-in-requires
+    shared-slice-read-link-travel
     link-travel-requires
     add-sum
     add-i
