@@ -3,5 +3,4 @@ pub mod Merged
 pub mod Node
 pub mod Numbering
 pub mod Parts
-pub mod Same
 pub mod Fronts
