@@ -1,3 +1,4 @@
 pub mod Sides
 pub mod Made
+pub mod Stages
 pub mod Cases

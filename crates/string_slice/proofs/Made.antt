@@ -1,4 +1,4 @@
--- Walks that were written are read back: as their points, their directions, and the contours that are cut from them.
+-- What the first stage answers and leaves, and how the second reads it back: the walks' points, their directions, and the contours that are cut from them.
 use mathlib.Core.Path.{_≡_, refl, sym, _∙_, ap, ap₂, subst}
 use mathlib.Core.List.{List, [], _∷_, _++_, map, flatten, append-nil}
 use mathlib.Core.Option.{Option, none, some}
@@ -17,19 +17,24 @@ use Rattle.contour.specs.Points.{coordinates, pairUp, AllInRange, cut}
 use Rattle.contour.proofs.Coordinates.{pair-coordinates}
 use Rattle.contour.proofs.Areas.{near-all}
 use Rattle.contour.proofs.CutWritten.{cut-written, tally-lengths}
+use Rattle.checks.specs.declared.Verdict.{Verdict}
+use Rattle.checks.specs.declared.Verdict.the-variants as verdict-is
 use Rattle.checks.specs.Accepted.{Good}
 use Rattle.fill_rule.specs.declared.Rule.{Rule}
 use Rattle.clip_walk.specs.Walk.{Move, bitsLeft}
 use Rattle.clip_walk.proofs.Flat.{bits-few}
 use Rattle.slice_walk.specs.declared.Walks.{Walks}
-use Rattle.slice_walk.specs.declared.Walks.the-variants.{Done, Stuck}
+use Rattle.slice_walk.specs.declared.Walks.the-variants as walks-are
 use Rattle.slice_walk.specs.Walk.{walks, directionOf, walkPoints}
 use Rattle.slice_walk.specs.Writing.{allPoints, directions, WalksAre}
 use Rattle.slice_walk.proofs.AllWalks.{length-all, walk-near, walks-few}
 use Rattle.slice_cut.specs.declared.Contours.{Contours}
 use Rattle.string_slice.specs.declared.Sliced.the-variants as sliced-is
+use Rattle.string_slice.specs.declared.walking.Walked.{Walked}
+use Rattle.string_slice.specs.declared.walking.Walked.the-variants.{Done, Refused}
 use Rattle.slice_cut.specs.Cutting.{counts}
-use Rattle.string_slice.specs.Run.{outcome, handedOver}
+use Rattle.string_slice.specs.Run.{outcome, handedOver, answered}
+use Rattle.string_slice.specs.Walking.{WalkedAre}
 use Rattle.contour.specs.Contour.{Contour}
 use Rattle.slice_cut.specs.Cutting.{walkContours}
 use Rattle.string_slice.specs.Contours.{sideBits, allContours, sliceContours, ofWalks}
@@ -53,10 +58,31 @@ cut-contours clockwise least links [] = refl
 cut-contours clockwise least links (w ∷ ws) =
     ap₂ (λ b (rest : List Contour). walkContours clockwise least b (walkPoints links w) ++ rest) (direction-back (directionOf w)) (cut-contours clockwise least links ws)
 
--- ---- how walks can end: not both
-not-both : {X : Type 0} {n : ℕ} → Done n ≡ Stuck → X
-not-both e = let z : _≡_ {A = ℕ} 0 1 = cc in let bad : ⊥ = omega arith in absurd bad
+-- ---- the answer of the first stage, where the drawing is accepted
+not-both : {X : Type 0} → _≡_ {A = ℕ} 0 1 → X
+not-both z = let bad : ⊥ = omega arith in absurd bad
 
+module _ (links : Drawing) (points₀ : List ℤ) (lengths₀ directions₀ : List ℕ) (r : Walks) (points : List ℤ) (lengths dirs : List ℕ) where
+  pub walked-done : (o : Option (List (List Move))) {n : ℕ} → WalksAre links o points₀ lengths₀ directions₀ r points lengths dirs → r ≡ walks-are.Done n
+      → WalkedAre verdict-is.Accepted links o (Done n) points lengths dirs
+  walked-done none w e = not-both (cc)
+  walked-done (some ws) w e =
+      let paths = allPoints links ws in
+      let l = ap (take (length ws)) (w .1 .lengths-are) ∙ take-written (map length paths) lengths₀ (length ws) (omega (arith, length-map paths length, length-map ws (walkPoints links))) in (
+        cc,
+        record {
+          lengths-are = l;
+          paths-are = ap₂ pathsIn (w .1 .points-are) l ∙ paths-written paths points₀;
+          directions-are = ap (take (length ws)) (w .2) ∙ take-written (directions ws) directions₀ (length ws) (omega (arith, length-map ws (λ walk. one (directionOf walk))));
+        },
+      )
+
+  pub walked-stuck : (o : Option (List (List Move))) → WalksAre links o points₀ lengths₀ directions₀ r points lengths dirs → r ≡ walks-are.Stuck
+      → WalkedAre verdict-is.Accepted links o (Refused 12 0) points lengths dirs
+  walked-stuck none w e = refl
+  walked-stuck (some ws) w e = not-both (cc)
+
+-- ---- what it tells the second stage
 -- n walks, as they are read
 pub record Made (links : Drawing) (o : Option (List (List Move))) (n : ℕ) (points : List ℤ) (lengths dirs : List ℕ) : Type 0 where
   pub found : List (List Move)
@@ -66,25 +92,30 @@ pub record Made (links : Drawing) (o : Option (List (List Move))) (n : ℕ) (poi
   pub paths-are : pathsIn points (take n lengths) ≡ allPoints links found
   pub directions-are : take n dirs ≡ directions found
 
-module _ (links : Drawing) (points₀ : List ℤ) (lengths₀ directions₀ : List ℕ) (r : Walks) (points : List ℤ) (lengths dirs : List ℕ) where
-  pub stuck : (o : Option (List (List Move))) → WalksAre links o points₀ lengths₀ directions₀ r points lengths dirs → r ≡ Stuck → o ≡ none
-  stuck none w e = refl
-  stuck (some ws) w e = not-both (sym (w .0) ∙ e)
+module _ (links : Drawing) (r : Walked) (points : List ℤ) (lengths dirs : List ℕ) where
+  -- a refusal is the run's, and nothing is written
+  pub refused : (f : List (List Move) → List Contour) (v : Verdict) (o : Option (List (List Move))) {number place : ℕ} {outs : List ℤ} {counted roles : List ℕ} → WalkedAre v links o r points lengths dirs
+      → r ≡ Refused number place → outcome (sliced-is.Refused number place) outs counted roles ≡ answered v (ofWalks f o) outs counted roles
+  refused f (verdict-is.Refused number place) o w e = cc
+  refused f verdict-is.Accepted none w e = cc
+  refused f verdict-is.Accepted (some ws) w e = not-both (cc)
 
-  pub made : (o : Option (List (List Move))) {n : ℕ} → WalksAre links o points₀ lengths₀ directions₀ r points lengths dirs → r ≡ Done n → Made links o n points lengths dirs
-  made none w e = not-both (sym e ∙ w)
-  made (some ws) {n} w e =
-      let paths = allPoints links ws in
-      let q : Done n ≡ Done (length ws) = sym e ∙ w .0 in
+  pub accepted : (v : Verdict) (o : Option (List (List Move))) {n : ℕ} → WalkedAre v links o r points lengths dirs → r ≡ Done n → v ≡ verdict-is.Accepted
+  accepted (verdict-is.Refused number place) o w e = not-both (cc)
+  accepted verdict-is.Accepted o w e = refl
+
+  pub made : (v : Verdict) (o : Option (List (List Move))) {n : ℕ} → WalkedAre v links o r points lengths dirs → r ≡ Done n → Made links o n points lengths dirs
+  made (verdict-is.Refused number place) o w e = not-both (cc)
+  made verdict-is.Accepted none w e = not-both (cc)
+  made verdict-is.Accepted (some ws) {n} w e =
       let k : n ≡ length ws = cc in
-      let l = ap (take n) (w .1 .lengths-are) ∙ take-written (map length paths) lengths₀ n (omega (arith, k, length-map paths length, length-map ws (walkPoints links))) in
       record {
         found = ws;
         are = refl;
         number = k;
-        lengths-are = l;
-        paths-are = ap₂ pathsIn (w .1 .points-are) l ∙ paths-written paths points₀;
-        directions-are = ap (take n) (w .2) ∙ take-written (directions ws) directions₀ n (omega (arith, k, length-map ws (λ walk. one (directionOf walk))));
+        lengths-are = ap (λ i. take i lengths) k ∙ w .1 .lengths-are;
+        paths-are = ap (λ i. pathsIn points (take i lengths)) k ∙ w .1 .paths-are;
+        directions-are = ap (λ i. take i dirs) k ∙ w .1 .directions-are;
       }
 
 -- ---- the walks of an accepted drawing
@@ -114,10 +145,6 @@ module _ (rule : Rule) (d : Drawing) (good : Good d) {n : ℕ} {points : List �
   contours-are clockwise least =
       ap some (ap₂ (cutWalks clockwise least) (m .paths-are) (m .directions-are) ∙ cut-contours clockwise least d (m .found))
       ∙ ap (ofWalks (allContours clockwise least d)) (sym (m .are))
-
-pub no-contours : (rule : Rule) (d : Drawing) → walks d (sideBits rule d) ≡ none → (clockwise : Bool) (least : ℕ) → none ≡ sliceContours rule clockwise least d
-unfolding sliceContours
-no-contours rule d e clockwise least = ap (ofWalks (allContours clockwise least d)) (sym e)
 
 -- ---- the outcome
 pub handed : (o : Option (List Contour)) (contours : List Contour) {r : Contours} {points₀ points : List ℤ} {lengths₀ roles₀ lengths roles : List ℕ} → some contours ≡ o → r ≡ counts contours

@@ -1,17 +1,36 @@
-// The walks of an accepted drawing: over all its segments, each with its side bits.
+// The first stage of a slice: a drawing's check and, where it is accepted, its walks, over all segments, each with its side bits. The memory for its nodes and
+// top counts ends with this stage.
+use checks::Verdict;
 use fill_rule::Rule;
 use slice_walk::Walks;
 ghost use mathlib.Core.Path.{_≡_};
 ghost use mathlib.Core.List.{map};
-ghost use Prim.Native.Nat.{_*_, _%_, _≤_, _<_};
+ghost use Prim.Native.Nat.{_*_, _%_, _≤_};
 ghost use lib.ListN.{length};
 ghost use Rattle.segm.specs.Segments.{segments};
 ghost use Rattle.graph.specs.Nodes.{NodesIn};
 ghost use Rattle.count_up.specs.CountUp.{Counted};
 ghost use Rattle.checks.specs.Accepted.{Good};
+ghost use Rattle.checks.specs.Search.{RoomOf};
 ghost use Rattle.slice_walk.specs.Walk.{walks};
 ghost use Rattle.slice_walk.specs.Writing.{WalksAre};
 ghost use Rattle.string_slice.specs.Contours.{sideBits};
+ghost use Rattle.string_slice.specs.Walking.{WalkRoom, WalkedOf};
+
+// What a slice run is asked beside its drawing, as far as the check looks at it: its choices, and how long the lent lists are.
+pub struct Asked {
+    pub rule: i32,
+    pub direction: i32,
+    pub points: usize,
+    pub lengths: usize,
+    pub roles: usize,
+}
+
+// What the first stage answers: how many walks there are, or a refusal's number and place.
+pub enum Walked {
+    Done(usize),
+    Refused(u32, usize),
+}
 
 // Leaves of each fill its side bits.
 fn keep_sides(fills: &mut [u8])
@@ -63,38 +82,100 @@ fn walk_links(
     )
 }
 
-// The walks of an accepted drawing with its nodes and top counts: their points, how many each has, and its direction.
-pub fn make_walks(
+// Checks a drawing, and makes its walks where it is accepted. The lists from `flat` to `bits` are working memory.
+fn make_walks_in(
     s: &[i32],
-    rule: Rule,
-    flat: &[u16],
-    starts: &[u16],
-    nodes: &[u16],
-    tops: &[i32],
-    points: &mut [i32],
-    lengths: &mut [u16],
+    asked: Asked,
+    flat: &mut [u16],
+    starts: &mut [u16],
+    nodes: &mut [u16],
+    tops: &mut [i32],
+    bits: &mut [u8],
+    walks: &mut [i32],
+    walk_lengths: &mut [u16],
     directions: &mut [u8],
-) -> Walks
-    requires { ⌜ Good (segments (now s))
-        × NodesIn (segments (now s)) (now flat) (now starts) (now nodes)
-        × Counted (segments (now s)) (now tops)
-        × (length (segments (now s)) ≤ length (now tops))
-        × (4 * length (segments (now s)) ≤ length (now points))
-        × (2 * length (segments (now s)) ≤ length (now lengths))
-        × (2 * length (segments (now s)) ≤ length (now directions)) ⌝ }
-    ensures { λ r. ⌜ WalksAre (segments (now (s .entry))) (walks (segments (now (s .entry))) (sideBits rule (segments (now (s .entry))))) (now (points .entry)) (now (lengths .entry)) (now (directions .entry)) r (now (points .exit)) (now (lengths .exit)) (now (directions .exit)) ⌝ }
+) -> Walked
+    requires { ⌜ RoomOf (now s) (now flat) (now starts) (now nodes) (now tops)
+        × (length (segments (now s)) ≤ 1024 → length (segments (now s)) ≤ length (now bits))
+        × WalkRoom (now s) (now walks) (now «walk_lengths») (now directions) ⌝ }
+    ensures { λ r. ⌜ WalkedOf (now (s .entry)) asked r (now (walks .exit)) (now («walk_lengths» .exit)) (now (directions .exit)) ⌝ }
 {
-    let mut bits = [0u8; 1024];
-    walk_links(
+    match checks::check_slice(
         s,
-        rule,
+        asked.rule,
+        asked.direction,
+        asked.points,
+        asked.lengths,
+        asked.roles,
         flat,
         starts,
         nodes,
         tops,
+    ) {
+        Verdict::Accepted => match walk_links(
+            s,
+            fill_rule::rule_of(asked.rule),
+            flat,
+            starts,
+            nodes,
+            tops,
+            bits,
+            walks,
+            walk_lengths,
+            directions,
+        ) {
+            Walks::Done(n) => Walked::Done(n),
+            Walks::Stuck => Walked::Refused(12, 0),
+        },
+        Verdict::Refused(number, place) => Walked::Refused(number, place),
+    }
+}
+
+// The same, with memory for a small drawing or for any: the walks' points, how many each has, and its direction.
+pub fn make_walks(
+    s: &[i32],
+    asked: Asked,
+    walks: &mut [i32],
+    walk_lengths: &mut [u16],
+    directions: &mut [u8],
+) -> Walked
+    requires { ⌜ WalkRoom (now s) (now walks) (now «walk_lengths») (now directions) ⌝ }
+    ensures { λ r. ⌜ WalkedOf (now (s .entry)) asked r (now (walks .exit)) (now («walk_lengths» .exit)) (now (directions .exit)) ⌝ }
+{
+    if segm::count(s) <= segm::SMALL {
+        let mut flat = [0u16; 256];
+        let mut starts = [0u16; 257];
+        let mut nodes = [0u16; 256];
+        let mut tops = [0i32; segm::SMALL];
+        let mut bits = [0u8; segm::SMALL];
+        return make_walks_in(
+            s,
+            asked,
+            &mut flat,
+            &mut starts,
+            &mut nodes,
+            &mut tops,
+            &mut bits,
+            walks,
+            walk_lengths,
+            directions,
+        );
+    }
+    let mut flat = [0u16; 2048];
+    let mut starts = [0u16; 2049];
+    let mut nodes = [0u16; 2048];
+    let mut tops = [0i32; 1024];
+    let mut bits = [0u8; 1024];
+    make_walks_in(
+        s,
+        asked,
+        &mut flat,
+        &mut starts,
+        &mut nodes,
+        &mut tops,
         &mut bits,
-        points,
-        lengths,
+        walks,
+        walk_lengths,
         directions,
     )
 }
