@@ -29,8 +29,8 @@
 
    The rule is 0 even-odd, 1 nonzero, 2 positive or 3 negative.
 
-   Nothing is allocated. A call needs up to 60 KB of stack for fills and splits, 80 KB for clips and
-   115 KB for slices, whatever the drawing's size. */
+   Nothing is allocated. A call with up to 128 segments needs up to 24 KB of stack for fills, 27 KB for a
+   clip and 73 KB for a slice; with more, 54 KB, 57 KB and 78 KB. A split needs up to 45 KB. */
 
 #ifndef OVERLAY_H
 #define OVERLAY_H
