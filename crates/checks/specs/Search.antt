@@ -1,7 +1,7 @@
 -- What the contracts of the inner functions cite: the code searches for refusals 3 to 8 by place in one loop. Assumes nothing.
 use mathlib.Core.Path.{_≡_}
 use mathlib.Core.List.{List}
-use Prim.Native.Nat.{ℕ, _+_, _*_, _<_, _≤_}
+use Prim.Native.Nat.{ℕ, _*_, _<_, _≤_}
 use lib.ListN.{length, getD, take}
 use lib.IntN.{ℤ, pos}
 use Rattle.segm.specs.Lists.{upFrom}
@@ -61,10 +61,9 @@ pub record Room (d : Drawing) (flat starts nodes : List ℕ) (tops : List ℤ) :
 abbrev pub RoomOf : List ℤ → (flat starts nodes : List ℕ) → List ℤ → Type 0
 RoomOf numbers flat starts nodes tops = Room (segments numbers) flat starts nodes tops
 
--- working memory for what is found by the ends of a drawing: their keys, the open segments, and the sums of the windings at each node
-pub record Memory (d : Drawing) (keys scratch list : List ℕ) (sums : List ℤ) : Type 0 where
+-- working memory for what is found by the ends of a drawing: their keys, and the sums of the windings at each node
+pub record Memory (d : Drawing) (keys scratch : List ℕ) (sums : List ℤ) : Type 0 where
   pub keys-room : 2 * length d ≤ length keys
   pub scratch-room : length d ≤ length scratch
-  pub list-room : length d + 16 ≤ length list
   pub sums-room : 2 * length d ≤ length sums
   pub sums-blank : (v : ℕ) → getD sums v (pos 0) ≡ pos 0

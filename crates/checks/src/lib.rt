@@ -3,7 +3,7 @@
 use geom::Point;
 use segm::Segment;
 ghost use mathlib.Core.Path.{_≡_};
-ghost use Prim.Native.Nat.{ℕ, _+_, _-_, _*_, _<_, _≤_};
+ghost use Prim.Native.Nat.{ℕ, _-_, _*_, _<_, _≤_};
 ghost use lib.ListN.{length, getD, drop};
 ghost use lib.IntN.{pos};
 ghost use Rattle.segm.specs.Lists.{any, upFrom};
@@ -132,17 +132,16 @@ fn find_first(search: Search, s: &[i32]) -> Verdict
 
 // Refusal 8, at the first place of a segment that meets a later one wrongly. The sweep tells whether there is one, and only then are pairs looked at, to name it.
 // Where there is none the sweep has left the top counts.
-fn find_meeting(s: &[i32], flat: &[u16], list: &mut [u16], tops: &mut [i32]) -> Verdict
+fn find_meeting(s: &[i32], flat: &[u16], tops: &mut [i32]) -> Verdict
     requires { ⌜ (let d = segments (now s) in
         Sound d
         × (now flat ≡ ordering (endBefore d) (upFrom 0 (2 * length d)))
-        × (length d + 16 ≤ length (now list))
         × (length d ≤ length (now tops))
         × Within 0 (now tops)) ⌝ }
     ensures { λ r. ⌜ (let d = segments (now (s .entry)) in
         (r ≡ first (meetingAt d) d) × (r ≡ Accepted → Counted d (now (tops .exit)))) ⌝ }
 {
-    if meeting_sweep::is_clear(s, flat, list, tops) {
+    if meeting_sweep::is_clear(s, flat, tops) {
         return Verdict::Accepted;
     }
     find_first(Search::Meetings, s)
@@ -163,12 +162,11 @@ fn find_unbalanced(s: &[i32], nodes: &[u16], sums: &mut [i32]) -> Verdict
     Verdict::Refused(9, place)
 }
 
-// Refusals 8 and 9, by the ordered ends and their nodes; the top counts of a drawing that has neither. The lists `list` and `sums` are working memory.
+// Refusals 8 and 9, by the ordered ends and their nodes; the top counts of a drawing that has neither. The list `sums` is working memory.
 fn find_by_ends(
     s: &[i32],
     flat: &[u16],
     nodes: &[u16],
-    list: &mut [u16],
     sums: &mut [i32],
     tops: &mut [i32],
 ) -> Verdict
@@ -176,7 +174,6 @@ fn find_by_ends(
         Sound d
         × OrderedIn d (now flat)
         × NumberedIn d (now nodes)
-        × (length d + 16 ≤ length (now list))
         × (2 * length d ≤ length (now sums))
         × ((v : ℕ) → getD (now sums) v (pos 0) ≡ pos 0)
         × (length d ≤ length (now tops))
@@ -185,7 +182,7 @@ fn find_by_ends(
         (r ≡ (first (meetingAt d) d then first (unbalancedAt d) d)) × (r ≡ Accepted → Counted d (now (tops .exit)))) ⌝ }
 {
     let e = 2 * segm::count(s);
-    let meetings = find_meeting(s, &flat[..e], list, tops);
+    let meetings = find_meeting(s, &flat[..e], tops);
     let Verdict::Accepted = meetings else {
         return meetings;
     };
@@ -202,17 +199,16 @@ fn check_ends(
     tops: &mut [i32],
     keys: &mut [u64],
     scratch: &mut [u64],
-    list: &mut [u16],
     sums: &mut [i32],
 ) -> Verdict
     requires { ⌜ (let d = segments (now s) in
-        Sound d × Room d (now flat) (now starts) (now nodes) (now tops) × Memory d (now keys) (now scratch) (now list) (now sums)) ⌝ }
+        Sound d × Room d (now flat) (now starts) (now nodes) (now tops) × Memory d (now keys) (now scratch) (now sums)) ⌝ }
     ensures { λ r. ⌜ (let d = segments (now (s .entry)) in
         (r ≡ (first (meetingAt d) d then first (unbalancedAt d) d))
         × (r ≡ Accepted → (NodesIn d (now (flat .exit)) (now (starts .exit)) (now (nodes .exit)) × Counted d (now (tops .exit))))) ⌝ }
 {
     graph::write_nodes(s, flat, starts, nodes, keys, scratch);
-    find_by_ends(s, flat, nodes, list, sums, tops)
+    find_by_ends(s, flat, nodes, sums, tops)
 }
 
 // The same of a small drawing, with memory for that.
@@ -231,7 +227,6 @@ fn check_few(
 {
     let mut keys = [0u64; 256];
     let mut scratch = [0u64; segm::SMALL];
-    let mut list = [0u16; 144];
     let mut sums = [0i32; 256];
     check_ends(
         s,
@@ -241,7 +236,6 @@ fn check_few(
         tops,
         &mut keys,
         &mut scratch,
-        &mut list,
         &mut sums,
     )
 }
@@ -262,7 +256,6 @@ fn check_any(
 {
     let mut keys = [0u64; 2048];
     let mut scratch = [0u64; 1024];
-    let mut list = [0u16; 1040];
     let mut sums = [0i32; 2048];
     check_ends(
         s,
@@ -272,7 +265,6 @@ fn check_any(
         tops,
         &mut keys,
         &mut scratch,
-        &mut list,
         &mut sums,
     )
 }

@@ -82,7 +82,6 @@ fn is_swept(s: &[i32]) -> bool
     let mut tops = [0i32; 1024];
     let mut keys = [0u64; 2048];
     let mut scratch = [0u64; 1024];
-    let mut list = [0u16; 1040];
     graph::write_nodes(
         s,
         &mut flat,
@@ -92,7 +91,7 @@ fn is_swept(s: &[i32]) -> bool
         &mut scratch,
     );
     let e = 2 * segm::count(s);
-    meeting_sweep::is_clear(s, &flat[..e], &mut list, &mut tops)
+    meeting_sweep::is_clear(s, &flat[..e], &mut tops)
 }
 
 // What the sweep says of an accepted drawing: 1, clear, by proof, and the driver looks whether the compiled sweep says so. 2 of a refused one.

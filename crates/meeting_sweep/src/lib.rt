@@ -114,9 +114,8 @@ fn starts_past(s: &[i32], k: usize, e: usize) -> usize
     j
 }
 
-// Whether no two segments meet wrongly, from x to x of the ordered ends. Where none do the tops, which are 0 before, are the top counts. The list is working
-// memory.
-pub fn is_clear(s: &[i32], flat: &[u16], list: &mut [u16], tops: &mut [i32]) -> bool
+// The sweep, from x to x of the ordered ends. The list is working memory; the tops are 0 before it.
+fn sweep(s: &[i32], flat: &[u16], list: &mut [u16], tops: &mut [i32]) -> bool
     requires { ⌜ (let d = segments (now s) in
         Ready d
         × (now flat ≡ ordering (endBefore d) (upFrom 0 (2 * length d)))
@@ -151,4 +150,21 @@ pub fn is_clear(s: &[i32], flat: &[u16], list: &mut [u16], tops: &mut [i32]) -> 
         near = held.near;
     }
     true
+}
+
+// Whether no two segments meet wrongly, of a drawing with its ordered ends. Where none do the tops, which are 0 before, are their top counts.
+pub fn is_clear(s: &[i32], flat: &[u16], tops: &mut [i32]) -> bool
+    requires { ⌜ (let d = segments (now s) in
+        Ready d
+        × (now flat ≡ ordering (endBefore d) (upFrom 0 (2 * length d)))
+        × (length d ≤ length (now tops))
+        × Within 0 (now tops)) ⌝ }
+    ensures { λ r. ⌜ ((r ≡ true) ↔ NoneMeetWrongly (segments (now (s .entry)))) × (r ≡ true → Counted (segments (now (s .entry))) (now (tops .exit))) ⌝ }
+{
+    if segm::count(s) <= segm::SMALL {
+        let mut list = [0u16; 144];
+        return sweep(s, flat, &mut list, tops);
+    }
+    let mut list = [0u16; 1040];
+    sweep(s, flat, &mut list, tops)
 }

@@ -14,11 +14,8 @@ slice-aggregate-check-ends-2 c = search needs
 slice-aggregate-check-ends-3 : tie.Need-slice-aggregate-check-ends-3
 slice-aggregate-check-ends-3 c = search needs
 
-slice-aggregate-check-ends-4 : tie.Need-slice-aggregate-check-ends-4
-slice-aggregate-check-ends-4 c = search needs
-
 check-ends-requires : tie.Need-check-ends-requires
-check-ends-requires c κs = let s = c .before .before .before .before .before .before .before .before .before .before .before in (s .pre .0, s .pre .1, any-ends (segments (s .args .s .now)) (s .pre .0 .few))
+check-ends-requires c κs = let s = c .before .before .before .before .before .before .before .before .before .before in (s .pre .0, s .pre .1, any-ends (segments (s .args .s .now)) (s .pre .0 .few))
 
 same-length : tie.Need-same-length
 same-length c = search needs
@@ -42,7 +39,6 @@ check-any-spec =
     slice-aggregate-check-ends
     slice-aggregate-check-ends-2
     slice-aggregate-check-ends-3
-    slice-aggregate-check-ends-4
     check-ends-requires
     same-length
     same-length-2

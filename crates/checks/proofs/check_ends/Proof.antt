@@ -17,7 +17,7 @@ use Rattle.checks.proofs.check_ends.Tie as tie
 
 write-nodes-requires : tie.Need-write-nodes-requires
 write-nodes-requires c κs =
-    let s = c .before .before .before .before .before .before .before .before .before .before .before in
+    let s = c .before .before .before .before .before .before .before .before .before .before in
     let d = segments (s .args .s .now) in
     let sound = s .pre .0 in
     let few = sound .few in
@@ -28,7 +28,7 @@ write-nodes-requires c κs =
 -- the nodes were written
 module _ (w : tie.After-write-nodes) where
   abbrev s : tie.Start
-  s = w .before .before .before .before .before .before .before .before .before .before .before .before
+  s = w .before .before .before .before .before .before .before .before .before .before .before
 
   abbrev d : Drawing
   d = segments (s .args .s .now)
@@ -50,9 +50,9 @@ module _ (w : tie.After-write-nodes) where
 
 find-by-ends-requires : tie.Need-find-by-ends-requires
 find-by-ends-requires c κs =
-    let w = c .before .before .before .before .before .before .before .before .before .before .before .before .before .before .before in
+    let w = c .before .before .before .before .before .before .before .before .before .before .before .before .before .before in
     let p = s w .pre in
-    (p .0, ordered w, numbers w, p .2 .list-room, p .2 .sums-room, p .2 .sums-blank, p .1 .tops-room (few w), λ i. omega (arith, ap natAbs (p .1 .blank i)))
+    (p .0, ordered w, numbers w, p .2 .sums-room, p .2 .sums-blank, p .1 .tops-room (few w), λ i. omega (arith, ap natAbs (p .1 .blank i)))
 
 same-length : tie.Need-same-length
 same-length c = search needs
@@ -75,13 +75,10 @@ same-length-6 c = search needs
 same-length-7 : tie.Need-same-length-7
 same-length-7 c = search needs
 
-same-length-8 : tie.Need-same-length-8
-same-length-8 c = search needs
-
 returns : tie.Need-returns
 returns c =
-    let f = c .before .before .before .before in
-    let w = f .before .before .before .before .before .before .before .before .before .before .before .before .before .before .before .before in
+    let f = c .before .before in
+    let w = f .before .before .before .before .before .before .before .before .before .before .before .before .before .before .before in
     (f .find-by-ends .ensures .0, λ e. (written w, f .find-by-ends .ensures .1 e))
 
 pub check-ends-spec : {M : Type 1} → statement M
@@ -97,5 +94,4 @@ check-ends-spec =
     same-length-5
     same-length-6
     same-length-7
-    same-length-8
     returns)

@@ -14,11 +14,8 @@ slice-aggregate-check-ends-2 c = search needs
 slice-aggregate-check-ends-3 : tie.Need-slice-aggregate-check-ends-3
 slice-aggregate-check-ends-3 c = search needs
 
-slice-aggregate-check-ends-4 : tie.Need-slice-aggregate-check-ends-4
-slice-aggregate-check-ends-4 c = search needs
-
 check-ends-requires : tie.Need-check-ends-requires
-check-ends-requires c κs = let s = c .before .before .before .before .before .before .before .before .before .before .before in (s .pre .0, s .pre .2, few-ends (segments (s .args .s .now)) (s .pre .1))
+check-ends-requires c κs = let s = c .before .before .before .before .before .before .before .before .before .before in (s .pre .0, s .pre .2, few-ends (segments (s .args .s .now)) (s .pre .1))
 
 same-length : tie.Need-same-length
 same-length c = search needs
@@ -42,7 +39,6 @@ check-few-spec =
     slice-aggregate-check-ends
     slice-aggregate-check-ends-2
     slice-aggregate-check-ends-3
-    slice-aggregate-check-ends-4
     check-ends-requires
     same-length
     same-length-2

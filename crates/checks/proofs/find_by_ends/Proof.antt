@@ -22,7 +22,7 @@ count-requires c κs = search needs
 
 module _ (k : tie.After-count) where
   abbrev s : tie.Start
-  s = k .before .before .before .before
+  s = k .before .before .before
 
   abbrev d : Drawing
   d = segments (s .args .s .now)
@@ -54,7 +54,7 @@ slice-aggregate-find-meeting : tie.Need-slice-aggregate-find-meeting
 slice-aggregate-find-meeting c = let k = c .before in front-length k (s k .args .flat .now) (s k .pre .1 .all-ends)
 
 find-meeting-requires : tie.Need-find-meeting-requires
-find-meeting-requires c κs = let k = c .before .before .before in (s k .pre .0, sym (front k (s k .args .flat .now)) ∙ s k .pre .1 .order, s k .pre .3, s k .pre .6, s k .pre .7)
+find-meeting-requires c κs = let k = c .before .before in (s k .pre .0, sym (front k (s k .args .flat .now)) ∙ s k .pre .1 .order, s k .pre .5, s k .pre .6)
 
 enum-told : tie.Need-enum-told
 enum-told c = search needs
@@ -65,7 +65,7 @@ enum-told-2 c = search needs
 -- the search for 8 was made
 module _ (m : tie.After-find-meeting) where
   abbrev counted : tie.After-count
-  counted = m .before .before .before .before
+  counted = m .before .before .before
 
   found : {v : Verdict} → m .find-meeting .result ≡ v → eight counted ≡ v
   found e = sym (m .find-meeting .ensures .0) ∙ e
@@ -73,34 +73,28 @@ module _ (m : tie.After-find-meeting) where
 same-length : tie.Need-same-length
 same-length c = search needs
 
-same-length-2 : tie.Need-same-length-2
-same-length-2 c = search needs
-
 returns : tie.Need-returns
 returns c =
-    let m = c .before .before .before .before .before in
+    let m = c .before .before .before in
     (m .find-meeting .ensures .0 ∙ sym (refused-then (eight (counted m)) (nine (counted m)) (found m (c .enum-told2 .given .1))), λ t. not-both (sym (c .enum-told2 .given .1) ∙ t))
 
 slice-aggregate-find-unbalanced : tie.Need-slice-aggregate-find-unbalanced
-slice-aggregate-find-unbalanced c = let k = c .before .before .before .before .before .before .before .before .before .before in front-length k (s k .args .nodes .now) (s k .pre .2 .each-end)
+slice-aggregate-find-unbalanced c = let k = c .before .before .before .before .before .before .before in front-length k (s k .args .nodes .now) (s k .pre .2 .each-end)
 
 find-unbalanced-requires : tie.Need-find-unbalanced-requires
-find-unbalanced-requires c κs = let k = c .before .before .before .before .before .before .before .before .before .before .before in (s k .pre .0, subst (Numbered (d k)) (front k (s k .args .nodes .now)) (s k .pre .2 .numbered), s k .pre .4, s k .pre .5)
+find-unbalanced-requires c κs = let k = c .before .before .before .before .before .before .before .before in (s k .pre .0, subst (Numbered (d k)) (front k (s k .args .nodes .now)) (s k .pre .2 .numbered), s k .pre .3, s k .pre .4)
+
+same-length-2 : tie.Need-same-length-2
+same-length-2 c = search needs
 
 same-length-3 : tie.Need-same-length-3
 same-length-3 c = search needs
-
-same-length-4 : tie.Need-same-length-4
-same-length-4 c = search needs
-
-same-length-5 : tie.Need-same-length-5
-same-length-5 c = search needs
 
 returns-2 : tie.Need-returns-2
 returns-2 c =
     let u = c .before in
     let t = u .before .before .before in
-    let m = t .before .before .before .before .before in
+    let m = t .before .before .before in
     (u .find-unbalanced .ensures ∙ sym (ap (λ (v : Verdict). v then nine (counted m)) (found m (t .enum-told .given .1))), λ _. m .find-meeting .ensures .1 (t .enum-told .given .1))
 
 pub find-by-ends-spec : {M : Type 1} → statement M
@@ -114,11 +108,9 @@ find-by-ends-spec =
     enum-told
     enum-told-2
     same-length
-    same-length-2
     returns
     slice-aggregate-find-unbalanced
     find-unbalanced-requires
+    same-length-2
     same-length-3
-    same-length-4
-    same-length-5
     returns-2)

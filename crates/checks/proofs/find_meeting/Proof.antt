@@ -8,34 +8,26 @@ use Rattle.checks.proofs.find_meeting.Statement.{statement}
 use Rattle.checks.proofs.find_meeting.Tie as tie
 
 is-clear-requires : tie.Need-is-clear-requires
-is-clear-requires c κs = let s = c .before .before .before .before in (ready (segments (s .args .s .now)) (s .pre .0), s .pre .1, s .pre .2, s .pre .3, s .pre .4)
+is-clear-requires c κs = let s = c .before .before in (ready (segments (s .args .s .now)) (s .pre .0), s .pre .1, s .pre .2, s .pre .3)
 
 same-length : tie.Need-same-length
 same-length c = search needs
 
-same-length-2 : tie.Need-same-length-2
-same-length-2 c = search needs
-
 returns : tie.Need-returns
-returns c = let k = c .before .before .before .before in let clear = k .is-clear .ensures in (sym (no-meeting (segments (k .before .before .before .before .before .args .s .now)) .1 (clear .0 .0 (c .if1 .taken))), λ _. clear .1 (c .if1 .taken))
+returns c = let clear = c .before .before .is-clear .ensures in (sym (no-meeting (segments (c .before .before .before .before .before .args .s .now)) .1 (clear .0 .0 (c .if1 .taken))), λ _. clear .1 (c .if1 .taken))
 
 find-first-requires : tie.Need-find-first-requires
 find-first-requires c κs =
-    let k = c .before .before .before .before in
-    let s = k .before .before .before .before .before in
-    (s .pre .0, λ e. clash (k .is-clear .ensures .0 .1 (no-meeting (segments (s .args .s .now)) .0 e)) (c .if1 .left))
+    let s = c .before .before .before .before .before in
+    (s .pre .0, λ e. clash (c .before .before .is-clear .ensures .0 .1 (no-meeting (segments (s .args .s .now)) .0 e)) (c .if1 .left))
 
-same-length-3 : tie.Need-same-length-3
-same-length-3 c = search needs
-
-same-length-4 : tie.Need-same-length-4
-same-length-4 c = search needs
+same-length-2 : tie.Need-same-length-2
+same-length-2 c = search needs
 
 returns-2 : tie.Need-returns-2
 returns-2 c =
-    let k = c .before .before .before .before .before in
-    let s = k .before .before .before .before .before in
-    (c .find-first .ensures, λ e. absurd (clash (k .is-clear .ensures .0 .1 (no-meeting (segments (s .args .s .now)) .0 (sym (c .find-first .ensures) ∙ e))) (c .before .if1 .left)))
+    let s = c .before .before .before .before .before .before in
+    (c .find-first .ensures, λ e. absurd (clash (c .before .before .before .is-clear .ensures .0 .1 (no-meeting (segments (s .args .s .now)) .0 (sym (c .find-first .ensures) ∙ e))) (c .before .if1 .left)))
 
 pub find-meeting-spec : {M : Type 1} → statement M
-find-meeting-spec = tie.close (tie.spec is-clear-requires same-length same-length-2 returns find-first-requires same-length-3 same-length-4 returns-2)
+find-meeting-spec = tie.close (tie.spec is-clear-requires same-length returns find-first-requires same-length-2 returns-2)
