@@ -29,7 +29,7 @@
 
    The rule is 0 even-odd, 1 nonzero, 2 positive or 3 negative.
 
-   Nothing is allocated. A call with up to 128 segments needs up to 24 KB of stack for fills, 27 KB for a
+   Nothing is allocated. A call with up to 128 segments needs up to 26 KB of stack for fills, 29 KB for a
    clip and 73 KB for a slice; with more, 54 KB, 57 KB and 78 KB. A split needs up to 45 KB. */
 
 #ifndef OVERLAY_H

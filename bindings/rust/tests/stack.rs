@@ -4,8 +4,8 @@ use jumperclay::{clip, fills, slice, split, ClipRule, Direction, Rule};
 use std::thread;
 
 /// Bytes, as said in `overlay.h`: of a small drawing, with up to 128 segments, and of any.
-const FILLS: [usize; 2] = [24 << 10, 54 << 10];
-const CLIP: [usize; 2] = [27 << 10, 57 << 10];
+const FILLS: [usize; 2] = [26 << 10, 54 << 10];
+const CLIP: [usize; 2] = [29 << 10, 57 << 10];
 const SLICE: [usize; 2] = [73 << 10, 78 << 10];
 const SPLIT: [usize; 2] = [45 << 10; 2];
 /// What the thread and the safe function around the call take for themselves.
