@@ -24,8 +24,8 @@ module _ (numbers : List ℤ) where
   any-memory = record { flat-room = λ h. omega arith; starts-room = λ h. omega arith; nodes-room = λ h. omega arith; tops-room = λ h. omega arith; blank = fresh 1024 }
 
 module _ (d : Drawing) where
-  pub few-ends : length d ≤ 128 → Memory d (replicate 256 0) (replicate 128 0) (replicate 256 (pos 0))
-  few-ends h = record { keys-room = omega arith; scratch-room = omega arith; sums-room = omega arith; sums-blank = fresh 256 }
+  pub small-ends : length d ≤ 128 → Memory d (replicate 256 0) (replicate 128 0) (replicate 256 (pos 0))
+  small-ends h = record { keys-room = omega arith; scratch-room = omega arith; sums-room = omega arith; sums-blank = fresh 256 }
 
   pub any-ends : length d ≤ 1024 → Memory d (replicate 2048 0) (replicate 1024 0) (replicate 2048 (pos 0))
   any-ends h = record { keys-room = omega arith; scratch-room = omega arith; sums-room = omega arith; sums-blank = fresh 2048 }

@@ -13,9 +13,10 @@ use Rattle.count_up.specs.CountUp.{Counted}
 use Rattle.balance.specs.Balance.{Numbered}
 use Rattle.checks.specs.declared.Search.{Search}
 use Rattle.checks.specs.declared.Search.the-variants.{Faults, Meetings}
+use Rattle.checks.specs.declared.Verdict.{Verdict}
 use Rattle.checks.specs.declared.Verdict.the-variants.{Accepted}
-use Rattle.checks.specs.Drawing.{faultAt, meetingAt}
-use Rattle.checks.specs.Verdict.{first}
+use Rattle.checks.specs.Drawing.{faultAt, meetingAt, unbalancedAt}
+use Rattle.checks.specs.Verdict.{first, _then_}
 
 -- what 2 to 7 leave: enough to look at meetings and balance without overflow
 pub record Sound (d : Drawing) : Type 0 where
@@ -67,3 +68,8 @@ pub record Memory (d : Drawing) (keys scratch : List ℕ) (sums : List ℤ) : Ty
   pub scratch-room : length d ≤ length scratch
   pub sums-room : 2 * length d ≤ length sums
   pub sums-blank : (v : ℕ) → getD sums v (pos 0) ≡ pos 0
+
+-- what 8 and 9 find in a drawing that 2 to 7 leave, and what is left of one in which they find nothing: its nodes and top counts
+abbrev pub Checked : Drawing → Verdict → (flat starts nodes : List ℕ) → (tops : List ℤ) → Type 0
+Checked d v flat starts nodes tops =
+    (v ≡ (first (meetingAt d) d then first (unbalancedAt d) d)) × (v ≡ Accepted → (NodesIn d flat starts nodes × Counted d tops))

@@ -12,13 +12,12 @@ ghost use Rattle.ends.specs.Ends.{endBefore};
 ghost use Rattle.ends.specs.Ordering.{ordering};
 ghost use Rattle.meetings.specs.Meetings.{Proper, meetsWrongly};
 ghost use Rattle.count_up.specs.CountUp.{Within, Counted};
-ghost use Rattle.graph.specs.Nodes.{NodesIn};
 ghost use Rattle.balance.specs.Balance.{Numbered};
 ghost use Rattle.checks.specs.declared.Verdict.the-variants.{Accepted};
 ghost use Rattle.checks.specs.Drawing.{fault, faultAt, meetingAt, unbalancedAt};
 ghost use Rattle.checks.specs.Verdict.{wrongLength, unknownChoice, tooShort, first, _then_, inOrder, verdict};
 ghost use Rattle.checks.specs.Runs.{upTo, lent, fillsRun, clipRun, sliceRun};
-ghost use Rattle.checks.specs.Search.{Sound, Ready, numberAt, OrderedIn, NumberedIn, NodesOf, CountedOf, Room, RoomOf, Memory};
+ghost use Rattle.checks.specs.Search.{Sound, Ready, numberAt, OrderedIn, NumberedIn, NodesOf, CountedOf, Room, RoomOf, Memory, Checked};
 
 // What a check finds: nothing wrong, or a refusal's number and place.
 pub enum Verdict {
@@ -189,8 +188,8 @@ fn find_by_ends(
     find_unbalanced(s, &nodes[..e], sums)
 }
 
-// Refusals 8 and 9 of a drawing that 2 to 7 leave, whose ends are ordered for it. An accepted drawing's nodes and top counts are left in the lists before `keys`,
-// which all the same as those from there on are working memory.
+// Refusals 8 and 9 of a drawing that 2 to 7 leave: its ends are ordered for it. All lists are working memory; an accepted drawing's nodes and top counts are left
+// in those before `keys`.
 fn check_ends(
     s: &[i32],
     flat: &mut [u16],
@@ -203,16 +202,14 @@ fn check_ends(
 ) -> Verdict
     requires { ⌜ (let d = segments (now s) in
         Sound d × Room d (now flat) (now starts) (now nodes) (now tops) × Memory d (now keys) (now scratch) (now sums)) ⌝ }
-    ensures { λ r. ⌜ (let d = segments (now (s .entry)) in
-        (r ≡ (first (meetingAt d) d then first (unbalancedAt d) d))
-        × (r ≡ Accepted → (NodesIn d (now (flat .exit)) (now (starts .exit)) (now (nodes .exit)) × Counted d (now (tops .exit))))) ⌝ }
+    ensures { λ r. ⌜ Checked (segments (now (s .entry))) r (now (flat .exit)) (now (starts .exit)) (now (nodes .exit)) (now (tops .exit)) ⌝ }
 {
     graph::write_nodes(s, flat, starts, nodes, keys, scratch);
     find_by_ends(s, flat, nodes, sums, tops)
 }
 
 // The same of a small drawing, with memory for that.
-fn check_few(
+fn check_small(
     s: &[i32],
     flat: &mut [u16],
     starts: &mut [u16],
@@ -221,9 +218,7 @@ fn check_few(
 ) -> Verdict
     requires { ⌜ (let d = segments (now s) in
         Sound d × (length d ≤ 128) × Room d (now flat) (now starts) (now nodes) (now tops)) ⌝ }
-    ensures { λ r. ⌜ (let d = segments (now (s .entry)) in
-        (r ≡ (first (meetingAt d) d then first (unbalancedAt d) d))
-        × (r ≡ Accepted → (NodesIn d (now (flat .exit)) (now (starts .exit)) (now (nodes .exit)) × Counted d (now (tops .exit))))) ⌝ }
+    ensures { λ r. ⌜ Checked (segments (now (s .entry))) r (now (flat .exit)) (now (starts .exit)) (now (nodes .exit)) (now (tops .exit)) ⌝ }
 {
     let mut keys = [0u64; 256];
     let mut scratch = [0u64; segm::SMALL];
@@ -250,9 +245,7 @@ fn check_any(
 ) -> Verdict
     requires { ⌜ (let d = segments (now s) in
         Sound d × Room d (now flat) (now starts) (now nodes) (now tops)) ⌝ }
-    ensures { λ r. ⌜ (let d = segments (now (s .entry)) in
-        (r ≡ (first (meetingAt d) d then first (unbalancedAt d) d))
-        × (r ≡ Accepted → (NodesIn d (now (flat .exit)) (now (starts .exit)) (now (nodes .exit)) × Counted d (now (tops .exit))))) ⌝ }
+    ensures { λ r. ⌜ Checked (segments (now (s .entry))) r (now (flat .exit)) (now (starts .exit)) (now (nodes .exit)) (now (tops .exit)) ⌝ }
 {
     let mut keys = [0u64; 2048];
     let mut scratch = [0u64; 1024];
@@ -269,8 +262,8 @@ fn check_any(
     )
 }
 
-// Every refusal in its order, of which 10 and 11 have been tried. An accepted drawing's nodes and top counts are left in the lists. Whoever needs memory is called
-// last, so that a small drawing has only that of its size on the stack.
+// Every refusal in its order, of which 10 and 11 have been tried. An accepted drawing's nodes and top counts are left in the lists. What needs memory of its own
+// is called last, so that a small drawing has only that of its size on the stack.
 fn in_order(
     s: &[i32],
     unknown: bool,
@@ -302,7 +295,7 @@ fn in_order(
         return faults;
     };
     if n <= segm::SMALL {
-        return check_few(s, flat, starts, nodes, tops);
+        return check_small(s, flat, starts, nodes, tops);
     }
     check_any(s, flat, starts, nodes, tops)
 }

@@ -98,8 +98,8 @@ module _ (c : tie.After-enum-told) where
   two-left : inOrder (wrongLength (s f .args .s .now)) (s f .args .unknown) (s f .args .short) (d f) ≡ (first (meetingAt (d f)) (d f) then first (unbalancedAt (d f)) (d f))
   two-left = searches f ∙ ap (λ (v : Verdict). v then first (meetingAt (d f)) (d f) then first (unbalancedAt (d f)) (d f)) faultless
 
-check-few-requires : tie.Need-check-few-requires
-check-few-requires c κs =
+check-small-requires : tie.Need-check-small-requires
+check-small-requires c κs =
     let e = c .before .before .before .before .before in
     let k = e .before .before .before .before .before .before in
     (sound e, omega (arith, length-segments (s (f e) .args .s .now), k .count .ensures, c .before .before .before .before .if5 .taken), s (f e) .pre)
@@ -120,7 +120,7 @@ returns-6 : tie.Need-returns-6
 returns-6 c =
     let k = c .before .before .before .before .before .before .before in
     let e = k .before .before .before .before .before .before in
-    (k .check-few .ensures .0 ∙ sym (two-left e), k .check-few .ensures .1)
+    (k .check-small .ensures .0 ∙ sym (two-left e), k .check-small .ensures .1)
 
 check-any-requires : tie.Need-check-any-requires
 check-any-requires c κs = let e = c .before .before .before .before .before in (sound e, s (f e) .pre)
@@ -157,7 +157,7 @@ in-order-spec =
     enum-told
     enum-told-2
     returns-5
-    check-few-requires
+    check-small-requires
     same-length
     same-length-2
     same-length-3

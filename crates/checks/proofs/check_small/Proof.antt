@@ -1,9 +1,9 @@
 -- Fresh arrays are memory for a small drawing. Assumes nothing.
 use borrow.Author.Needs.{needs}
 use Rattle.segm.specs.Segments.{segments}
-use Rattle.checks.proofs.Memory.{few-ends}
-use Rattle.checks.proofs.check_few.Statement.{statement}
-use Rattle.checks.proofs.check_few.Tie as tie
+use Rattle.checks.proofs.Memory.{small-ends}
+use Rattle.checks.proofs.check_small.Statement.{statement}
+use Rattle.checks.proofs.check_small.Tie as tie
 
 slice-aggregate-check-ends : tie.Need-slice-aggregate-check-ends
 slice-aggregate-check-ends c = search needs
@@ -15,7 +15,7 @@ slice-aggregate-check-ends-3 : tie.Need-slice-aggregate-check-ends-3
 slice-aggregate-check-ends-3 c = search needs
 
 check-ends-requires : tie.Need-check-ends-requires
-check-ends-requires c κs = let s = c .before .before .before .before .before .before .before .before .before .before in (s .pre .0, s .pre .2, few-ends (segments (s .args .s .now)) (s .pre .1))
+check-ends-requires c κs = let s = c .before .before .before .before .before .before .before .before .before .before in (s .pre .0, s .pre .2, small-ends (segments (s .args .s .now)) (s .pre .1))
 
 same-length : tie.Need-same-length
 same-length c = search needs
@@ -32,8 +32,8 @@ same-length-4 c = search needs
 returns : tie.Need-returns
 returns c = search needs
 
-pub check-few-spec : {M : Type 1} → statement M
-check-few-spec =
+pub check-small-spec : {M : Type 1} → statement M
+check-small-spec =
     tie.close
     (tie.spec
     slice-aggregate-check-ends
