@@ -1,6 +1,6 @@
 -- The nodes that are written have the ordered ends, and the numbers of their nodes. Assumes nothing.
 use borrow.Author.Needs.{needs}
-use mathlib.Core.Path.{_≡_, ap}
+use mathlib.Core.Path.{ap}
 use native.Mathlib.Omega.{arith}
 use Prim.Native.Nat.{_*_, _≤_}
 use lib.ListN.{length, take}
@@ -10,7 +10,7 @@ use Rattle.segm.specs.Segments.{Drawing, segments}
 use Rattle.keys.proofs.Keyed.{near-ends}
 use Rattle.graph.specs.Nodes.{Nodes}
 use Rattle.balance.proofs.Nodes.{numbered}
-use Rattle.checks.specs.Search.{Sound, OrderedIn, NumberedIn}
+use Rattle.checks.specs.Search.{OrderedIn, NumberedIn}
 use Rattle.checks.proofs.Faults.{at, proper-at, rising-starts}
 use Rattle.checks.proofs.check_ends.Statement.{statement}
 use Rattle.checks.proofs.check_ends.Tie as tie

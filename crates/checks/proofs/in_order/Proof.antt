@@ -4,22 +4,15 @@ use borrow.Author.Tests.{not-true, not-false, lt-ltb, le-ltb}
 use mathlib.Core.Path.{_≡_, sym, ap, _∙_}
 use mathlib.Core.Bool.{false}
 use native.Mathlib.Omega.{arith}
-use Prim.Native.Nat.{_*_, _≤_}
-use lib.ListN.{length, take}
-use lib.Seq.{length-take-le}
-use lib.IntN.{natAbs}
+use lib.ListN.{length}
 use Rattle.segm.specs.Segments.{Drawing, count, segments}
 use Rattle.segm.proofs.Segments.{length-segments}
-use Rattle.keys.proofs.Keyed.{near-ends}
-use Rattle.graph.specs.Nodes.{Nodes}
-use Rattle.balance.proofs.Nodes.{numbered}
 use Rattle.checks.specs.declared.Verdict.{Verdict}
 use Rattle.checks.specs.declared.Verdict.the-variants.{Accepted}
 use Rattle.checks.specs.Drawing.{faultAt, meetingAt, unbalancedAt}
 use Rattle.checks.specs.Verdict.{wrongLength, first, _then_, inOrder}
-use Rattle.checks.specs.Search.{Sound, OrderedIn, NumberedIn}
+use Rattle.checks.specs.Search.{Sound}
 use Rattle.checks.proofs.Places.{first-none, not-both}
-use Rattle.checks.proofs.Faults.{at, proper-at, rising-starts}
 use Rattle.checks.proofs.Order.{refused-then}
 use Rattle.checks.proofs.in_order.Statement.{statement}
 use Rattle.checks.proofs.in_order.Tie as tie
