@@ -7,7 +7,8 @@ use lib.Dec.{eqb, ltb}
 use lib.ListN.{length, getD}
 use lib.IntN.{ℤ, pos, _-ℤ_}
 use Rattle.geom.specs.Points.{eqZ}
-use Rattle.segm.specs.Lists.{sum, only, upFrom}
+use Rattle.lists.specs.Sums.{sum, only}
+use Rattle.lists.specs.UpFrom.{upFrom}
 use Rattle.segm.specs.Segments.{Drawing, segmentAt}
 
 -- what end e adds to the balance at its point: its link's winding where that starts, and the opposite where it ends

@@ -10,9 +10,9 @@ use lib.IntN.{ℤ}
 use Rattle.geom.specs.declared.Point.{Point}
 use Rattle.geom.specs.Points.{eqP}
 use Rattle.geom.proofs.Points.{eqP-true}
-use Rattle.segm.specs.Lists.{upFrom}
-use Rattle.segm.proofs.Lists.{getD-map}
-use Rattle.segm.proofs.Tallies.{length-upFrom, upFrom-++}
+use Rattle.lists.specs.UpFrom.{upFrom}
+use Rattle.lists.proofs.Entries.{getD-map}
+use Rattle.lists.proofs.UpFrom.{length-upFrom, upFrom-++}
 use Rattle.contour.specs.Points.{origin}
 use Rattle.bin_store.specs.Sightings.{Sighting, sighting, isSighted, numberOf}
 use Rattle.bin_store.specs.Bins.{pointOf, memory, Unseen}

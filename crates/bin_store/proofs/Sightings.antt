@@ -9,7 +9,7 @@ use Rattle.integers.proofs.Booleans.{clash, or-l, or-r, neither, nor-l, nor-r}
 use Rattle.geom.specs.declared.Point.{Point}
 use Rattle.geom.specs.Points.{eqP}
 use Rattle.geom.proofs.Points.{eq-eqP}
-use Rattle.segm.specs.Lists.{any}
+use Rattle.lists.specs.Members.{any}
 use Rattle.bin_store.specs.Sightings.{Sighting, sighting, isSighted, numberOf, sight}
 
 -- ---- one sighting more

@@ -7,7 +7,7 @@ use lib.ListN.{length, getD, take}
 use lib.IntN.{ℤ, pos, natAbs, _+ℤ_, _*ℤ_}
 use Rattle.geom.specs.declared.Point.{Point}
 use Rattle.geom.specs.Points.{eqP}
-use Rattle.segm.specs.Lists.{upFrom}
+use Rattle.lists.specs.UpFrom.{upFrom}
 use Rattle.contour.specs.Points.{pairUp, origin}
 use Rattle.bin_store.specs.declared.store.BinStore.{BinStore}
 use Rattle.bin_store.specs.Sightings.{Sighting, sighting, numberOf, sight}

@@ -4,7 +4,7 @@ use mathlib.Core.Bool.{Bool, cond}
 use Prim.Native.Nat.{ℕ}
 use Rattle.geom.specs.declared.Point.{Point}
 use Rattle.geom.specs.Points.{eqP}
-use Rattle.segm.specs.Lists.{any}
+use Rattle.lists.specs.Members.{any}
 
 -- a point, and the number that its first sighting stored
 pub record Sighting : Type 0 where

@@ -5,7 +5,9 @@ use mathlib.Core.Bool.{true, false}
 use Prim.Native.Nat.{ℕ}
 use lib.IntN.{ℤ, pos, negsuc}
 use Rattle.geom.specs.Points.{eqZ, within, ltP, eqP, coordinate, inRange, cross, between}
-use Rattle.segm.specs.Lists.{any, sum, written}
+use Rattle.lists.specs.Members.{any}
+use Rattle.lists.specs.Sums.{sum}
+use Rattle.lists.specs.Written.{written}
 use Rattle.segm.specs.Segments.{front, segmentsOf, count, whole, segments, segmentAt, total}
 use Rattle.meetings.specs.Meetings.{side, parts, inside, sameEnds, meetsWrongly}
 use Rattle.balance.specs.Balance.{balance, balances}

@@ -11,7 +11,7 @@ use Rattle.integers.proofs.Order.{abs-in}
 use Rattle.geom.proofs.Points.{within-l, within-r}
 use Rattle.segm.specs.declared.Segment.{Segment}
 use Rattle.segm.specs.Segments.{Drawing, nowhere, segmentAt}
-use Rattle.segm.proofs.Lists.{stands}
+use Rattle.lists.proofs.Members.{stands}
 use Rattle.balance.specs.Balance.{balances, unbalanced, firstPlace, firstUnbalanced, Weighed}
 use Rattle.checks.specs.declared.Verdict.{Verdict}
 use Rattle.checks.specs.declared.Verdict.the-variants.{Accepted, Refused}

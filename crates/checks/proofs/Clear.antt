@@ -5,9 +5,9 @@ use mathlib.Core.Bool.{Bool, false, cond}
 use Prim.Native.Nat.{ℕ, suc, _<_}
 use lib.ListN.{length, drop}
 use Rattle.integers.proofs.Booleans.{clash, is-false}
-use Rattle.segm.specs.Lists.{any}
+use Rattle.lists.specs.Members.{any}
 use Rattle.segm.specs.Segments.{Drawing, nowhere, segmentAt}
-use Rattle.segm.proofs.Lists.{pairs-of, pairs-places, any-false, any-some}
+use Rattle.lists.proofs.Members.{pairs-of, pairs-places, any-false, any-some}
 use Rattle.meetings.specs.Meetings.{meetsWrongly, NoneMeetWrongly}
 use Rattle.neighbours.specs.Neighbours.{Ready}
 use Rattle.checks.specs.declared.Verdict.the-variants.{Accepted}

@@ -11,7 +11,7 @@ use Rattle.geom.specs.declared.Point.{Point}
 use Rattle.geom.specs.Points.{ltP, inRange}
 use Rattle.geom.proofs.Points.{not-less-trans}
 use Rattle.segm.specs.declared.Segment.{Segment}
-use Rattle.segm.specs.Lists.{_∈_, Pairs, any}
+use Rattle.lists.specs.Members.{_∈_, Pairs, any}
 use Rattle.segm.specs.Segments.{Drawing, segmentAt}
 use Rattle.meetings.specs.Meetings.{meetsWrongly, Proper}
 use Rattle.balance.specs.Balance.{balances}

@@ -14,9 +14,9 @@ use Rattle.geom.specs.declared.Point.{Point}
 use Rattle.geom.specs.Points.{within, ltP, eqP}
 use Rattle.geom.proofs.Points.{within-l, within-r, eqZ-true, eqP-true}
 use Rattle.segm.specs.declared.Segment.{Segment}
-use Rattle.segm.specs.Lists.{_∈_, Pairs, any}
+use Rattle.lists.specs.Members.{_∈_, Pairs, any}
 use Rattle.segm.specs.Segments.{Drawing, count, whole, segments, nowhere, segmentAt}
-use Rattle.segm.proofs.Lists.{pairs-map, pairs-places, in-after, any-false}
+use Rattle.lists.proofs.Members.{pairs-map, pairs-places, in-after, any-false}
 use Rattle.segm.proofs.Segments.{length-segments, everywhere, total-none}
 use Rattle.meetings.specs.Meetings.{Proper, sameEnds}
 use Rattle.meetings.proofs.Apart.{apart-ends, same-ends-sym}

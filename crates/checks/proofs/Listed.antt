@@ -11,9 +11,9 @@ use Rattle.geom.specs.declared.Point.{Point}
 use Rattle.geom.specs.Points.{ltP}
 use Rattle.geom.proofs.Points.{ltP-irrefl}
 use Rattle.segm.specs.declared.Segment.{Segment}
-use Rattle.segm.specs.Lists.{_∈_, any}
+use Rattle.lists.specs.Members.{_∈_, any}
 use Rattle.segm.specs.Segments.{Drawing, count, segments, nowhere, segmentAt}
-use Rattle.segm.proofs.Lists.{stands, any-some, any-false, in-after}
+use Rattle.lists.proofs.Members.{stands, any-some, any-false, in-after}
 use Rattle.meetings.specs.Meetings.{meetsWrongly}
 use Rattle.balance.specs.Balance.{balances}
 use Rattle.checks.specs.declared.Verdict.{Verdict}

@@ -9,7 +9,7 @@ use lib.Signed.{_≤ℤ_}
 use Rattle.geom.specs.declared.Point.{Point}
 use Rattle.geom.specs.Points.{ltP}
 use Rattle.segm.specs.declared.Segment.{Segment}
-use Rattle.segm.specs.Lists.{_∈_, Pairs}
+use Rattle.lists.specs.Members.{_∈_, Pairs}
 use Rattle.segm.specs.Segments.{Drawing, count, segments, segmentAt}
 use Rattle.meetings.specs.Meetings.{meetsWrongly, NoneMeetWrongly}
 use Rattle.balance.specs.Balance.{balance, balances}

@@ -6,7 +6,7 @@ use lib.IntN.{pos, negℤ}
 use Rattle.geom.specs.declared.Point.{Point}
 use Rattle.geom.specs.Points.{within, ltP, inRange}
 use Rattle.segm.specs.declared.Segment.{Segment}
-use Rattle.segm.specs.Lists.{any}
+use Rattle.lists.specs.Members.{any}
 use Rattle.segm.specs.Segments.{Drawing, segmentAt}
 use Rattle.meetings.specs.Meetings.{meetsWrongly}
 use Rattle.balance.specs.Balance.{balances}

@@ -6,8 +6,8 @@ use native.Mathlib.Nat.{zero-add}
 use native.Mathlib.Omega.{arith}
 use lib.ListN.{length, length-append}
 use lib.Seq.{take-all}
-use Rattle.segm.specs.Lists.{written}
-use Rattle.segm.proofs.Stores.{sets-append, sets-front}
+use Rattle.lists.specs.Written.{written}
+use Rattle.lists.proofs.Written.{sets-append, sets-front}
 use Rattle.text.specs.Writing.{joined, lineOf}
 use Rattle.clip_print.specs.Printed.{Put}
 

@@ -5,7 +5,7 @@ use Prim.Native.Nat.{ℕ, suc, _+_, _*_, _≤_}
 use lib.ListN.{length, take}
 use lib.Seq.{sets}
 use lib.IntN.{ℤ}
-use Rattle.segm.specs.Lists.{tally}
+use Rattle.lists.specs.Sums.{tally}
 use Rattle.geom.specs.declared.Point.{Point}
 use Rattle.string_clip.specs.declared.Totals.{Totals}
 use Rattle.string_clip.specs.declared.Clipped.{Clipped}

@@ -4,7 +4,7 @@ use string_clip::Totals;
 ghost use Prim.Native.Nat.{_+_, _*_, _≤_};
 ghost use mathlib.Core.List.{[], _∷_};
 ghost use lib.ListN.{length};
-ghost use Rattle.segm.specs.Lists.{tally};
+ghost use Rattle.lists.specs.Sums.{tally};
 ghost use Rattle.string_clip.specs.declared.Clipped.the-variants.{Done};
 ghost use Rattle.contour.specs.Points.{pairUp, cut};
 ghost use Rattle.decimal.specs.Decimal.{decimal, signed};

@@ -13,10 +13,10 @@ use Rattle.geom.specs.declared.Point.{Point}
 use Rattle.geom.specs.Points.{within, inRange}
 use Rattle.geom.proofs.Points.{within-l, within-r, near-x, near-y}
 use Rattle.segm.specs.declared.Segment.{Segment}
-use Rattle.segm.specs.Lists.{_∈_}
+use Rattle.lists.specs.Members.{_∈_}
 use Rattle.segm.specs.Segments.{Drawing, width, segments, numbersOf, laid}
 use Rattle.segm.proofs.Laid.{segments-laid}
-use Rattle.segm.proofs.Tallies.{in-map}
+use Rattle.lists.proofs.Members.{in-map}
 use Rattle.checks.specs.Drawing.{endsInRange}
 use Rattle.checks.specs.declared.Verdict.the-variants.{Accepted}
 use Rattle.checks.specs.Verdict.{verdict}

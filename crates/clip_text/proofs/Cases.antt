@@ -3,7 +3,10 @@ use mathlib.Core.Path.{_≡_, refl}
 use mathlib.Core.List.{flatten}
 use Prim.Native.String.{String}
 use Rattle.geom.specs.Points.{eqZ, within, ltP, eqP, coordinate, inRange, cross, between}
-use Rattle.segm.specs.Lists.{any, sum, tally, keep, written, upFrom}
+use Rattle.lists.specs.Members.{any, keep}
+use Rattle.lists.specs.Sums.{sum, tally}
+use Rattle.lists.specs.Written.{written}
+use Rattle.lists.specs.UpFrom.{upFrom}
 use Rattle.segm.specs.Segments.{front, segmentsOf, count, whole, segments, segmentAt, total}
 use Rattle.meetings.specs.Meetings.{side, parts, inside, sameEnds, meetsWrongly}
 use Rattle.balance.specs.Balance.{balance, balances}

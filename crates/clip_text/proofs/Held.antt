@@ -6,9 +6,9 @@ use native.Mathlib.Omega.{arith}
 use lib.ListN.{length, length-map}
 use lib.IntN.{ℤ}
 use Rattle.geom.specs.declared.Point.{Point}
-use Rattle.segm.specs.Lists.{tally}
+use Rattle.lists.specs.Sums.{tally}
 use Rattle.segm.specs.Segments.{width, segments}
-use Rattle.segm.proofs.Lists.{length-written, take-written}
+use Rattle.lists.proofs.Written.{length-written, take-written}
 use Rattle.checks.specs.declared.Verdict.{Verdict}
 use Rattle.checks.specs.declared.Verdict.the-variants as verdict-is
 use Rattle.checks.specs.Verdict.{verdict}

@@ -10,9 +10,9 @@ use lib.Dec.{eqb, ltb}
 use lib.ListN.{length, take}
 use lib.Seq.{take-all, length-take-le}
 use lib.IntN.{ℤ}
-use Rattle.segm.specs.Lists.{written}
+use Rattle.lists.specs.Written.{written}
 use Rattle.segm.specs.Segments.{width, count, whole}
-use Rattle.segm.proofs.Lists.{length-written, take-written}
+use Rattle.lists.proofs.Written.{length-written, take-written}
 use Rattle.checks.specs.Verdict.{wrongLength, inOrder, verdict}
 use Rattle.checks.specs.Runs.{clipRun}
 use Rattle.string_clip.specs.declared.Clipped.the-variants.{Refused}

@@ -10,7 +10,7 @@ ghost use mathlib.Core.Path.{_≡_};
 ghost use Prim.Native.Nat.{_+_, _*_, _≤_, _<_, min};
 ghost use lib.ListN.{length, take};
 ghost use Rattle.io.specs.Counts.{Counts};
-ghost use Rattle.segm.specs.Lists.{written};
+ghost use Rattle.lists.specs.Written.{written};
 ghost use Rattle.segm.specs.Segments.{width};
 ghost use Rattle.string_clip.specs.Run.{outcome, clipOutcome};
 ghost use Rattle.clip_print.specs.Printed.{printed};

@@ -8,7 +8,7 @@ use native.Mathlib.Omega.{arith}
 use native.Mathlib.Decide.{decLe}
 use borrow.Author.Tests.{eq-eqb, eqb-false}
 use lib.ListN.{length, getD}
-use Rattle.segm.specs.Lists.{upFrom}
+use Rattle.lists.specs.UpFrom.{upFrom}
 use Rattle.segm.specs.Segments.{Drawing}
 use Rattle.clip_walk.specs.Walk.{has, Move, move, isLeft, firstLeft, bothMoves, begins}
 use Rattle.clip_walk.proofs.Moves.{none-set}

@@ -10,7 +10,8 @@ use borrow.Author.Tests.{ltb-true, ltb-false}
 use lib.Dec.{ltb}
 use lib.ListN.{length, getD, take, drop, length-set}
 use lib.Seq.{drop-cons}
-use Rattle.segm.specs.Lists.{_∈_, tally, one}
+use Rattle.lists.specs.Members.{_∈_}
+use Rattle.lists.specs.Sums.{tally, one}
 use Rattle.graph.specs.Nodes.{linkOf, otherEnd, part}
 use Rattle.graph.proofs.Node.{other-end-below}
 use Rattle.clip_walk.specs.declared.Next.{Next}

@@ -14,9 +14,12 @@ use Rattle.geom.specs.declared.Point.{Point}
 use Rattle.geom.specs.Points.{ltP, eqP}
 use Rattle.geom.proofs.Points.{eqP-true, eq-eqP, ltP-trans, ltP-irrefl}
 use Rattle.segm.specs.declared.Segment.{Segment}
-use Rattle.segm.specs.Lists.{_∈_, tally, upFrom}
+use Rattle.lists.specs.Members.{_∈_}
+use Rattle.lists.specs.Sums.{tally}
+use Rattle.lists.specs.UpFrom.{upFrom}
 use Rattle.segm.specs.Segments.{Drawing, segmentAt}
-use Rattle.segm.proofs.Tallies.{in-map, in-upFrom, upFrom-in}
+use Rattle.lists.proofs.Members.{in-map}
+use Rattle.lists.proofs.UpFrom.{in-upFrom, upFrom-in}
 use Rattle.segm.proofs.Segments.{segment-in}
 use Rattle.graph.specs.Nodes.{node}
 use Rattle.graph.proofs.Node.{in-node}

@@ -9,7 +9,7 @@ use lib.ListN.{getD, set}
 use lib.Seq.{getD-set-other}
 use Rattle.integers.proofs.Booleans.{clash}
 use Rattle.geom.specs.declared.Point.{Point}
-use Rattle.segm.specs.Lists.{tally}
+use Rattle.lists.specs.Sums.{tally}
 use Rattle.segm.specs.Segments.{Drawing, nowhere, segmentAt}
 use Rattle.graph.specs.Nodes.{node}
 use Rattle.clip_walk.specs.Walk.{has, clear, Move, move, isLeft, taken, takenAll, bitsLeft, begins, over, fitting, goesOn, andThen, follow, pathFrom, walkFrom}

@@ -4,7 +4,7 @@ use mathlib.Core.Bool.{Bool, cond, Bool·beq}
 use Prim.Native.Nat.{ℕ, zero, suc, _+_, _*_, _<_, _≤_}
 use lib.Dec.{ltb}
 use lib.ListN.{length, getD}
-use Rattle.segm.specs.Lists.{_∈_}
+use Rattle.lists.specs.Members.{_∈_}
 use Rattle.graph.specs.Nodes.{linkOf, otherEnd, part}
 use Rattle.clip_walk.specs.declared.Link.{Link}
 use Rattle.clip_walk.specs.declared.Next.{Next}

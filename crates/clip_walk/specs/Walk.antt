@@ -9,7 +9,8 @@ use lib.IntN.{natAbs}
 use Rattle.geom.specs.declared.Point.{Point}
 use Rattle.geom.specs.Points.{ltP, eqP}
 use Rattle.segm.specs.declared.Segment.{Segment}
-use Rattle.segm.specs.Lists.{tally, upFrom, one}
+use Rattle.lists.specs.Sums.{tally, one}
+use Rattle.lists.specs.UpFrom.{upFrom}
 use Rattle.segm.specs.Segments.{Drawing, segmentAt}
 use Rattle.graph.specs.Nodes.{node}
 

@@ -3,7 +3,7 @@ ghost use mathlib.Core.Path.{_≡_};
 ghost use mathlib.Core.Bool.{true};
 ghost use Prim.Native.Nat.{_*_, _≤_, _<_};
 ghost use lib.ListN.{length, getD, set};
-ghost use Rattle.segm.specs.Lists.{written};
+ghost use Rattle.lists.specs.Written.{written};
 ghost use Rattle.graph.specs.Nodes.{part};
 ghost use Rattle.clip_walk.specs.declared.Next.the-variants.{Leave};
 ghost use Rattle.clip_walk.specs.Walk.{has, clear, isLeft, taken, bitsLeft};

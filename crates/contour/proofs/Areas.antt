@@ -16,8 +16,8 @@ use Rattle.integers.proofs.Ring.{con, _⊟_, _⊠_, _≐_, ring4}
 use Rattle.geom.specs.declared.Point.{Point}
 use Rattle.geom.specs.Points.{inRange, coordinate, within, cross}
 use Rattle.geom.proofs.Points.{near-x, near-y}
-use Rattle.segm.specs.Lists.{_∈_}
-use Rattle.segm.proofs.Tallies.{cases, in-++}
+use Rattle.lists.specs.Members.{_∈_}
+use Rattle.lists.proofs.Members.{cases, in-++}
 use Rattle.contour.specs.Points.{origin, AllInRange}
 use Rattle.contour.specs.Area.{crossProduct, around, shoelace}
 

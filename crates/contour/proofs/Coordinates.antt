@@ -8,8 +8,8 @@ use lib.ListN.{length, getD, take, drop, set, length-append, length-take}
 use lib.Seq.{take-suc, take-nil, drop-nil}
 use lib.IntN.{ℤ, pos}
 use Rattle.geom.specs.declared.Point.{Point}
-use Rattle.segm.specs.Lists.{written}
-use Rattle.segm.proofs.Lists.{written-more}
+use Rattle.lists.specs.Written.{written}
+use Rattle.lists.proofs.Written.{written-more}
 use Rattle.contour.specs.Points.{coordinates, pairUp, origin}
 
 pub length-coordinates : (l : List Point) → length (coordinates l) ≡ 2 * length l

@@ -5,7 +5,7 @@ use Prim.Native.Nat.{ℕ, _+_}
 use lib.ListN.{length, length-append}
 use lib.Seq.{take-append-seam, drop-append-seam}
 use Rattle.geom.specs.declared.Point.{Point}
-use Rattle.segm.specs.Lists.{tally}
+use Rattle.lists.specs.Sums.{tally}
 use Rattle.contour.specs.Points.{cut}
 
 pub cut-written : (paths : List (List Point)) (ns : List ℕ) (r : List Point) → cut (length paths) (map length paths ++ ns) (flatten paths ++ r) ≡ paths

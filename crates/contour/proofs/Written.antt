@@ -6,8 +6,9 @@ use native.Mathlib.Omega.{arith}
 use lib.ListN.{length, take, drop, set, length-map}
 use lib.IntN.{ℤ}
 use Rattle.geom.specs.declared.Point.{Point}
-use Rattle.segm.specs.Lists.{written}
-use Rattle.segm.proofs.Lists.{written-more, written-after, written-part, flatten-++, flatten-one}
+use Rattle.lists.specs.Written.{written}
+use Rattle.lists.proofs.Written.{written-more, written-after, written-part}
+use Rattle.lists.proofs.Entries.{flatten-++, flatten-one}
 use Rattle.contour.specs.Points.{coordinates, Writes}
 use Rattle.contour.proofs.Coordinates.{length-coordinates, coordinates-++}
 

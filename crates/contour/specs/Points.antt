@@ -7,7 +7,8 @@ use lib.ListN.{length, take, drop}
 use lib.IntN.{ℤ, pos}
 use Rattle.geom.specs.declared.Point.{Point}
 use Rattle.geom.specs.Points.{inRange}
-use Rattle.segm.specs.Lists.{_∈_, written}
+use Rattle.lists.specs.Members.{_∈_}
+use Rattle.lists.specs.Written.{written}
 
 -- x, y, x, y, ..
 unfoldable pub coordinates : List Point → List ℤ

@@ -6,7 +6,7 @@ ghost use mathlib.Core.Bool.{true};
 ghost use Prim.Native.Nat.{suc, _+_, _*_, _%_, _≤_};
 ghost use lib.ListN.{length, getD, set};
 ghost use Rattle.geom.specs.Points.{inRange};
-ghost use Rattle.segm.specs.Lists.{written};
+ghost use Rattle.lists.specs.Written.{written};
 ghost use Rattle.contour.specs.Points.{coordinates, pairUp, turnedRound, origin, AllInRange};
 ghost use Rattle.contour.specs.Area.{crossProduct, shoelace, isClockwise, isLarge};
 ghost use Rattle.contour.specs.Contour.{contourOf};

@@ -13,10 +13,9 @@ use lib.IntN.{ℤ, pos, natAbs, _+ℤ_}
 use Rattle.integers.proofs.Order.{abs-+}
 use Rattle.geom.specs.declared.Point.{Point}
 use Rattle.geom.specs.Points.{ltP}
-use Rattle.segm.specs.Lists.{_∈_}
+use Rattle.lists.specs.Members.{_∈_}
 use Rattle.segm.specs.Segments.{Drawing, segmentAt}
-use Rattle.segm.proofs.Lists.{in-take, in-drop}
-use Rattle.segm.proofs.Tallies.{in-right}
+use Rattle.lists.proofs.Members.{in-take, in-drop, in-right}
 use Rattle.neighbours.specs.Neighbours.{Ready, Known, Distinct}
 use Rattle.count_up.specs.CountUp.{Held, lastOf, lastIn, countUp, Counts, Within, Written, Climbed}
 

@@ -6,7 +6,7 @@ use Prim.Native.Nat.{ℕ, _-_, _<_, _≤_}
 use lib.ListN.{length, getD, take, drop, set}
 use lib.IntN.{ℤ, pos, natAbs, _+ℤ_}
 use Rattle.geom.specs.Points.{ltP}
-use Rattle.segm.specs.Lists.{_∈_}
+use Rattle.lists.specs.Members.{_∈_}
 use Rattle.segm.specs.Segments.{Drawing, segmentAt}
 use Rattle.strip.specs.Strip.{isVertical, spans}
 use Rattle.neighbours.specs.Neighbours.{Ordered}

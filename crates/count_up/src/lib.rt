@@ -4,7 +4,7 @@ ghost use mathlib.Core.Path.{_≡_};
 ghost use Prim.Native.Nat.{ℕ, _≤_, _<_};
 ghost use lib.ListN.{length};
 ghost use lib.IntN.{natAbs};
-ghost use Rattle.segm.specs.Lists.{_∈_};
+ghost use Rattle.lists.specs.Members.{_∈_};
 ghost use Rattle.segm.specs.Segments.{segments};
 ghost use Rattle.neighbours.specs.Neighbours.{Ready, Known};
 ghost use Rattle.count_up.specs.CountUp.{countUp, lastIn, Within, LowEnd, HighEnd, Climbed};

@@ -11,10 +11,9 @@ use lib.Dec.{eqb, leb, ltb, lit<, eqb·suc-zero}
 use lib.ListN.{length}
 use lib.IntN.{ℤ, pos, negsuc, natAbs}
 use Rattle.integers.proofs.Booleans.{both, both-l, both-r, neither, nor-l, nor-r}
-use Rattle.segm.specs.Lists.{_∈_}
+use Rattle.lists.specs.Members.{_∈_}
 use Rattle.decimal.specs.declared.Field.the-variants.{Number, Malformed}
-use Rattle.decimal.specs.Decimal.{isDigit, worth, positive, unlessZero, fieldOf, digits, decimal, signed}
-use Rattle.decimal.specs.Decimal.{NineDigits}
+use Rattle.decimal.specs.Decimal.{isDigit, worth, positive, unlessZero, fieldOf, digits, decimal, signed, NineDigits}
 
 -- ---- how the digits come about: the last one first
 data Wrote : ℕ → ℕ → List ℕ → List ℕ → Type 0 where

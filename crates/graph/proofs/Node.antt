@@ -11,9 +11,11 @@ use borrow.Author.Tests.{lt-ltb, le-ltb}
 use Rattle.geom.specs.declared.Point.{Point}
 use Rattle.geom.specs.Points.{eqP}
 use Rattle.geom.proofs.Points.{eqP-true}
-use Rattle.segm.specs.Lists.{_∈_, keep, upFrom}
+use Rattle.lists.specs.Members.{_∈_, keep}
+use Rattle.lists.specs.UpFrom.{upFrom}
 use Rattle.segm.specs.Segments.{Drawing, segmentAt}
-use Rattle.segm.proofs.Tallies.{cases, in-++, in-upFrom, keep-in, keep-++, keep-cong, keep-map, upFrom-++}
+use Rattle.lists.proofs.Members.{cases, in-++, keep-in, keep-++, keep-cong, keep-map}
+use Rattle.lists.proofs.UpFrom.{in-upFrom, upFrom-++}
 use Rattle.ends.specs.Ends.{endPoint}
 use Rattle.ends.proofs.Ends.{end-a, end-b}
 use Rattle.graph.specs.Nodes.{node, linkOf, otherEnd}

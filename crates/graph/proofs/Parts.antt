@@ -12,9 +12,8 @@ use Rattle.integers.proofs.Booleans.{clash, dec}
 use Rattle.geom.specs.declared.Point.{Point}
 use Rattle.geom.specs.Points.{ltP, eqP}
 use Rattle.geom.proofs.Points.{eq-eqP, ne-eqP, ltP-trans, ltP-irrefl, ltP-antisym, not-less-trans}
-use Rattle.segm.specs.Lists.{_∈_, Pairs, keep}
-use Rattle.segm.proofs.Lists.{in-at, in-take, in-after, pairs-places, stands}
-use Rattle.segm.proofs.Tallies.{cases, in-right, keep-++, keep-all, keep-none}
+use Rattle.lists.specs.Members.{_∈_, Pairs, keep}
+use Rattle.lists.proofs.Members.{in-at, in-take, in-after, pairs-places, stands, cases, in-right, keep-++, keep-all, keep-none}
 
 -- a test that is not false
 is-true : (b : Bool) → (b ≡ false → ⊥) → b ≡ true

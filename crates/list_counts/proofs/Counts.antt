@@ -12,10 +12,10 @@ use Rattle.integers.proofs.Linear.{ints}
 use Rattle.integers.proofs.Order.{le-ltZ, lt-le}
 use Rattle.geom.proofs.Points.{Before, ltP-true, before-irrefl}
 use Rattle.segm.specs.declared.Segment.{Segment}
-use Rattle.segm.specs.Lists.{_∈_}
+use Rattle.lists.specs.Members.{_∈_}
 use Rattle.segm.specs.Segments.{Drawing, segmentAt}
 use Rattle.segm.proofs.Segments.{segment-in}
-use Rattle.segm.proofs.Tallies.{in-right}
+use Rattle.lists.proofs.Members.{in-right}
 use Rattle.meetings.specs.Meetings.{side}
 use Rattle.checks.specs.Accepted.{Good}
 use Rattle.strip.specs.Strip.{under}

@@ -6,7 +6,7 @@ use lib.IntN.{natAbs, _+ℤ_, _-ℤ_}
 use Rattle.integers.proofs.Linear.{ints, of-+, of--}
 use Rattle.integers.proofs.Order.{abs-+}
 use Rattle.segm.specs.declared.Segment.{Segment}
-use Rattle.segm.specs.Lists.{_∈_}
+use Rattle.lists.specs.Members.{_∈_}
 use Rattle.segm.specs.Segments.{Drawing}
 use Rattle.fill_rule.specs.declared.Rule.{Rule}
 use Rattle.fill_rule.specs.FillRule.{fillOf}

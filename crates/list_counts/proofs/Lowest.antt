@@ -10,10 +10,11 @@ use lib.ListN.{length}
 use lib.IntN.{ℤ, _+ℤ_}
 use Rattle.integers.proofs.Booleans.{both, both-l, both-r, not-r, clash, is-false, same-test}
 use Rattle.segm.specs.declared.Segment.{Segment}
-use Rattle.segm.specs.Lists.{_∈_, Pairs, only}
+use Rattle.lists.specs.Members.{_∈_, Pairs}
+use Rattle.lists.specs.Sums.{only}
 use Rattle.segm.specs.Segments.{Drawing, segmentAt, total}
 use Rattle.segm.proofs.Segments.{segment-in, everywhere, first-only, second-only, total-none, total-split}
-use Rattle.segm.proofs.Tallies.{in-++, in-left, in-right}
+use Rattle.lists.proofs.Members.{in-++, in-left, in-right}
 use Rattle.meetings.specs.Meetings.{sameEnds}
 use Rattle.checks.specs.Accepted.{Good}
 use Rattle.strip.specs.Strip.{spans, under}

@@ -15,11 +15,10 @@ use Rattle.geom.specs.declared.Point.{Point}
 use Rattle.geom.specs.Points.{eqP}
 use Rattle.geom.proofs.Points.{Before, before-irrefl, eq-eqP}
 use Rattle.segm.specs.declared.Segment.{Segment}
-use Rattle.segm.specs.Lists.{_∈_}
+use Rattle.lists.specs.Members.{_∈_}
 use Rattle.segm.specs.Segments.{Drawing, segmentAt}
-use Rattle.segm.proofs.Lists.{in-at, in-take, in-drop, pairs-places, pairs-before}
+use Rattle.lists.proofs.Members.{in-at, in-take, in-drop, pairs-places, pairs-before, in-++}
 use Rattle.segm.proofs.Segments.{total-cong}
-use Rattle.segm.proofs.Tallies.{in-++}
 use Rattle.checks.specs.Accepted.{Good}
 use Rattle.strip.specs.Strip.{spans, above, clockwise, under}
 use Rattle.strip.proofs.Gap.{side-own-a}

@@ -15,10 +15,11 @@ use Rattle.integers.proofs.Order.{order}
 use Rattle.geom.specs.declared.Point.{Point}
 use Rattle.geom.proofs.Points.{before}
 use Rattle.segm.specs.declared.Segment.{Segment}
-use Rattle.segm.specs.Lists.{_∈_, upFrom}
+use Rattle.lists.specs.Members.{_∈_}
+use Rattle.lists.specs.UpFrom.{upFrom}
 use Rattle.segm.specs.Segments.{Drawing, segmentAt}
-use Rattle.segm.proofs.Lists.{in-take, in-drop, pairs-take, pairs-drop}
-use Rattle.segm.proofs.Tallies.{cases, upFrom-in}
+use Rattle.lists.proofs.Members.{in-take, in-drop, pairs-take, pairs-drop, cases}
+use Rattle.lists.proofs.UpFrom.{upFrom-in}
 use Rattle.ends.specs.Ends.{endPoint}
 use Rattle.ends.proofs.Ends.{end-a, end-b}
 use Rattle.graph.proofs.Flat.{Ordered}

@@ -17,11 +17,12 @@ use Rattle.geom.specs.declared.Point.{Point}
 use Rattle.geom.specs.Points.{ltP, inRange}
 use Rattle.geom.proofs.Points.{near-x, Before, before, not-before, before-le, ltP-true, not-less-x}
 use Rattle.segm.specs.declared.Segment.{Segment}
-use Rattle.segm.specs.Lists.{_∈_, upFrom}
+use Rattle.lists.specs.Members.{_∈_}
+use Rattle.lists.specs.UpFrom.{upFrom}
 use Rattle.segm.specs.Segments.{Drawing, segmentAt, nowhere}
-use Rattle.segm.proofs.Lists as lists
-use Rattle.segm.proofs.Lists.{stands, pairs-of, pairs-places, pairs-map, pairs-take, pairs-drop, in-after, in-at, in-take, in-drop}
-use Rattle.segm.proofs.Tallies.{cases, in-upFrom, upFrom-in}
+use Rattle.lists.proofs.Members as lists
+use Rattle.lists.proofs.Members.{stands, pairs-of, pairs-places, pairs-map, pairs-take, pairs-drop, in-after, in-at, in-take, in-drop, cases}
+use Rattle.lists.proofs.UpFrom.{in-upFrom, upFrom-in}
 use Rattle.ends.specs.Ends.{endPoint}
 use Rattle.ends.proofs.Ends.{end-a, end-b}
 use Rattle.graph.proofs.Flat.{Ordered}
@@ -33,8 +34,7 @@ use Rattle.strip.proofs.Above.{spans-on, spans-over}
 use Rattle.strip.proofs.Vertical.{vertical-by, not-vertical-by, not-vertical-wide, not-vertical-ends, wide-not-vertical}
 use Rattle.neighbours.specs.Neighbours.{Ready, Known, Distinct, Passes}
 use Rattle.neighbours.proofs.Lists.{Holds, holds-distinct}
-use Rattle.neighbours.proofs.Event.{Swept}
-use Rattle.neighbours.proofs.Event.{cut-after}
+use Rattle.neighbours.proofs.Event.{Swept, cut-after}
 use Rattle.neighbours.proofs.Turn.{Coming, Tested, first-turn, turn-holds, turn, last-turn}
 use Rattle.neighbours.proofs.Upright.{Upright}
 use Rattle.neighbours.proofs.Passes.{passes-under, passes-above, passes-through}

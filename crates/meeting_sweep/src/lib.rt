@@ -21,7 +21,7 @@ ghost use mathlib.Core.Bool.{true, false};
 ghost use Prim.Native.Nat.{_*_, _≤_, _<_};
 ghost use lib.ListN.{length, getD, take};
 ghost use Rattle.geom.specs.Points.{eqZ};
-ghost use Rattle.segm.specs.Lists.{upFrom};
+ghost use Rattle.lists.specs.UpFrom.{upFrom};
 ghost use Rattle.segm.specs.Segments.{segments};
 ghost use Rattle.ends.specs.Ends.{endPoint, endBefore};
 ghost use Rattle.ends.specs.Ordering.{ordering};

@@ -6,7 +6,7 @@ use lib.Signed.{ltZ}
 use Rattle.geom.specs.declared.Point.{Point}
 use Rattle.geom.specs.Points.{eqP, ltP, inRange, cross, between}
 use Rattle.segm.specs.declared.Segment.{Segment}
-use Rattle.segm.specs.Lists.{Pairs}
+use Rattle.lists.specs.Members.{Pairs}
 use Rattle.segm.specs.Segments.{Drawing}
 
 -- the side of s on which p lies: positive left of a to b (the top side), negative right of it (the bottom side)

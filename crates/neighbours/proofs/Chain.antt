@@ -6,7 +6,7 @@ use Prim.Native.Nat.{ℕ, zero, suc, _≤_, _<_}
 use native.Mathlib.Omega.{arith}
 use lib.ListN.{length, getD, take, drop, take-append-drop}
 use lib.Seq.{split-at}
-use Rattle.segm.specs.Lists.{_∈_, Pairs}
+use Rattle.lists.specs.Members.{_∈_, Pairs}
 use Rattle.neighbours.specs.Neighbours.{First, Last, Chain}
 
 module _ {A : Type 0} where

@@ -8,8 +8,8 @@ use Rattle.integers.proofs.Linear.{ints, of-pos, of--}
 use Rattle.integers.proofs.Order.{order, lt-le}
 use Rattle.geom.proofs.Points.{Before, before-le}
 use Rattle.segm.specs.declared.Segment.{Segment}
-use Rattle.segm.specs.Lists.{_∈_, Pairs}
-use Rattle.segm.proofs.Lists.{pairs-map}
+use Rattle.lists.specs.Members.{_∈_, Pairs}
+use Rattle.lists.proofs.Members.{pairs-map}
 use Rattle.strip.proofs.Apart.{Apart, turned, Wide, over-wide}
 use Rattle.strip.proofs.Tiers.{At, Tier}
 use Rattle.neighbours.specs.Neighbours.{Passes, Cut}

@@ -8,8 +8,8 @@ use Rattle.integers.proofs.Booleans.{clash}
 use Rattle.integers.proofs.Linear.{ints}
 use Rattle.integers.proofs.Order.{order}
 use Rattle.segm.specs.declared.Segment.{Segment}
-use Rattle.segm.specs.Lists.{_∈_, Pairs}
-use Rattle.segm.proofs.Lists.{pairs-map, pairs-at}
+use Rattle.lists.specs.Members.{_∈_, Pairs}
+use Rattle.lists.proofs.Members.{pairs-map, pairs-at}
 use Rattle.strip.specs.Strip.{under, Next}
 use Rattle.strip.proofs.Apart.{Apart, Wide, Over, over-wide, under-irrefl}
 use Rattle.strip.proofs.Tiers.{Tier, tier-trans, next-tier, ordered-apart}

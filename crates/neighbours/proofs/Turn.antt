@@ -11,8 +11,9 @@ use lib.Signed.{_≤ℤ_, _<ℤ_}
 use Rattle.integers.proofs.Linear.{ints}
 use Rattle.geom.proofs.Points.{Before}
 use Rattle.segm.specs.declared.Segment.{Segment}
-use Rattle.segm.specs.Lists.{_∈_, upFrom}
-use Rattle.segm.proofs.Tallies.{in-upFrom, upFrom-in}
+use Rattle.lists.specs.Members.{_∈_}
+use Rattle.lists.specs.UpFrom.{upFrom}
+use Rattle.lists.proofs.UpFrom.{in-upFrom, upFrom-in}
 use Rattle.meetings.specs.Meetings.{meetsWrongly}
 use Rattle.strip.specs.Strip.{Next}
 use Rattle.strip.proofs.Clear.{apart-clear}

@@ -11,7 +11,7 @@ use Rattle.integers.proofs.Order.{sub-pos, mul-pos, pos-by, lt-le}
 use Rattle.geom.specs.declared.Point.{Point}
 use Rattle.geom.proofs.Points.{Before, before-le, before-irrefl, point}
 use Rattle.segm.specs.declared.Segment.{Segment}
-use Rattle.segm.specs.Lists.{_∈_, Pairs}
+use Rattle.lists.specs.Members.{_∈_, Pairs}
 use Rattle.meetings.specs.Meetings.{side}
 use Rattle.strip.specs.Strip.{isVertical, reach, gap}
 use Rattle.strip.proofs.Signs.{Sign, minus, nil, plus, sign, up-neg, up-nil, down-pos, down-neg, down-nil, diff-nil}

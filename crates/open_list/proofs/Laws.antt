@@ -9,10 +9,9 @@ use native.Mathlib.Decide.{decLt}
 use lib.ListN.{length, getD, take, drop}
 use lib.Seq.{length-take-le, getD-at}
 use Rattle.integers.proofs.Booleans.{clash}
-use Rattle.segm.specs.Lists.{_∈_}
+use Rattle.lists.specs.Members.{_∈_}
 use Rattle.segm.specs.Segments.{Drawing, segmentAt}
-use Rattle.segm.proofs.Lists.{in-at}
-use Rattle.segm.proofs.Tallies.{cases, in-++, in-left, in-right}
+use Rattle.lists.proofs.Members.{in-at, cases, in-++, in-left, in-right}
 use Rattle.strip.specs.Strip.{isVertical, Next}
 use Rattle.neighbours.specs.Neighbours.{Ready, Known, Ordered, Distinct}
 use Rattle.neighbours.proofs.Chain.{chain-put, chain-take}

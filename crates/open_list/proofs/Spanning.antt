@@ -9,10 +9,9 @@ use native.Mathlib.Decide.{decLt}
 use lib.ListN.{length, getD, take}
 use lib.IntN.{ℤ}
 use Rattle.integers.proofs.Booleans.{clash}
-use Rattle.segm.specs.Lists.{_∈_, Pairs}
+use Rattle.lists.specs.Members.{_∈_, Pairs}
 use Rattle.segm.specs.Segments.{Drawing, segmentAt}
-use Rattle.segm.proofs.Lists.{in-at, in-after, pairs-map, pairs-places, pairs-before, Stands, stands}
-use Rattle.segm.proofs.Tallies.{cases}
+use Rattle.lists.proofs.Members.{in-at, in-after, pairs-map, pairs-places, pairs-before, Stands, stands, cases}
 use Rattle.strip.specs.Strip.{isVertical, spans, under, underBySide, Next}
 use Rattle.strip.proofs.Apart.{Apart, turned, places-apart, under-irrefl}
 use Rattle.strip.proofs.Above.{spans-over}

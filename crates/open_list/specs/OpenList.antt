@@ -6,7 +6,7 @@ use mathlib.Core.Bool.{true, false}
 use Prim.Native.Nat.{ℕ, suc, _+_, _-_, _<_, _≤_}
 use lib.ListN.{length, getD}
 use lib.IntN.{ℤ}
-use Rattle.segm.specs.Lists.{_∈_}
+use Rattle.lists.specs.Members.{_∈_}
 use Rattle.segm.specs.Segments.{Drawing, segmentAt}
 use Rattle.meetings.specs.Meetings.{NoneMeetWrongly}
 use Rattle.strip.specs.Strip.{isVertical, spans, Next}

@@ -10,7 +10,7 @@ ghost use mathlib.Core.Bool.{true, false};
 ghost use Prim.Native.Nat.{ℕ, _+_, _*_, _≤_, _<_};
 ghost use lib.ListN.{length, getD, take};
 ghost use lib.IntN.{ℤ};
-ghost use Rattle.segm.specs.Lists.{_∈_};
+ghost use Rattle.lists.specs.Members.{_∈_};
 ghost use Rattle.segm.specs.Segments.{segments, segmentAt};
 ghost use Rattle.meetings.specs.Meetings.{Proper};
 ghost use Rattle.strip.specs.Strip.{Next};

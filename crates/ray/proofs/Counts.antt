@@ -4,9 +4,10 @@ use Prim.Native.Nat.{_≤_}
 use native.Mathlib.Omega.{arith}
 use lib.IntN.{ℤ, natAbs}
 use Rattle.segm.specs.declared.Segment.{Segment}
-use Rattle.segm.specs.Lists.{_∈_, sum, only}
+use Rattle.lists.specs.Members.{_∈_}
+use Rattle.lists.specs.Sums.{sum, only}
 use Rattle.segm.specs.Segments.{Drawing, total}
-use Rattle.segm.proofs.Lists.{sum-bound}
+use Rattle.lists.proofs.Sums.{sum-bound}
 use Rattle.segm.proofs.Segments.{only-bound}
 use Rattle.checks.specs.Accepted.{Good}
 use Rattle.ray.specs.Ray.{met, bottom}

@@ -11,10 +11,11 @@ use Rattle.geom.specs.declared.Point.{Point}
 use Rattle.geom.specs.Points.{eqZ, eqP}
 use Rattle.geom.proofs.Points.{eq-eqZ, ne-eqZ, point, eqP-true, eq-eqP, ne-eqP, Before, before-le, compare}
 use Rattle.segm.specs.declared.Segment.{Segment}
-use Rattle.segm.specs.Lists.{_∈_, sum, keep, only}
+use Rattle.lists.specs.Members.{_∈_, keep}
+use Rattle.lists.specs.Sums.{sum, only}
 use Rattle.segm.specs.Segments.{Drawing, total}
-use Rattle.segm.proofs.Lists.{pairs-map, sum-+, sum-trade}
-use Rattle.segm.proofs.Tallies.{keep-in, pairs-keep}
+use Rattle.lists.proofs.Members.{pairs-map, keep-in, pairs-keep}
+use Rattle.lists.proofs.Sums.{sum-+, sum-trade}
 use Rattle.segm.proofs.Segments.{only-cong, first-only, second-only, total-cong, total-none, total-split}
 use Rattle.meetings.specs.Meetings.{side, meetsWrongly}
 use Rattle.checks.specs.Accepted.{Good}

@@ -10,7 +10,8 @@ use Rattle.geom.specs.declared.Point.{Point}
 use Rattle.geom.specs.Points.{eqP}
 use Rattle.geom.proofs.Points.{eqP-true, eq-eqP}
 use Rattle.segm.specs.declared.Segment.{Segment}
-use Rattle.segm.specs.Lists.{_∈_, only}
+use Rattle.lists.specs.Members.{_∈_}
+use Rattle.lists.specs.Sums.{only}
 use Rattle.segm.specs.Segments.{Drawing, total}
 use Rattle.segm.proofs.Segments.{total-cong, total-none, total-split}
 use Rattle.balance.specs.Balance.{balance}

@@ -12,9 +12,10 @@ use Rattle.geom.specs.declared.Point.{Point}
 use Rattle.geom.specs.Points.{eqZ}
 use Rattle.geom.proofs.Points.{eq-eqZ, ne-eqZ, Before, ltP-true, before-le}
 use Rattle.segm.specs.declared.Segment.{Segment}
-use Rattle.segm.specs.Lists.{_∈_, only}
+use Rattle.lists.specs.Members.{_∈_}
+use Rattle.lists.specs.Sums.{only}
 use Rattle.segm.specs.Segments.{Drawing, total}
-use Rattle.segm.proofs.Lists.{pairs-at}
+use Rattle.lists.proofs.Members.{pairs-at}
 use Rattle.segm.proofs.Segments.{straight, crossed, total-trade}
 use Rattle.meetings.specs.Meetings.{side, meetsWrongly}
 use Rattle.checks.specs.Accepted.{Good}

@@ -11,7 +11,8 @@ use Rattle.geom.specs.declared.Point.{Point}
 use Rattle.geom.specs.Points.{eqP}
 use Rattle.geom.proofs.Points.{eq-eqP, ne-eqP}
 use Rattle.segm.specs.declared.Segment.{Segment}
-use Rattle.segm.specs.Lists.{_∈_, Pairs, sum}
+use Rattle.lists.specs.Members.{_∈_, Pairs}
+use Rattle.lists.specs.Sums.{sum}
 use Rattle.segm.specs.Segments.{Drawing, total}
 use Rattle.segm.proofs.Segments.{only-cong, total-cong, total-none}
 use Rattle.meetings.specs.Meetings.{side, sameEnds, meetsWrongly}

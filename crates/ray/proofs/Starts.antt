@@ -9,9 +9,10 @@ use Rattle.geom.specs.declared.Point.{Point}
 use Rattle.geom.specs.Points.{ltP, eqP}
 use Rattle.geom.proofs.Points.{eqP-true, eq-eqP, Before, ltP-true, before-irrefl, before-le}
 use Rattle.segm.specs.declared.Segment.{Segment}
-use Rattle.segm.specs.Lists.{_∈_, sum, only}
+use Rattle.lists.specs.Members.{_∈_}
+use Rattle.lists.specs.Sums.{sum, only}
 use Rattle.segm.specs.Segments.{Drawing, total}
-use Rattle.segm.proofs.Tallies.{keep-in, pairs-keep}
+use Rattle.lists.proofs.Members.{keep-in, pairs-keep}
 use Rattle.segm.proofs.Segments.{first-only, second-only, total-split}
 use Rattle.checks.specs.Accepted.{Good}
 use Rattle.strip.specs.Strip.{spans, above, clockwise}

@@ -7,10 +7,11 @@ use lib.IntN.{ℤ, pos, _+ℤ_, _-ℤ_, +ℤ-idr, +ℤ-assoc}
 use Rattle.integers.proofs.Booleans.{clash, is-false}
 use Rattle.integers.proofs.Ring.{con, _⊞_, _⊟_, _≐_, ring2, ring3}
 use Rattle.segm.specs.declared.Segment.{Segment}
-use Rattle.segm.specs.Lists.{_∈_, Pairs, sum, keep, only}
+use Rattle.lists.specs.Members.{_∈_, Pairs, keep}
+use Rattle.lists.specs.Sums.{sum, only}
 use Rattle.segm.specs.Segments.{Drawing, total}
-use Rattle.segm.proofs.Lists.{sum-cong, sum-zero}
-use Rattle.segm.proofs.Tallies.{keep-in, keep-sum}
+use Rattle.lists.proofs.Sums.{sum-cong, sum-zero, keep-sum}
+use Rattle.lists.proofs.Members.{keep-in}
 use Rattle.segm.proofs.Segments.{only-cong, only-both}
 use Rattle.ray.proofs.Sorting.{sort, Ordered, Either, Chains, sorted, sort-sum, sort-in}
 

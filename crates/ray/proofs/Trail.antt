@@ -11,9 +11,10 @@ use Rattle.geom.specs.declared.Point.{Point}
 use Rattle.geom.specs.Points.{eqP}
 use Rattle.geom.proofs.Points.{eqP-true, eq-eqP, ne-eqP}
 use Rattle.segm.specs.declared.Segment.{Segment}
-use Rattle.segm.specs.Lists.{_∈_, tally, one}
+use Rattle.lists.specs.Members.{_∈_}
+use Rattle.lists.specs.Sums.{tally, one}
 use Rattle.segm.specs.Segments.{Drawing}
-use Rattle.segm.proofs.Tallies.{tally-some}
+use Rattle.lists.proofs.Sums.{tally-some}
 use Rattle.checks.specs.Accepted.{Good}
 use Rattle.ray.specs.Trail.{Way, leaving, arriving, Balanced, Walk, Take, here, there, lead, waysOf}
 use Rattle.ray.specs.Ray.{bottom, top}

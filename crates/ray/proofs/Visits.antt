@@ -1,9 +1,9 @@
 -- The order of visiting is strict and total among the segments of a good drawing.
 use mathlib.Core.Path.{_≡_}
 use mathlib.Core.Bool.{false}
-use Rattle.segm.specs.Lists.{Pairs}
+use Rattle.lists.specs.Members.{Pairs}
 use Rattle.segm.specs.Segments.{Drawing}
-use Rattle.segm.proofs.Lists.{pairs-map}
+use Rattle.lists.proofs.Members.{pairs-map}
 use Rattle.meetings.specs.Meetings.{meetsWrongly}
 use Rattle.checks.specs.Accepted.{Good}
 use Rattle.strip.proofs.Visits.{first, first-true, first-by, first-trans, first-total, first-either}

@@ -7,10 +7,9 @@ use Rattle.integers.proofs.Linear.{ints, of--, of-pos}
 use Rattle.geom.specs.declared.Point.{Point}
 use Rattle.geom.specs.Points.{eqP}
 use Rattle.segm.specs.declared.Segment.{Segment}
-use Rattle.segm.specs.Lists.{sum, tally, only}
+use Rattle.lists.specs.Sums.{sum, tally, only}
 use Rattle.segm.specs.Segments.{Drawing}
-use Rattle.segm.proofs.Lists.{sum-cong, sum--}
-use Rattle.segm.proofs.Tallies.{sum-tally}
+use Rattle.lists.proofs.Sums.{sum-cong, sum--, sum-tally}
 use Rattle.checks.specs.Accepted.{Good}
 use Rattle.ray.specs.Ray.{bottom, top}
 use Rattle.ray.proofs.Invariance.{beneathPoint}

@@ -6,7 +6,7 @@ use Prim.Native.Nat.{ℕ, _+_}
 use Rattle.geom.specs.declared.Point.{Point}
 use Rattle.geom.specs.Points.{eqP}
 use Rattle.segm.specs.declared.Segment.{Segment}
-use Rattle.segm.specs.Lists.{tally, one}
+use Rattle.lists.specs.Sums.{tally, one}
 
 -- a way from a point to a point
 pub record Way : Type 0 where

@@ -6,8 +6,8 @@ use native.Mathlib.Omega.{arith}
 use native.Mathlib.Numerals.{add-one}
 use lib.ListN.{length, getD, take, drop, set, take-append-drop, List·getD-append}
 use lib.Seq.{take-suc, take-all, take-take, take-append-le, drop-append-le, drop-length, drop-cons, set-at, set-append-left, getD-take, getD-drop, length-take-le, split-at}
-use Rattle.segm.specs.Lists.{written}
-use Rattle.segm.proofs.Lists.{written-past, written-more}
+use Rattle.lists.specs.Written.{written}
+use Rattle.lists.proofs.Written.{written-past, written-more}
 use Rattle.scan.specs.Scan.{putAt, outAt, movedUp, movedDown}
 use Rattle.scan.proofs.Laws.{length-put, length-out}
 

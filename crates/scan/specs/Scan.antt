@@ -6,7 +6,7 @@ use mathlib.Core.Bool.{Bool, true, false}
 use Prim.Native.Nat.{ℕ, zero, suc, _+_, _-_, _≤_, _<_}
 use lib.ListN.{length, getD, take, drop, set}
 use Rattle.geom.specs.Points.{inRange}
-use Rattle.segm.specs.Lists.{_∈_}
+use Rattle.lists.specs.Members.{_∈_}
 use Rattle.segm.specs.Segments.{Drawing, segmentAt}
 use Rattle.meetings.specs.Meetings.{Proper}
 use Rattle.strip.specs.Strip.{above, underBySide}

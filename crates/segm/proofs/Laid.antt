@@ -7,9 +7,9 @@ use lib.ListN.{length, take, drop, set, length-append}
 use lib.Seq.{take-at, drop-at, drop-drop, sets-eq}
 use lib.IntN.{ℤ}
 use Rattle.segm.specs.declared.Segment.{Segment}
-use Rattle.segm.specs.Lists.{written}
+use Rattle.lists.specs.Written.{written}
 use Rattle.segm.specs.Segments.{Drawing, width, front, segmentsOf, count, segments, numbersOf, laid}
-use Rattle.segm.proofs.Lists.{take-written}
+use Rattle.lists.proofs.Written.{take-written}
 
 length-numbers : (s : Segment) → length (numbersOf s) ≡ width
 unfolding numbersOf

@@ -1,5 +1,2 @@
-pub mod Lists
 pub mod Segments
 pub mod Laid
-pub mod Tallies
-pub mod Stores

@@ -8,9 +8,11 @@ use lib.ListN.{length, getD, drop, List·getD-eq-default}
 use lib.Seq.{drop-drop, getD-drop}
 use lib.IntN.{ℤ, pos, natAbs, _+ℤ_, +ℤ-comm, +ℤ-idl, +ℤ-idr}
 use Rattle.segm.specs.declared.Segment.{Segment}
-use Rattle.segm.specs.Lists.{_∈_, only}
+use Rattle.lists.specs.Members.{_∈_}
+use Rattle.lists.specs.Sums.{only}
 use Rattle.segm.specs.Segments.{Drawing, width, front, segmentsOf, count, segments, nowhere, segmentAt, total}
-use Rattle.segm.proofs.Lists.{in-at, stands, sum-cong, sum-zero, sum-split, sum-trade}
+use Rattle.lists.proofs.Members.{in-at, stands}
+use Rattle.lists.proofs.Sums.{sum-cong, sum-zero, sum-split, sum-trade}
 
 length-segmentsOf : (n : ℕ) (l : List ℤ) → length (segmentsOf n l) ≡ n
 unfolding segmentsOf

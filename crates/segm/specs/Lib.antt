@@ -1,3 +1,2 @@
-pub mod Lists
 pub mod Segments
 pub mod CaseA

@@ -7,7 +7,7 @@ use lib.Dec.{eqb}
 use lib.ListN.{length, getD, drop}
 use lib.IntN.{ℤ, pos}
 use Rattle.segm.specs.declared.Segment.{Segment}
-use Rattle.segm.specs.Lists.{sum, only}
+use Rattle.lists.specs.Sums.{sum, only}
 
 -- a drawing is n segments, named by place from 0
 abbrev pub Drawing : Type 0

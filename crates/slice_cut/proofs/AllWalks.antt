@@ -9,8 +9,8 @@ use lib.ListN.{length, getD, take, drop, length-append, length-map}
 use lib.Seq.{take-all}
 use lib.IntN.{ℤ}
 use Rattle.geom.specs.declared.Point.{Point}
-use Rattle.segm.specs.Lists.{written}
-use Rattle.segm.proofs.Lists.{written-part}
+use Rattle.lists.specs.Written.{written}
+use Rattle.lists.proofs.Written.{written-part}
 use Rattle.contour.specs.Points.{coordinates}
 use Rattle.contour.proofs.Coordinates.{length-coordinates}
 use Rattle.string_split.specs.Loops.{splitLoops}

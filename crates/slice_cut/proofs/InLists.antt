@@ -7,8 +7,9 @@ use lib.ListN.{length, getD, take, drop, length-append, length-take, length-drop
 use lib.Seq.{take-all, drop-drop}
 use lib.IntN.{ℤ}
 use Rattle.geom.specs.declared.Point.{Point}
-use Rattle.segm.specs.Lists.{tally}
-use Rattle.segm.proofs.Tallies.{in-left, in-right, tally-take, tally-part}
+use Rattle.lists.specs.Sums.{tally}
+use Rattle.lists.proofs.Members.{in-left, in-right}
+use Rattle.lists.proofs.Sums.{tally-take, tally-part}
 use Rattle.contour.specs.Points.{pairUp, cut, AllInRange}
 use Rattle.contour.proofs.Coordinates.{pairUp-take, pairUp-drop, length-pairs}
 use Rattle.string_split.specs.Splitting.{Splittable}

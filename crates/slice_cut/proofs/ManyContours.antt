@@ -10,8 +10,9 @@ use lib.ListN.{length, getD, take, drop, set, length-append, length-map, length-
 use lib.Seq.{take-suc}
 use lib.IntN.{ℤ}
 use Rattle.geom.specs.declared.Point.{Point}
-use Rattle.segm.specs.Lists.{written}
-use Rattle.segm.proofs.Lists.{written-more, written-past, written-at, flatten-++}
+use Rattle.lists.specs.Written.{written}
+use Rattle.lists.proofs.Written.{written-more, written-past, written-at}
+use Rattle.lists.proofs.Entries.{flatten-++}
 use Rattle.contour.specs.Points.{coordinates}
 use Rattle.contour.proofs.Coordinates.{length-coordinates, coordinates-++}
 use Rattle.string_split.specs.Loops.{splitLoops}

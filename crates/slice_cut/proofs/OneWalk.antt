@@ -7,8 +7,9 @@ use native.Mathlib.Omega.{arith}
 use lib.ListN.{length, take, drop, length-map}
 use lib.IntN.{ℤ}
 use Rattle.geom.specs.declared.Point.{Point}
-use Rattle.segm.specs.Lists.{tally, written}
-use Rattle.segm.proofs.Lists.{take-written, length-written, written-over}
+use Rattle.lists.specs.Sums.{tally}
+use Rattle.lists.specs.Written.{written}
+use Rattle.lists.proofs.Written.{take-written, length-written, written-over}
 use Rattle.contour.specs.Points.{coordinates, pairUp, AllInRange, Writes}
 use Rattle.contour.proofs.Coordinates.{length-coordinates, pair-coordinates}
 use Rattle.contour.proofs.CutWritten.{cut-written, tally-lengths}

@@ -12,7 +12,7 @@ use Rattle.geom.specs.Points.{within, coordinate, inRange}
 use Rattle.segm.specs.declared.Segment.{Segment}
 use Rattle.segm.specs.Segments.{Drawing, segmentAt}
 use Rattle.segm.proofs.Segments.{segment-in, past}
-use Rattle.segm.proofs.Tallies.{in-map}
+use Rattle.lists.proofs.Members.{in-map}
 use Rattle.contour.specs.Points.{AllInRange}
 use Rattle.clip_walk.specs.Walk.{Move, asDrawn, way, over, takenAll, bitsLeft, begins}
 use Rattle.clip_walk.proofs.Moves.{begins-some}

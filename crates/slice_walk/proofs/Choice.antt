@@ -18,10 +18,10 @@ use Rattle.integers.proofs.Order.{le-leZ, lt-ltZ}
 use Rattle.geom.specs.declared.Point.{Point}
 use Rattle.geom.specs.Points.{ltP, eqP, inRange}
 use Rattle.geom.proofs.Points.{eq-eqP, ne-eqP, ltP-irrefl}
-use Rattle.segm.specs.Lists.{_∈_, keep}
+use Rattle.lists.specs.Members.{_∈_, keep}
 use Rattle.segm.specs.Segments.{Drawing, segmentAt}
 use Rattle.segm.proofs.Segments.{segment-in}
-use Rattle.segm.proofs.Tallies.{keep-in}
+use Rattle.lists.proofs.Members.{keep-in}
 use Rattle.ends.specs.Ends.{endPoint}
 use Rattle.ends.proofs.Ends.{end-a, end-b}
 use Rattle.graph.specs.Nodes.{node, linkOf, otherEnd, part, Nodes}

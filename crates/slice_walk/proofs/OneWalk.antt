@@ -10,7 +10,7 @@ use lib.Seq.{take-at, take-all, getD-at}
 use lib.IntN.{ℤ}
 use Rattle.geom.specs.declared.Point.{Point}
 use Rattle.geom.specs.Points.{eqP}
-use Rattle.segm.specs.Lists.{written}
+use Rattle.lists.specs.Written.{written}
 use Rattle.segm.specs.Segments.{Drawing}
 use Rattle.contour.specs.Points.{coordinates, origin}
 use Rattle.contour.proofs.Coordinates.{written-point}

@@ -11,9 +11,11 @@ use lib.Dec.{eqb}
 use lib.ListN.{length, getD, take, drop, set, length-append, length-map}
 use lib.IntN.{ℤ}
 use Rattle.geom.specs.declared.Point.{Point}
-use Rattle.segm.specs.Lists.{written, one}
+use Rattle.lists.specs.Written.{written}
+use Rattle.lists.specs.Sums.{one}
 use Rattle.segm.specs.Segments.{Drawing}
-use Rattle.segm.proofs.Lists.{written-more, flatten-one}
+use Rattle.lists.proofs.Written.{written-more}
+use Rattle.lists.proofs.Entries.{flatten-one}
 use Rattle.contour.specs.Points.{coordinates, Writes}
 use Rattle.contour.proofs.Written.{writes-one}
 use Rattle.clip_walk.specs.Walk.{has, Move, move, isLeft, taken, takenAll, bitsLeft}

@@ -9,7 +9,7 @@ use lib.IntN.{ℤ, pos, negℤ}
 use lib.Signed.{ltZ, leZ}
 use Rattle.geom.specs.declared.Point.{Point}
 use Rattle.geom.specs.Points.{eqP, cross}
-use Rattle.segm.specs.Lists.{keep}
+use Rattle.lists.specs.Members.{keep}
 use Rattle.segm.specs.Segments.{Drawing, segmentAt}
 use Rattle.graph.specs.Nodes.{node}
 use Rattle.clip_walk.specs.Walk.{Move, move, isLeft, taken, takenAll, bitsLeft, begins, over, other, fitting}

@@ -9,7 +9,9 @@ use lib.IntN.{ℤ}
 use Rattle.geom.specs.declared.Point.{Point}
 use Rattle.geom.specs.Points.{ltP, inRange}
 use Rattle.segm.specs.declared.Segment.{Segment}
-use Rattle.segm.specs.Lists.{_∈_, written, one}
+use Rattle.lists.specs.Members.{_∈_}
+use Rattle.lists.specs.Written.{written}
+use Rattle.lists.specs.Sums.{one}
 use Rattle.segm.specs.Segments.{Drawing}
 use Rattle.contour.specs.Points.{coordinates, Writes}
 use Rattle.ends.specs.Ends.{endPoint}

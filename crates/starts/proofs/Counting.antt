@@ -15,11 +15,12 @@ use Rattle.integers.proofs.Linear.{ints}
 use Rattle.integers.proofs.Order.{lt-le}
 use Rattle.geom.specs.declared.Point.{Point}
 use Rattle.geom.specs.Points.{ltP}
-use Rattle.geom.proofs.Points.{ltP-irrefl}
+use Rattle.geom.proofs.Points.{ltP-irrefl, ltP-true}
 use Rattle.segm.specs.declared.Segment.{Segment}
-use Rattle.segm.specs.Lists.{_∈_, upFrom}
+use Rattle.lists.specs.Members.{_∈_}
+use Rattle.lists.specs.UpFrom.{upFrom}
 use Rattle.segm.specs.Segments.{Drawing, segmentAt}
-use Rattle.segm.proofs.Lists.{stands, in-at, in-take, in-drop, pairs-take, pairs-drop}
+use Rattle.lists.proofs.Members.{stands, in-at, in-take, in-drop, pairs-take, pairs-drop}
 use Rattle.meetings.specs.Meetings.{side}
 use Rattle.strip.specs.Strip.{isVertical, above}
 use Rattle.strip.proofs.Gap.{side-own-a}
@@ -29,7 +30,6 @@ use Rattle.strip.proofs.Vertical.{wide-not-vertical}
 use Rattle.neighbours.specs.Neighbours.{Ready, Under, Above}
 use Rattle.neighbours.proofs.Lists.{holds-distinct}
 use Rattle.neighbours.proofs.Upright.{Upright, vertical-upright}
-use Rattle.geom.proofs.Points.{ltP-true}
 use Rattle.scan.specs.declared.Sought.the-variants.{At}
 use Rattle.scan.specs.Scan.{Changes, isBelow, belowAt}
 use Rattle.count_up.specs.CountUp.{Held, lastOf, lastIn, countUp, Counts, Tops, Written, LowEnd, HighEnd, Climbed}

@@ -9,9 +9,9 @@ use lib.ListN.{length}
 use lib.IntN.{ℤ}
 use Rattle.integers.proofs.Linear.{ints}
 use Rattle.geom.proofs.Points.{ltP-true}
-use Rattle.segm.specs.Lists.{_∈_}
+use Rattle.lists.specs.Members.{_∈_}
 use Rattle.segm.specs.Segments.{Drawing, segmentAt}
-use Rattle.segm.proofs.Tallies.{cases}
+use Rattle.lists.proofs.Members.{cases}
 use Rattle.strip.specs.Strip.{isVertical, spans}
 use Rattle.strip.proofs.Apart.{Over}
 use Rattle.strip.proofs.Above.{spans-on, spans-over}

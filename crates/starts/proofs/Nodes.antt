@@ -11,7 +11,7 @@ use Rattle.geom.specs.declared.Point.{Point}
 use Rattle.geom.specs.Points.{ltP}
 use Rattle.geom.proofs.Points.{Before, before, compare, not-less-trans, ltP-irrefl, ltP-antisym}
 use Rattle.segm.specs.Segments.{Drawing, segmentAt, nowhere}
-use Rattle.segm.proofs.Lists.{in-after, pairs-places}
+use Rattle.lists.proofs.Members.{in-after, pairs-places}
 use Rattle.neighbours.specs.Neighbours.{Ready}
 use Rattle.starts.specs.Starts.{Splits}
 

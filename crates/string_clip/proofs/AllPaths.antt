@@ -10,9 +10,9 @@ use lib.ListN.{length, getD, take, drop, set, length-append}
 use lib.Seq.{append-snoc}
 use lib.IntN.{ℤ}
 use Rattle.geom.specs.declared.Point.{Point}
-use Rattle.segm.specs.Lists.{written}
+use Rattle.lists.specs.Written.{written}
 use Rattle.segm.specs.Segments.{Drawing}
-use Rattle.segm.proofs.Lists.{flatten-++, flatten-one}
+use Rattle.lists.proofs.Entries.{flatten-++, flatten-one}
 use Rattle.contour.specs.Points.{coordinates, Writes}
 use Rattle.contour.proofs.Written.{writes-one}
 use Rattle.clip_walk.specs.Walk.{has, Move, move, takenAll, bitsLeft, begins, andThen, pathFrom, walkFrom}

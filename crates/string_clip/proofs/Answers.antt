@@ -8,7 +8,7 @@ use lib.ListN.{length}
 use lib.IntN.{ℤ, pos}
 use Rattle.geom.specs.declared.Point.{Point}
 use Rattle.geom.specs.Points.{within}
-use Rattle.segm.specs.Lists.{any}
+use Rattle.lists.specs.Members.{any}
 use Rattle.segm.specs.Segments.{segments}
 use Rattle.contour.specs.Points.{Writes}
 use Rattle.checks.specs.declared.Verdict.{Verdict}

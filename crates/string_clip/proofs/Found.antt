@@ -10,9 +10,11 @@ use lib.IntN.{ℤ, natAbs, _-ℤ_}
 use Rattle.integers.proofs.Linear.{ints, of--, of-abs, of-side}
 use Rattle.geom.specs.declared.Point.{Point}
 use Rattle.segm.specs.declared.Segment.{Segment}
-use Rattle.segm.specs.Lists.{_∈_, tally, one}
+use Rattle.lists.specs.Members.{_∈_}
+use Rattle.lists.specs.Sums.{tally, one}
 use Rattle.segm.specs.Segments.{Drawing}
-use Rattle.segm.proofs.Tallies.{tally-one, length-keep}
+use Rattle.lists.proofs.Sums.{tally-one}
+use Rattle.lists.proofs.Members.{length-keep}
 use Rattle.checks.specs.Accepted.{Good}
 use Rattle.fill_rule.specs.declared.Rule.{Rule}
 use Rattle.build.specs.declared.links.Filter.{Filter}

@@ -15,7 +15,8 @@ use Rattle.integers.proofs.Order.{abs--}
 use Rattle.geom.specs.Points.{inRange}
 use Rattle.geom.proofs.Points.{near-x, near-y}
 use Rattle.segm.specs.declared.Segment.{Segment}
-use Rattle.segm.specs.Lists.{_∈_, one}
+use Rattle.lists.specs.Members.{_∈_}
+use Rattle.lists.specs.Sums.{one}
 use Rattle.segm.specs.Segments.{Drawing, nowhere, segmentAt}
 use Rattle.checks.specs.Drawing.{endsInRange}
 use Rattle.clip_walk.specs.Walk.{has, asDrawn, linesIn}

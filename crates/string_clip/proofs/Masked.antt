@@ -8,9 +8,9 @@ use lib.ListN.{getD, length-map}
 use lib.IntN.{natAbs}
 use Rattle.integers.proofs.Booleans.{clash}
 use Rattle.segm.specs.declared.Segment.{Segment}
-use Rattle.segm.specs.Lists.{_∈_, keep}
+use Rattle.lists.specs.Members.{_∈_, keep}
 use Rattle.segm.specs.Segments.{Drawing, nowhere, segmentAt}
-use Rattle.segm.proofs.Tallies.{in-map}
+use Rattle.lists.proofs.Members.{in-map}
 use Rattle.fill_rule.specs.declared.Rule.{Rule}
 use Rattle.build.specs.declared.links.Filter.{Filter}
 use Rattle.ray.specs.Ray.{fill}

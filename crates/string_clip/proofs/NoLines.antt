@@ -13,9 +13,11 @@ use Rattle.integers.proofs.Booleans.{not-r}
 use Rattle.geom.specs.declared.Point.{Point}
 use Rattle.geom.specs.Points.{eqP}
 use Rattle.segm.specs.declared.Segment.{Segment}
-use Rattle.segm.specs.Lists.{_∈_, tally, keep, upFrom}
+use Rattle.lists.specs.Members.{_∈_, keep}
+use Rattle.lists.specs.Sums.{tally}
+use Rattle.lists.specs.UpFrom.{upFrom}
 use Rattle.segm.specs.Segments.{Drawing, nowhere, segmentAt}
-use Rattle.segm.proofs.Tallies.{keep-map}
+use Rattle.lists.proofs.Members.{keep-map}
 use Rattle.graph.specs.Nodes.{node}
 use Rattle.clip_walk.specs.Walk.{has, clear, lineBits, Step, asDrawn, Move, move, isLeft, taken, takenAll, bitsLeft, firstLeft, bothMoves, begins, way, over, fitting, goesOn, andThen, follow, pathFrom, walkFrom, walk}
 use Rattle.string_clip.specs.Paths.{through, finished, pathPoints}

@@ -6,9 +6,9 @@ use mathlib.Core.Bool.{Bool, true}
 use Prim.Native.Nat.{ℕ, _%_, _*_, _<_}
 use native.Mathlib.Omega.{arith}
 use lib.ListN.{length, getD}
-use Rattle.segm.specs.Lists.{_∈_}
+use Rattle.lists.specs.Members.{_∈_}
 use Rattle.segm.specs.Segments.{Drawing}
-use Rattle.segm.proofs.Tallies.{cases}
+use Rattle.lists.proofs.Members.{cases}
 use Rattle.ends.specs.Ends.{endPoint}
 use Rattle.graph.specs.Nodes.{otherEnd}
 use Rattle.clip_walk.specs.Walk.{has, Move, move, isLeft, taken, takenAll, bitsLeft, over, pathFrom}

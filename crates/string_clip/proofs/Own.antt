@@ -12,9 +12,11 @@ use Rattle.integers.proofs.Booleans.{both, both-l, both-r, clash, is-false}
 use Rattle.geom.specs.Points.{eqZ, ltP, eqP}
 use Rattle.geom.proofs.Points.{eqP-true, eq-eqP}
 use Rattle.segm.specs.declared.Segment.{Segment}
-use Rattle.segm.specs.Lists.{_∈_, Pairs, tally, keep, one}
+use Rattle.lists.specs.Members.{_∈_, Pairs, keep}
+use Rattle.lists.specs.Sums.{tally, one}
 use Rattle.segm.specs.Segments.{Drawing}
-use Rattle.segm.proofs.Tallies.{cases, tally-nil, keep-in}
+use Rattle.lists.proofs.Members.{cases, keep-in}
+use Rattle.lists.proofs.Sums.{tally-nil}
 use Rattle.meetings.specs.Meetings.{sameEnds}
 use Rattle.fill_rule.specs.declared.Rule.{Rule}
 use Rattle.build.specs.declared.links.Filter.{Filter}

@@ -6,7 +6,7 @@ use Prim.Native.Nat.{ℕ, zero, suc, _+_, _-_, _<_, _≤_}
 use native.Mathlib.Omega.{arith}
 use lib.ListN.{length, getD, length-map, length-reverse}
 use Rattle.segm.specs.Segments.{Drawing}
-use Rattle.segm.proofs.Lists.{getD-map}
+use Rattle.lists.proofs.Entries.{getD-map}
 use Rattle.contour.specs.Points.{origin}
 use Rattle.ends.specs.Ends.{endPoint}
 use Rattle.graph.specs.Nodes.{otherEnd}

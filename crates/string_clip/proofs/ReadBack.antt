@@ -4,7 +4,7 @@ use mathlib.Core.List.{List, flatten}
 use Prim.Native.Nat.{ℕ}
 use lib.IntN.{ℤ}
 use Rattle.geom.specs.declared.Point.{Point}
-use Rattle.segm.specs.Lists.{written}
+use Rattle.lists.specs.Written.{written}
 use Rattle.contour.proofs.Coordinates.{pair-coordinates}
 use Rattle.checks.specs.declared.Verdict.the-variants.{Accepted}
 use Rattle.contour.proofs.CutWritten.{cut-written}

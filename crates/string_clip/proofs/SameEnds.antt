@@ -7,7 +7,8 @@ use Prim.Native.Nat.{ℕ, zero, suc}
 use lib.ListN.{length}
 use Rattle.geom.specs.declared.Point.{Point}
 use Rattle.geom.specs.Points.{ltP, eqP}
-use Rattle.segm.specs.Lists.{keep, upFrom}
+use Rattle.lists.specs.Members.{keep}
+use Rattle.lists.specs.UpFrom.{upFrom}
 use Rattle.segm.specs.Segments.{Drawing, segmentAt}
 use Rattle.graph.specs.Nodes.{node}
 use Rattle.clip_walk.specs.Walk.{Step, step, asDrawn, Move, move, taken, takenAll, bitsLeft, firstLeft, bothMoves, begins, way, over, other, fitting, goesOn, andThen, follow, pathFrom, walkFrom}

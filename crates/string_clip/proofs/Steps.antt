@@ -8,9 +8,10 @@ use Prim.Native.Nat.{ℕ, zero, suc, _+_, _<_, _≤_}
 use native.Mathlib.Omega.{arith}
 use lib.ListN.{length, length-map, length-reverse}
 use Rattle.geom.specs.declared.Point.{Point}
-use Rattle.segm.specs.Lists.{_∈_, tally, one}
+use Rattle.lists.specs.Members.{_∈_}
+use Rattle.lists.specs.Sums.{tally, one}
 use Rattle.segm.specs.Segments.{Drawing}
-use Rattle.segm.proofs.Tallies.{tally-++}
+use Rattle.lists.proofs.Sums.{tally-++}
 use Rattle.clip_walk.specs.Walk.{has, lineBits, Step, step, asDrawn, Move, takenAll, bitsLeft, begins, way, over, andThen, pathFrom, walkFrom, walk}
 use Rattle.string_clip.specs.Paths.{through, finished, pathPoints, stepsFrom, stepsOfPath, stepsOf}
 use Rattle.string_clip.specs.Writing.{bitsPaths}

@@ -10,10 +10,12 @@ use lib.IntN.{ℤ, pos}
 use borrow.Author.Tests.{le-ltb}
 use Rattle.integers.proofs.Booleans.{neither, nor-l, nor-r}
 use Rattle.geom.specs.Points.{within}
-use Rattle.segm.specs.Lists.{_∈_, any, tally, one}
+use Rattle.lists.specs.Members.{_∈_, any}
+use Rattle.lists.specs.Sums.{tally, one}
 use Rattle.segm.specs.Segments.{Drawing, count, segments}
-use Rattle.segm.proofs.Lists.{length-written, written-past}
-use Rattle.segm.proofs.Tallies.{cases, tally-cong, tally-+, tally-one, tally-in, tally-some}
+use Rattle.lists.proofs.Written.{length-written, written-past}
+use Rattle.lists.proofs.Members.{cases}
+use Rattle.lists.proofs.Sums.{tally-cong, tally-+, tally-one, tally-in, tally-some}
 use Rattle.segm.proofs.Segments.{length-segments}
 use Rattle.checks.specs.declared.Verdict.the-variants.{Accepted}
 use Rattle.checks.specs.Verdict.{unknownChoice, tooShort, verdict}

@@ -8,7 +8,8 @@ use lib.ListN.{length, drop}
 use lib.IntN.{ℤ, pos, natAbs}
 use Rattle.geom.specs.Points.{eqZ, eqP}
 use Rattle.segm.specs.declared.Segment.{Segment}
-use Rattle.segm.specs.Lists.{_∈_, tally, one}
+use Rattle.lists.specs.Members.{_∈_}
+use Rattle.lists.specs.Sums.{tally, one}
 use Rattle.segm.specs.Segments.{Drawing, segments}
 use Rattle.checks.specs.Accepted.{accepts}
 use Rattle.fill_rule.specs.declared.Rule.{Rule}

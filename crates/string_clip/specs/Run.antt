@@ -4,7 +4,8 @@ use Prim.Native.Nat.{ℕ}
 use lib.ListN.{length}
 use lib.IntN.{ℤ}
 use Rattle.geom.specs.declared.Point.{Point}
-use Rattle.segm.specs.Lists.{tally, written}
+use Rattle.lists.specs.Sums.{tally}
+use Rattle.lists.specs.Written.{written}
 use Rattle.segm.specs.Segments.{segments}
 use Rattle.contour.specs.Points.{coordinates, pairUp, cut}
 use Rattle.checks.specs.declared.Verdict.{Verdict}

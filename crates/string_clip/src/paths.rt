@@ -3,7 +3,7 @@ use geom::Point;
 ghost use mathlib.Core.Path.{_≡_};
 ghost use Prim.Native.Nat.{suc, _*_, _≤_, _<_};
 ghost use lib.ListN.{length, getD};
-ghost use Rattle.segm.specs.Lists.{written};
+ghost use Rattle.lists.specs.Written.{written};
 ghost use Rattle.segm.specs.Segments.{segments};
 ghost use Rattle.contour.specs.Points.{coordinates, origin};
 ghost use Rattle.string_clip.specs.Writing.{throughEnds, endsPoints};

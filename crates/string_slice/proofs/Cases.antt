@@ -8,7 +8,10 @@ use lib.ListN.{drop}
 use lib.IntN.{ℤ, pos, negsuc}
 use Rattle.geom.specs.declared.Point.{Point}
 use Rattle.geom.specs.Points.{eqZ, within, ltP, eqP, coordinate, inRange, cross, between}
-use Rattle.segm.specs.Lists.{any, sum, tally, keep, written, upFrom}
+use Rattle.lists.specs.Members.{any, keep}
+use Rattle.lists.specs.Sums.{sum, tally}
+use Rattle.lists.specs.Written.{written}
+use Rattle.lists.specs.UpFrom.{upFrom}
 use Rattle.segm.specs.Segments.{front, segmentsOf, count, whole, segments, segmentAt, total}
 use Rattle.contour.specs.Points.{coordinates}
 use Rattle.contour.specs.Area.{crossProduct, around, shoelace, isClockwise, isLarge}

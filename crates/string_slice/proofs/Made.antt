@@ -9,10 +9,11 @@ use lib.Dec.{eqb}
 use lib.ListN.{length, take, drop, length-map}
 use lib.IntN.{ℤ}
 use Rattle.geom.specs.declared.Point.{Point}
-use Rattle.segm.specs.Lists.{tally, written, one}
+use Rattle.lists.specs.Sums.{tally, one}
+use Rattle.lists.specs.Written.{written}
 use Rattle.segm.specs.Segments.{Drawing}
-use Rattle.segm.proofs.Lists.{take-written}
-use Rattle.segm.proofs.Tallies.{in-map}
+use Rattle.lists.proofs.Written.{take-written}
+use Rattle.lists.proofs.Members.{in-map}
 use Rattle.contour.specs.Points.{coordinates, pairUp, AllInRange, cut}
 use Rattle.contour.proofs.Coordinates.{pair-coordinates}
 use Rattle.contour.proofs.Areas.{near-all}
@@ -32,13 +33,11 @@ use Rattle.slice_cut.specs.declared.Contours.{Contours}
 use Rattle.string_slice.specs.declared.Sliced.the-variants as sliced-is
 use Rattle.string_slice.specs.declared.walking.Walked.{Walked}
 use Rattle.string_slice.specs.declared.walking.Walked.the-variants.{Done, Refused}
-use Rattle.slice_cut.specs.Cutting.{counts}
+use Rattle.slice_cut.specs.Cutting.{counts, walkContours, Holds, pathsIn, cutWalks, Stand}
 use Rattle.string_slice.specs.Run.{outcome, handedOver, answered}
 use Rattle.string_slice.specs.Walking.{WalkedAre}
 use Rattle.contour.specs.Contour.{Contour}
-use Rattle.slice_cut.specs.Cutting.{walkContours}
 use Rattle.string_slice.specs.Contours.{sideBits, allContours, sliceContours, ofWalks}
-use Rattle.slice_cut.specs.Cutting.{Holds, pathsIn, cutWalks, Stand}
 use Rattle.string_slice.proofs.Sides.{proper, length-sides}
 
 -- ---- paths and directions

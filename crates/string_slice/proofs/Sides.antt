@@ -7,9 +7,9 @@ use lib.ListN.{length, getD, take, drop, set, length-map, length-take}
 use lib.Seq.{drop-cons, getD-at}
 use Rattle.integers.proofs.Booleans.{both-l, both-r}
 use Rattle.geom.specs.Points.{inRange}
-use Rattle.segm.specs.Lists.{written}
+use Rattle.lists.specs.Written.{written}
 use Rattle.segm.specs.Segments.{Drawing}
-use Rattle.segm.proofs.Lists.{written-map}
+use Rattle.lists.proofs.Written.{written-map}
 use Rattle.checks.specs.Drawing.{endsInRange}
 use Rattle.checks.specs.Accepted.{Good}
 use Rattle.fill_rule.specs.declared.Rule.{Rule}

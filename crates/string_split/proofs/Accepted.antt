@@ -11,7 +11,7 @@ use borrow.Author.Tests.{not-false, ltb-false, eqb-true}
 use Rattle.integers.proofs.Booleans.{nor-l, nor-r}
 use Rattle.geom.specs.declared.Point.{Point}
 use Rattle.geom.specs.Points.{inRange}
-use Rattle.segm.proofs.Lists.{stands}
+use Rattle.lists.proofs.Members.{stands}
 use Rattle.contour.specs.Points.{pairUp, origin, AllInRange}
 use Rattle.contour.proofs.Coordinates.{length-pairs}
 use Rattle.checks.specs.declared.Verdict.the-variants.{Accepted}

@@ -9,8 +9,10 @@ use lib.ListN.{length, take, drop, set, length-append, take-append-drop}
 use lib.Seq.{drop-drop, set-split}
 use lib.IntN.{ℤ}
 use Rattle.geom.specs.declared.Point.{Point}
-use Rattle.segm.specs.Lists.{keep, written}
-use Rattle.segm.proofs.Lists.{part-back, flatten-++}
+use Rattle.lists.specs.Members.{keep}
+use Rattle.lists.specs.Written.{written}
+use Rattle.lists.proofs.Written.{part-back}
+use Rattle.lists.proofs.Entries.{flatten-++}
 use Rattle.contour.specs.Points.{coordinates, pairUp, Writes}
 use Rattle.contour.proofs.Coordinates.{coordinates-pairs, length-pairs}
 use Rattle.contour.proofs.Written.{writes-more}

@@ -5,7 +5,8 @@ use mathlib.Core.Bool.{true, false}
 use lib.IntN.{pos, negsuc}
 use Rattle.geom.specs.declared.Point.{Point}
 use Rattle.geom.specs.Points.{eqZ, within, eqP, coordinate, inRange}
-use Rattle.segm.specs.Lists.{any, keep, written}
+use Rattle.lists.specs.Members.{any, keep}
+use Rattle.lists.specs.Written.{written}
 use Rattle.contour.specs.Points.{coordinates, pairUp}
 use Rattle.contour.specs.Area.{crossProduct, around, shoelace, isClockwise, isLarge}
 use Rattle.checks.specs.Verdict.{firstFrom}

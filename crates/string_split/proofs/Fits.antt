@@ -10,9 +10,9 @@ use lib.ListN.{length, take, drop, length-append, length-take, length-drop}
 use borrow.Author.Tests.{ltb-true}
 use Rattle.geom.specs.declared.Point.{Point}
 use Rattle.geom.specs.Points.{inRange}
-use Rattle.segm.specs.Lists.{_∈_, keep}
-use Rattle.segm.proofs.Lists.{in-take, in-drop, flatten-++}
-use Rattle.segm.proofs.Tallies.{cases, in-++, keep-in, length-keep}
+use Rattle.lists.specs.Members.{_∈_, keep}
+use Rattle.lists.proofs.Members.{in-take, in-drop, cases, in-++, keep-in, length-keep}
+use Rattle.lists.proofs.Entries.{flatten-++}
 use Rattle.contour.proofs.Areas.{near-all}
 use Rattle.contour.specs.Points.{AllInRange}
 use Rattle.contour.specs.Area.{isLarge}

@@ -10,8 +10,9 @@ use lib.Seq.{drop-cons}
 use lib.IntN.{ℤ}
 use Rattle.geom.specs.declared.Point.{Point}
 use Rattle.geom.specs.Points.{inRange}
-use Rattle.segm.specs.Lists.{keep, written}
-use Rattle.segm.proofs.Tallies.{keep-++, length-keep}
+use Rattle.lists.specs.Members.{keep}
+use Rattle.lists.specs.Written.{written}
+use Rattle.lists.proofs.Members.{keep-++, length-keep}
 use Rattle.contour.specs.Points.{coordinates, origin, AllInRange, Writes}
 use Rattle.contour.specs.Area.{isLarge}
 use Rattle.bin_store.specs.Sightings.{Sighting, numberOf, sight}

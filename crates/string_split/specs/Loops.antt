@@ -5,7 +5,7 @@ use Prim.Native.Nat.{ℕ, suc}
 use lib.Dec.{ltb}
 use lib.ListN.{length, take, drop}
 use Rattle.geom.specs.declared.Point.{Point}
-use Rattle.segm.specs.Lists.{keep}
+use Rattle.lists.specs.Members.{keep}
 use Rattle.contour.specs.Area.{isLarge}
 use Rattle.bin_store.specs.Sightings.{Sighting, numberOf, sight}
 

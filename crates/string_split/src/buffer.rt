@@ -7,7 +7,7 @@ ghost use Prim.Native.Nat.{suc, _+_, _*_, _≤_, _<_};
 ghost use lib.Dec.{ltb};
 ghost use lib.ListN.{length};
 ghost use Rattle.geom.specs.Points.{inRange};
-ghost use Rattle.segm.specs.Lists.{keep};
+ghost use Rattle.lists.specs.Members.{keep};
 ghost use Rattle.contour.specs.Points.{pairUp, AllInRange, Writes};
 ghost use Rattle.contour.specs.Area.{isLarge};
 ghost use Rattle.bin_store.specs.Bins.{Binned};

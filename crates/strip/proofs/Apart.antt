@@ -16,7 +16,7 @@ use Rattle.geom.specs.Points.{eqP, between}
 use Rattle.geom.proofs.Points.{eq-eqZ, eq-eqP, eqP-true, Before, before, point}
 use Rattle.segm.specs.declared.Segment.{Segment}
 use Rattle.segm.specs.Segments.{Drawing, segmentAt, nowhere}
-use Rattle.segm.proofs.Lists.{pairs-places, in-after}
+use Rattle.lists.proofs.Members.{pairs-places, in-after}
 use Rattle.meetings.specs.Meetings.{side, parts, inside, sameEnds, meetsWrongly, NoneMeetWrongly}
 use Rattle.strip.specs.Strip.{reach, gap, under, falls}
 use Rattle.strip.proofs.Signs.{Sign, minus, nil, plus, sign, up-pos, up-neg, down-pos, down-neg, down-nil, neg-pos, neg-neg, neg-nil, diff-nil, join-both, join-l, join-r, join-nil, falls-minus, falls-plus, falls-nil, falls-true, falls-by, Falls, now, next}

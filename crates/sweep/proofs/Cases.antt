@@ -4,7 +4,10 @@ use mathlib.Core.List.{List, [], _∷_, _++_, map}
 use Prim.Native.Nat.{ℕ}
 use lib.IntN.{ℤ, pos, negsuc}
 use Rattle.geom.specs.Points.{eqZ, ltP, eqP, cross}
-use Rattle.segm.specs.Lists.{sum, keep, written, upFrom}
+use Rattle.lists.specs.Sums.{sum}
+use Rattle.lists.specs.Members.{keep}
+use Rattle.lists.specs.Written.{written}
+use Rattle.lists.specs.UpFrom.{upFrom}
 use Rattle.segm.specs.Segments.{front, segmentsOf, count, segments, segmentAt, total}
 use Rattle.segm.specs.CaseA.{segment, A}
 use Rattle.ends.specs.Ordering.{insert, ordering}

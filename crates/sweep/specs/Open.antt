@@ -8,7 +8,7 @@ use lib.ListN.{length, getD, set}
 use lib.IntN.{ℤ, pos}
 use lib.Signed.{ltZ}
 use Rattle.geom.specs.declared.Point.{Point}
-use Rattle.segm.specs.Lists.{keep}
+use Rattle.lists.specs.Members.{keep}
 use Rattle.segm.specs.Segments.{Drawing, segmentAt}
 use Rattle.scan.specs.declared.Sought.the-variants.{At}
 use Rattle.scan.specs.Scan.{isBelow, putAt}

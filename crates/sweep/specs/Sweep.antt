@@ -9,7 +9,7 @@ use lib.IntN.{ℤ, pos, _+ℤ_}
 use lib.Signed.{ltZ}
 use Rattle.geom.specs.declared.Point.{Point}
 use Rattle.geom.specs.Points.{eqP, cross}
-use Rattle.segm.specs.Lists.{upFrom}
+use Rattle.lists.specs.UpFrom.{upFrom}
 use Rattle.segm.specs.Segments.{Drawing, segmentAt}
 use Rattle.ends.specs.Ordering.{ordering}
 use Rattle.strip.specs.Strip.{isVertical}

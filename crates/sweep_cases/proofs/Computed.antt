@@ -5,7 +5,8 @@ use mathlib.Core.List.{List, map}
 use Prim.Native.Nat.{ℕ}
 use lib.IntN.{pos}
 use Rattle.geom.specs.Points.{eqZ, eqP, cross}
-use Rattle.segm.specs.Lists.{upFrom, keep}
+use Rattle.lists.specs.UpFrom.{upFrom}
+use Rattle.lists.specs.Members.{keep}
 use Rattle.segm.specs.Segments.{front, segmentsOf, count, segments, segmentAt}
 use Rattle.meetings.specs.Meetings.{side}
 use Rattle.ends.specs.Ordering.{insert, ordering}

@@ -10,9 +10,9 @@ use borrow.Author.Tests.{eq-eqb, le-ltb}
 use lib.Dec.{eqb, ltb}
 use lib.ListN.{length, getD, length-append, length-map}
 use lib.IntN.{ℤ, pos, natAbs}
-use Rattle.segm.specs.Lists.{_∈_}
+use Rattle.lists.specs.Members.{_∈_}
 use Rattle.segm.specs.Segments.{Drawing, width, front, segments, whole, numbersOf, laid}
-use Rattle.segm.proofs.Tallies.{in-map}
+use Rattle.lists.proofs.Members.{in-map}
 use Rattle.segm.proofs.Laid.{length-laid, segments-laid}
 use Rattle.text.specs.declared.Choices.{Choices}
 use Rattle.decimal.specs.declared.Field.{Field}

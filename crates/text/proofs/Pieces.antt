@@ -8,8 +8,8 @@ use native.Mathlib.Omega.{arith}
 use borrow.Author.Tests.{eqb-true, eq-eqb, ne-eqb}
 use lib.Dec.{eqb}
 use lib.ListN.{length, length-append}
-use Rattle.segm.specs.Lists.{_∈_}
-use Rattle.segm.proofs.Tallies.{in-++}
+use Rattle.lists.specs.Members.{_∈_}
+use Rattle.lists.proofs.Members.{in-++}
 use Rattle.text.specs.Grammar.{onto, pieces}
 use Rattle.text.specs.Writing.{joined}
 

@@ -11,7 +11,7 @@ use lib.ListN.{length, set, length-append}
 use lib.Seq.{sets}
 use lib.IntN.{ℤ}
 use Rattle.integers.proofs.Booleans.{same-test}
-use Rattle.segm.proofs.Stores.{sets-append, sets-front, sets-all}
+use Rattle.lists.proofs.Written.{sets-append, sets-front, sets-all}
 use Rattle.text.specs.declared.Reading.the-variants as reading-is
 use Rattle.text.specs.declared.lines.Scanned.{Scanned}
 use Rattle.text.specs.declared.lines.Scanned.the-variants as scanned-is

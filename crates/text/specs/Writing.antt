@@ -2,7 +2,7 @@
 use mathlib.Core.List.{List, [], _∷_, _++_, map, flatten}
 use Prim.Native.Nat.{ℕ}
 use lib.IntN.{ℤ}
-use Rattle.segm.specs.Lists.{_∈_}
+use Rattle.lists.specs.Members.{_∈_}
 use Rattle.segm.specs.Segments.{Drawing, numbersOf}
 use Rattle.text.specs.declared.Choices.{Choices}
 use Rattle.decimal.specs.Decimal.{signed, NineDigits}

@@ -2,7 +2,10 @@
 use mathlib.Core.Path.{refl}
 use mathlib.Core.List.{flatten}
 use Rattle.geom.specs.Points.{eqZ, within, ltP, eqP, coordinate, inRange, cross, between}
-use Rattle.segm.specs.Lists.{any, sum, tally, keep, written, upFrom}
+use Rattle.lists.specs.Members.{any, keep}
+use Rattle.lists.specs.Sums.{sum, tally}
+use Rattle.lists.specs.Written.{written}
+use Rattle.lists.specs.UpFrom.{upFrom}
 use Rattle.segm.specs.Segments.{front, segmentsOf, count, whole, segments, segmentAt, total}
 use Rattle.contour.specs.Points.{coordinates, pairUp}
 use Rattle.contour.specs.Area.{crossProduct, around, shoelace, isLarge}

@@ -5,7 +5,7 @@ use mathlib.Core.List.{List, [], _∷_, _++_, map}
 use Prim.Native.Nat.{ℕ, _*_}
 use lib.ListN.{drop}
 use lib.IntN.{ℤ, pos, negsuc}
-use Rattle.segm.specs.Lists.{upFrom}
+use Rattle.lists.specs.UpFrom.{upFrom}
 use Rattle.checks.specs.declared.Verdict.{Verdict}
 use Rattle.checks.specs.declared.Verdict.the-variants as verdict-is
 use Rattle.checks.specs.Verdict.{verdict}

@@ -13,9 +13,9 @@ use Rattle.integers.proofs.Booleans.{clash, dec}
 use Rattle.integers.proofs.Linear.{ints}
 use Rattle.geom.specs.declared.Point.{Point}
 use Rattle.geom.specs.Points.{inRange}
-use Rattle.segm.specs.Lists.{_∈_}
+use Rattle.lists.specs.Members.{_∈_}
 use Rattle.segm.specs.Segments.{Drawing, segmentAt}
-use Rattle.segm.proofs.Tallies.{cases, in-++, in-left, in-right}
+use Rattle.lists.proofs.Members.{cases, in-++, in-left, in-right}
 use Rattle.ends.specs.Ends.{endPoint}
 use Rattle.ends.proofs.Ends.{end-a, end-b}
 use Rattle.strip.specs.Strip.{isVertical}

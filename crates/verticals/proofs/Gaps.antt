@@ -17,8 +17,7 @@ use Rattle.geom.specs.Points.{eqP}
 use Rattle.geom.proofs.Points.{eqP-true}
 use Rattle.segm.specs.declared.Segment.{Segment}
 use Rattle.segm.specs.Segments.{Drawing, segmentAt}
-use Rattle.segm.proofs.Lists.{in-at, in-take}
-use Rattle.segm.proofs.Tallies.{cases}
+use Rattle.lists.proofs.Members.{in-at, in-take, cases}
 use Rattle.meetings.specs.Meetings.{side}
 use Rattle.strip.specs.Strip.{isVertical, above}
 use Rattle.strip.proofs.Above.{above-yes}

@@ -10,7 +10,7 @@ use lib.Signed.{ltZ, _≤ℤ_}
 use Rattle.geom.specs.declared.Point.{Point}
 use Rattle.geom.specs.Points.{eqP}
 use Rattle.segm.specs.declared.Segment.{Segment}
-use Rattle.segm.specs.Lists.{_∈_, Pairs}
+use Rattle.lists.specs.Members.{_∈_, Pairs}
 use Rattle.segm.specs.Segments.{Drawing, segmentAt}
 use Rattle.ends.specs.Ends.{endPoint}
 use Rattle.meetings.specs.Meetings.{side}

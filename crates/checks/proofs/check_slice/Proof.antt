@@ -2,7 +2,7 @@
 use borrow.Author.Needs.{needs}
 use mir.Facts.{toZ-ofZ}
 use Rattle.integers.proofs.Booleans.{or-false}
-use Rattle.segm.specs.Lists.{any}
+use Rattle.lists.specs.Members.{any}
 use Rattle.checks.specs.Runs.{sliceRun}
 use Rattle.checks.proofs.Order.{by-flags}
 use Rattle.checks.proofs.check_slice.Statement.{statement}

@@ -4,7 +4,7 @@ use native.Mathlib.Numerals.{add-one}
 use Prim.Native.Nat.{suc, _+_}
 use lib.ListN.{drop}
 use Rattle.segm.specs.declared.Segment.{Segment}
-use Rattle.segm.specs.Lists.{any}
+use Rattle.lists.specs.Members.{any}
 use Rattle.segm.specs.Segments.{segments, segmentAt}
 use Rattle.meetings.specs.Meetings.{Proper, meetsWrongly}
 use Rattle.checks.specs.Drawing.{meetingAt}

@@ -4,9 +4,9 @@ use mathlib.Core.Path.{_≡_, sym, ap, subst, _∙_}
 use mathlib.Core.Bool.{Bool, _||_}
 use Prim.Native.Nat.{ℕ, _-_, _<_, _+_}
 use lib.ListN.{length, drop, drop-of-length-le}
-use Rattle.segm.specs.Lists.{any}
+use Rattle.lists.specs.Members.{any}
 use Rattle.segm.specs.Segments.{segments, nowhere, segmentAt}
-use Rattle.segm.proofs.Lists.{any-step}
+use Rattle.lists.proofs.Members.{any-step}
 use Rattle.segm.proofs.Segments.{count-inside, count-past}
 use Rattle.meetings.specs.Meetings.{Proper, meetsWrongly}
 use Rattle.checks.proofs.Faults.{proper-at}

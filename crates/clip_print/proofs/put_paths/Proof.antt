@@ -6,8 +6,8 @@ use native.Mathlib.Omega.{arith}
 use Prim.Native.Nat.{ℕ, _+_, _*_, _-_, _≤_}
 use lib.ListN.{length, getD, take, drop, length-take}
 use lib.IntN.{ℤ}
-use Rattle.segm.specs.Lists.{tally}
-use Rattle.segm.proofs.Tallies.{tally-take, tally-part}
+use Rattle.lists.specs.Sums.{tally}
+use Rattle.lists.proofs.Sums.{tally-take, tally-part}
 use Rattle.clip_print.proofs.Pairs.{linesFrom, paths-more, paths-none}
 use Rattle.clip_print.proofs.Puts.{Left, left-all, left-less, left-none}
 use Rattle.clip_print.proofs.put_paths.Statement.{statement}

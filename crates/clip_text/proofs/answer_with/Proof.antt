@@ -6,7 +6,7 @@ use Prim.Native.Nat.{ℕ, _≤_}
 use native.Mathlib.Omega.{arith}
 use lib.ListN.{length}
 use lib.IntN.{ℤ}
-use Rattle.segm.specs.Lists.{written}
+use Rattle.lists.specs.Written.{written}
 use Rattle.string_clip.specs.declared.Clipped.{Clipped}
 use Rattle.contour.specs.Points.{pairUp, cut}
 use Rattle.string_clip.specs.Run.{Outcome, outcome, told, output}

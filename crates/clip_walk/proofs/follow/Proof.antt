@@ -7,8 +7,8 @@ use native.Mathlib.Omega.{arith}
 use Prim.Native.Nat.{ℕ, _+_, _*_, _<_, _≤_}
 use lib.ListN.{length, set, length-set, length-append}
 use lib.Seq.{append-snoc}
-use Rattle.segm.specs.Lists.{written}
-use Rattle.segm.proofs.Lists.{written-more}
+use Rattle.lists.specs.Written.{written}
+use Rattle.lists.proofs.Written.{written-more}
 use Rattle.clip_walk.specs.declared.Next.{Next}
 use Rattle.clip_walk.specs.declared.Next.the-variants.{Stop, Leave}
 use Rattle.clip_walk.specs.Walk.{bitsLeft}

@@ -11,8 +11,8 @@ use lib.IntN.{ℤ, pos}
 use mir.Syntax.{w32}
 use mir.Val.{toZ, ofZ}
 use Rattle.integers.proofs.Machine.{read}
-use Rattle.segm.specs.Lists.{written}
-use Rattle.segm.proofs.Lists.{written-more}
+use Rattle.lists.specs.Written.{written}
+use Rattle.lists.proofs.Written.{written-more}
 use Rattle.contour.proofs.copy.Statement.{statement}
 use Rattle.contour.proofs.copy.Tie as tie
 

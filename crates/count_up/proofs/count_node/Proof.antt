@@ -9,7 +9,7 @@ use mir.Syntax.{w32}
 use Rattle.integers.proofs.Machine.{got}
 use lib.Seq.{length-take-le}
 use Rattle.segm.specs.Segments.{segments}
-use Rattle.segm.proofs.Lists.{in-take, in-drop}
+use Rattle.lists.proofs.Members.{in-take, in-drop}
 use Rattle.count_up.specs.CountUp.{countUp}
 use Rattle.count_up.proofs.Stretch.{last-within}
 use Rattle.count_up.proofs.count_node.Statement.{statement}

@@ -11,7 +11,7 @@ use mir.Val.{toZ, ofZ}
 use Rattle.integers.proofs.Machine.{Is, add, ret, read, got}
 use Rattle.segm.specs.declared.Segment.{Segment}
 use Rattle.segm.specs.Segments.{Drawing, segments, segmentAt}
-use Rattle.segm.proofs.Lists.{in-at}
+use Rattle.lists.proofs.Members.{in-at}
 use Rattle.count_up.specs.CountUp.{countUp}
 use Rattle.count_up.proofs.Stretch.{count-more, count-none}
 use Rattle.count_up.proofs.count_up.Statement.{statement}

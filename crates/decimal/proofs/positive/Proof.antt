@@ -12,7 +12,7 @@ use lib.Dec.{eqb, ltb, lit<}
 use lib.ListN.{length, getD, drop, drop-of-length-le}
 use lib.Seq.{drop-cons}
 use Rattle.integers.proofs.Booleans.{or-l, or-r}
-use Rattle.segm.proofs.Tallies.{cases}
+use Rattle.lists.proofs.Members.{cases}
 use Rattle.decimal.specs.Decimal.{isDigit, worth, positive}
 use Rattle.decimal.proofs.Digits.{digit}
 use Rattle.decimal.proofs.positive.Statement.{statement}

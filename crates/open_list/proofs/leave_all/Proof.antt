@@ -10,7 +10,7 @@ use lib.ListN.{length, getD, take}
 use lib.Seq.{take-suc, take-all}
 use Rattle.integers.proofs.Booleans.{clash}
 use Rattle.segm.specs.Segments.{Drawing, segments}
-use Rattle.segm.proofs.Lists.{in-at}
+use Rattle.lists.proofs.Members.{in-at}
 use Rattle.open_list.specs.OpenList.{Left}
 use Rattle.open_list.proofs.Laws.{none-left, left-more, left-known}
 use Rattle.open_list.proofs.Spanning.{can-leave-next}

@@ -6,7 +6,7 @@ use native.Mathlib.Omega.{arith}
 use Prim.Native.Nat.{ℕ, _+_, _-_, _*_, _/_, _≤_, _<_}
 use lib.ListN.{length, getD, take, set, length-set}
 use lib.Seq.{length-take-le}
-use Rattle.segm.specs.Lists.{written}
+use Rattle.lists.specs.Written.{written}
 use Rattle.scan.specs.Scan.{putAt}
 use Rattle.scan.proofs.Moving.{put-over, move-up, unmoved, put-within}
 use Rattle.scan.proofs.insert.Statement.{statement}

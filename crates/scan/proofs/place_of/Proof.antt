@@ -6,7 +6,7 @@ use native.Mathlib.Omega.{arith}
 use Prim.Native.Nat.{ℕ, _+_, _-_, _/_, _<_, _≤_}
 use lib.ListN.{length}
 use Rattle.segm.specs.Segments.{segments}
-use Rattle.segm.proofs.Lists.{in-at}
+use Rattle.lists.proofs.Members.{in-at}
 use Rattle.scan.specs.Scan.{belowAt, Changes}
 use Rattle.scan.proofs.place_of.Statement.{statement}
 use Rattle.scan.proofs.place_of.Tie as tie

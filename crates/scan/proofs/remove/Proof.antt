@@ -5,7 +5,7 @@ use mathlib.Core.List.{List}
 use native.Mathlib.Omega.{arith}
 use Prim.Native.Nat.{ℕ, suc, _+_, _-_, _≤_, _<_}
 use lib.ListN.{length, take}
-use Rattle.segm.specs.Lists.{written}
+use Rattle.lists.specs.Written.{written}
 use Rattle.scan.specs.Scan.{outAt}
 use Rattle.scan.proofs.Moving.{none-moved, move-down, out-within}
 use Rattle.scan.proofs.remove.Statement.{statement}

@@ -8,7 +8,7 @@ use lib.Dec.{eqb}
 use lib.ListN.{length, getD, take, drop, length-take, length-drop}
 use lib.IntN.{ℤ}
 use Rattle.geom.specs.declared.Point.{Point}
-use Rattle.segm.specs.Lists.{tally}
+use Rattle.lists.specs.Sums.{tally}
 use Rattle.contour.specs.Points.{pairUp}
 use Rattle.contour.proofs.Coordinates.{length-pairs}
 use Rattle.string_split.specs.declared.buffer.Found.{Found}

@@ -1,7 +1,7 @@
 -- Memory for the walks of a small drawing or of any. Assumes nothing.
 use borrow.Author.Needs.{needs}
 use native.Mathlib.Omega.{arith}
-use Rattle.segm.specs.Lists.{tally}
+use Rattle.lists.specs.Sums.{tally}
 use Rattle.string_split.proofs.Memory.{small-memory, any-memory}
 use Rattle.slice_cut.proofs.cut_walks.Statement.{statement}
 use Rattle.slice_cut.proofs.cut_walks.Tie as tie

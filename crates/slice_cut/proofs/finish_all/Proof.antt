@@ -9,7 +9,8 @@ use lib.ListN.{length, getD, take, drop, length-set}
 use lib.Seq.{take-all}
 use lib.IntN.{ℤ}
 use Rattle.geom.specs.declared.Point.{Point}
-use Rattle.segm.specs.Lists.{tally, written}
+use Rattle.lists.specs.Sums.{tally}
+use Rattle.lists.specs.Written.{written}
 use Rattle.contour.specs.Points.{coordinates, pairUp}
 use Rattle.contour.proofs.Coordinates.{length-pairs}
 use Rattle.string_split.specs.Splitting.{Splittable}

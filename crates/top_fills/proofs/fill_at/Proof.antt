@@ -10,7 +10,7 @@ use mir.Syntax.{w32}
 use mir.Val.{toZ, ofZ}
 use Rattle.integers.proofs.Machine.{Val, Is, read, ret, sub}
 use Rattle.segm.specs.declared.Segment.{Segment}
-use Rattle.segm.specs.Lists.{_∈_}
+use Rattle.lists.specs.Members.{_∈_}
 use Rattle.segm.specs.Segments.{Drawing, segments, segmentAt}
 use Rattle.segm.proofs.Segments.{segment-in}
 use Rattle.fill_rule.specs.FillRule.{fillOf}

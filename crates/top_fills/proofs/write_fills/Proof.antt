@@ -6,9 +6,9 @@ use native.Mathlib.Omega.{arith}
 use Prim.Native.Nat.{ℕ, _-_, _<_, _≤_}
 use lib.ListN.{length, take, set, length-set}
 use lib.Seq.{take-all}
-use Rattle.segm.specs.Lists.{written}
+use Rattle.lists.specs.Written.{written}
 use Rattle.segm.specs.Segments.{Drawing, segments, segmentAt, nowhere}
-use Rattle.segm.proofs.Lists.{written-map}
+use Rattle.lists.proofs.Written.{written-map}
 use Rattle.segm.proofs.Segments.{count-inside, count-past}
 use Rattle.ray.specs.Ray.{fill, fills}
 use Rattle.top_fills.proofs.write_fills.Statement.{statement}

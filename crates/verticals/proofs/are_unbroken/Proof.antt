@@ -15,8 +15,8 @@ use Rattle.integers.proofs.Linear.{ints, of-pos, of-neg, of-abs}
 use Rattle.integers.proofs.Machine.{read}
 use Rattle.integers.proofs.Order.{lt-le}
 use Rattle.geom.proofs.Points.{near-y, ltP-true}
-use Rattle.segm.specs.Lists.{_∈_}
-use Rattle.segm.proofs.Lists.{in-at, in-take, pairs-before}
+use Rattle.lists.specs.Members.{_∈_}
+use Rattle.lists.proofs.Members.{in-at, in-take, pairs-before}
 use Rattle.ends.specs.Ends.{endPoint}
 use Rattle.neighbours.proofs.Upright.{vertical-upright}
 use Rattle.verticals.specs.Verticals.{Stands, Beyond, Unbroken}

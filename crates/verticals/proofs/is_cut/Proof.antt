@@ -10,7 +10,7 @@ use Prim.Native.Nat.{ℕ, _-_, _<_}
 use lib.ListN.{length, getD}
 use Rattle.integers.proofs.Booleans.{clash}
 use Rattle.segm.specs.Segments.{Drawing, segments, segmentAt}
-use Rattle.segm.proofs.Lists.{in-at}
+use Rattle.lists.proofs.Members.{in-at}
 use Rattle.scan.specs.Scan.{Listed}
 use Rattle.verticals.specs.Verticals.{liesUnder}
 use Rattle.verticals.proofs.is_cut.Statement.{statement}

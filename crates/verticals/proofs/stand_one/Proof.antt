@@ -11,7 +11,7 @@ use mir.Val.{toZ, ofZ}
 use Rattle.integers.proofs.Booleans.{clash}
 use Rattle.integers.proofs.Machine.{Is, add, ret, read, got}
 use Rattle.segm.specs.declared.Segment.{Segment}
-use Rattle.segm.proofs.Lists.{in-take}
+use Rattle.lists.proofs.Members.{in-take}
 use Rattle.meetings.specs.Meetings.{Proper}
 use Rattle.count_up.specs.CountUp.{lastIn}
 use Rattle.count_up.proofs.Stretch.{last-within}

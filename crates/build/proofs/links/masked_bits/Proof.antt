@@ -9,9 +9,9 @@ use lib.ListN.{length, take, set, length-set, length-map}
 use lib.Seq.{take-all}
 use lib.IntN.{natAbs}
 use Rattle.segm.specs.declared.Segment.{Segment}
-use Rattle.segm.specs.Lists.{written}
+use Rattle.lists.specs.Written.{written}
 use Rattle.segm.specs.Segments.{Drawing, segments, segmentAt, nowhere}
-use Rattle.segm.proofs.Lists.{written-map, written-whole}
+use Rattle.lists.proofs.Written.{written-map, written-whole}
 use Rattle.segm.proofs.Segments.{count-inside, count-past}
 use Rattle.fill_rule.specs.declared.Rule.{Rule}
 use Rattle.ray.specs.Ray.{fill}

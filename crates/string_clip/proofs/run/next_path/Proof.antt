@@ -7,9 +7,9 @@ use native.Mathlib.Omega.{arith}
 use Prim.Native.Nat.{ℕ, suc, _*_, _<_, _≤_}
 use lib.ListN.{length, getD, take, length-take}
 use Rattle.geom.specs.declared.Point.{Point}
-use Rattle.segm.specs.Lists.{written}
+use Rattle.lists.specs.Written.{written}
 use Rattle.segm.specs.Segments.{Drawing, segments}
-use Rattle.segm.proofs.Lists.{take-written}
+use Rattle.lists.proofs.Written.{take-written}
 use Rattle.clip_walk.specs.Walk.{has, taken, bitsLeft}
 use Rattle.string_clip.specs.Paths.{pathPoints}
 use Rattle.contour.specs.Points.{coordinates}

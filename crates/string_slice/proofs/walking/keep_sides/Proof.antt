@@ -6,8 +6,8 @@ use native.Mathlib.Omega.{arith}
 use Prim.Native.Nat.{ℕ, _-_, _%_}
 use lib.ListN.{length, take, length-map, length-set}
 use lib.Seq.{take-all}
-use Rattle.segm.specs.Lists.{written}
-use Rattle.segm.proofs.Lists.{written-whole}
+use Rattle.lists.specs.Written.{written}
+use Rattle.lists.proofs.Written.{written-whole}
 use Rattle.string_slice.proofs.Sides.{next-side}
 use Rattle.string_slice.proofs.walking.keep_sides.Statement.{statement}
 use Rattle.string_slice.proofs.walking.keep_sides.Tie as tie

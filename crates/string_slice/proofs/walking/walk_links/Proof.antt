@@ -7,7 +7,7 @@ use Prim.Native.Nat.{ℕ, _*_, _%_, _≤_}
 use lib.ListN.{length, take, drop}
 use lib.Seq.{length-take-le, length-front}
 use Rattle.segm.specs.Segments.{Drawing, segments}
-use Rattle.segm.proofs.Lists.{written-whole}
+use Rattle.lists.proofs.Written.{written-whole}
 use Rattle.segm.proofs.Segments.{length-segments}
 use Rattle.ends.proofs.Parts.{prefix-back, prefix-length}
 use Rattle.graph.specs.Nodes.{Nodes}

@@ -6,7 +6,7 @@ use native.Mathlib.Omega.{arith}
 use Prim.Native.Nat.{_<_}
 use lib.ListN.{length}
 use Rattle.geom.specs.declared.Point.{Point}
-use Rattle.segm.specs.Lists.{keep}
+use Rattle.lists.specs.Members.{keep}
 use Rattle.contour.specs.Points.{pairUp}
 use Rattle.contour.specs.Area.{isLarge}
 use Rattle.contour.proofs.Coordinates.{length-pairs}

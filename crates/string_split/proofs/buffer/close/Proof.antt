@@ -8,7 +8,7 @@ use Prim.Native.Nat.{ℕ, suc, _+_, _*_, _-_, _≤_}
 use lib.ListN.{length, take, drop, length-take, length-drop}
 use lib.IntN.{ℤ}
 use Rattle.geom.specs.declared.Point.{Point}
-use Rattle.segm.specs.Lists.{keep}
+use Rattle.lists.specs.Members.{keep}
 use Rattle.contour.specs.Points.{pairUp, AllInRange}
 use Rattle.contour.specs.Area.{isLarge}
 use Rattle.string_split.specs.Loops.{bufferPoint}

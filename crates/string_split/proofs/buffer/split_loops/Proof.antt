@@ -8,8 +8,8 @@ use lib.ListN.{length, take, drop}
 use lib.Seq.{length-take-le, length-front, take-at}
 use lib.IntN.{ℤ}
 use Rattle.geom.specs.declared.Point.{Point}
-use Rattle.segm.specs.Lists.{keep}
-use Rattle.segm.proofs.Tallies.{keep-++, length-keep}
+use Rattle.lists.specs.Members.{keep}
+use Rattle.lists.proofs.Members.{keep-++, length-keep}
 use Rattle.contour.specs.Points.{pairUp, AllInRange, Writes}
 use Rattle.contour.specs.Area.{isLarge}
 use Rattle.contour.proofs.Coordinates.{length-pairs, pairUp-take}

@@ -11,8 +11,8 @@ use lib.ListN.{length, getD}
 use lib.IntN.{ℤ}
 use Rattle.geom.specs.declared.Point.{Point}
 use Rattle.geom.specs.Points.{inRange}
-use Rattle.segm.specs.Lists.{keep}
-use Rattle.segm.proofs.Lists.{in-at}
+use Rattle.lists.specs.Members.{keep}
+use Rattle.lists.proofs.Members.{in-at}
 use Rattle.contour.specs.Points.{pairUp, origin, Writes}
 use Rattle.contour.specs.Area.{isLarge}
 use Rattle.contour.proofs.Coordinates.{length-pairs}

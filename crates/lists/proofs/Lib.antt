@@ -1,0 +1,5 @@
+pub mod Members
+pub mod Sums
+pub mod Written
+pub mod UpFrom
+pub mod Entries

@@ -1,0 +1,4 @@
+pub mod Members
+pub mod Sums
+pub mod Written
+pub mod UpFrom
