@@ -1,8 +1,8 @@
 // The memory of first sightings: a map from points to numbers, by hash. Every function here is proved, and the crate assumes nothing of its own.
-mod lists;
+mod bins;
 mod store;
 
-pub use lists::clear;
+pub use bins::clear;
 pub use store::BinStore;
 pub use store::Inserted;
 pub use store::Seen;

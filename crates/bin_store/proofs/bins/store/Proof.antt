@@ -5,8 +5,8 @@ use native.Mathlib.Omega.{arith}
 use lib.ListN.{length}
 use Rattle.bin_store.proofs.Links.{bin-below}
 use Rattle.bin_store.proofs.Stored.{memory-stored, binned-stored}
-use Rattle.bin_store.proofs.lists.store.Statement.{statement}
-use Rattle.bin_store.proofs.lists.store.Tie as tie
+use Rattle.bin_store.proofs.bins.store.Statement.{statement}
+use Rattle.bin_store.proofs.bins.store.Tie as tie
 
 bin-index-requires : tie.Need-bin-index-requires
 bin-index-requires c κs = search needs

@@ -7,8 +7,8 @@ use lib.ListN.{length, getD}
 use Rattle.geom.specs.Points.{eqP}
 use Rattle.bin_store.specs.Bins.{pointOf}
 use Rattle.bin_store.proofs.Links.{bin-below, Ahead, ahead-first, ahead-next, ahead-none}
-use Rattle.bin_store.proofs.lists.find.Statement.{statement}
-use Rattle.bin_store.proofs.lists.find.Tie as tie
+use Rattle.bin_store.proofs.bins.find.Statement.{statement}
+use Rattle.bin_store.proofs.bins.find.Tie as tie
 
 abbrev Inv-loop : tie.InvT-loop
 Inv-loop heads nexts seen count p b j₀ j = (j ≤ count) × Ahead nexts seen p count j

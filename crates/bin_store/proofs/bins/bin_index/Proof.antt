@@ -13,8 +13,8 @@ use Rattle.integers.proofs.Machine.{Is, rd, par, lit, cast, add, mul, to-u, u-i
 use Rattle.geom.specs.declared.Point.{Point}
 use Rattle.geom.proofs.Points.{near-x, near-y}
 use Rattle.bin_store.specs.Bins.{binIndex}
-use Rattle.bin_store.proofs.lists.bin_index.Statement.{statement}
-use Rattle.bin_store.proofs.lists.bin_index.Tie as tie
+use Rattle.bin_store.proofs.bins.bin_index.Statement.{statement}
+use Rattle.bin_store.proofs.bins.bin_index.Tie as tie
 
 -- a coordinate, wider
 wide : (z : ℤ) → mag z < 2 ^ 31 → natAbs z ≤ 16777216 → Is w64 16777216 (toZ w32 (ofZ w32 z)) z

@@ -8,8 +8,8 @@ use native.Mathlib.Omega.{arith}
 use lib.ListN.{length, getD, set, length-set, List·getD-eq-default}
 use lib.Seq.{getD-set-same, getD-set-other}
 use Rattle.bin_store.proofs.Links.{no-items}
-use Rattle.bin_store.proofs.lists.clear.Statement.{statement}
-use Rattle.bin_store.proofs.lists.clear.Tie as tie
+use Rattle.bin_store.proofs.bins.clear.Statement.{statement}
+use Rattle.bin_store.proofs.bins.clear.Tie as tie
 
 abbrev Inv-loop : tie.InvT-loop
 Inv-loop heads₀ nexts seen numbers b₀ heads b = (length heads ≡ length heads₀) × ((c : ℕ) → c < b → getD heads c 0 ≡ 0)
