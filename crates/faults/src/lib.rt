@@ -1,0 +1,67 @@
+// Refusals 3 to 7: what can be wrong with one segment, by place.
+use geom::Point;
+use refusal::Verdict;
+use segm::Segment;
+ghost use mathlib.Core.Path.{_≡_};
+ghost use Prim.Native.Nat.{_-_};
+ghost use Rattle.segm.specs.Segments.{segments};
+ghost use Rattle.faults.specs.Faults.{fault, faultAt, faultsOf};
+
+// The lowest of refusals 3 to 7 that fits t, where the segment before it starts at p; 0 for none.
+fn fault(p: Point, t: Segment) -> u32
+    ensures { λ r. ⌜ r ≡ fault p t ⌝ }
+{
+    let a = t.a;
+    let b = t.b;
+    if !(geom::is_in_range(a) & geom::is_in_range(b)) {
+        return 3;
+    }
+    if !geom::less(a, b) {
+        return 4;
+    }
+    if !geom::is_within(-1000, 1000, t.winding) {
+        return 5;
+    }
+    if !geom::is_within(0, 3, t.bits) {
+        return 6;
+    }
+    if geom::less(a, p) {
+        return 7;
+    }
+    0
+}
+
+// The place before i, 0 for the first.
+fn previous(i: usize) -> usize
+    ensures { λ r. ⌜ r ≡ i - 1 ⌝ }
+{
+    if i == 0 {
+        return 0;
+    }
+    i - 1
+}
+
+// Refusals 3 to 7 at place i.
+fn fault_at(s: &[i32], i: usize) -> u32
+    ensures { λ r. ⌜ r ≡ faultAt (segments (now (s .entry))) i ⌝ }
+{
+    let before = segm::segment_at(s, previous(i));
+    let p = before.a;
+    fault(p, segm::segment_at(s, i))
+}
+
+// The first place with a fault.
+pub fn find_fault(s: &[i32]) -> Verdict
+    ensures { λ r. ⌜ r ≡ faultsOf (segments (now (s .entry))) ⌝ }
+{
+    let n = segm::count(s);
+    let mut i: usize = 0;
+    while i < n {
+        let number = fault_at(s, i);
+        if number != 0 {
+            return Verdict::Refused(number, i);
+        }
+        i += 1;
+    }
+    Verdict::Accepted
+}
