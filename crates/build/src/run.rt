@@ -37,9 +37,9 @@ pub fn fills(segments: &[i32], rule: i32, fills: &mut [u8]) -> Filled
     ensures { λ r. ⌜ outcome r (now (fills .exit)) ≡ fillsOutcome (now (segments .entry)) rule (now (fills .entry)) ⌝ }
 {
     if segm::count(segments) <= segm::SMALL {
-        let mut flat = [0u16; 256];
-        let mut starts = [0u16; 257];
-        let mut nodes = [0u16; 256];
+        let mut flat = [0u16; ends::SMALL];
+        let mut starts = [0u16; graph::SMALL_STARTS];
+        let mut nodes = [0u16; ends::SMALL];
         let mut tops = [0i32; segm::SMALL];
         return fills_in(
             segments,
@@ -51,10 +51,10 @@ pub fn fills(segments: &[i32], rule: i32, fills: &mut [u8]) -> Filled
             fills,
         );
     }
-    let mut flat = [0u16; 2048];
-    let mut starts = [0u16; 2049];
-    let mut nodes = [0u16; 2048];
-    let mut tops = [0i32; 1024];
+    let mut flat = [0u16; ends::MOST];
+    let mut starts = [0u16; graph::STARTS];
+    let mut nodes = [0u16; ends::MOST];
+    let mut tops = [0i32; segm::MOST];
     fills_in(
         segments,
         rule,

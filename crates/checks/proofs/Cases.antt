@@ -9,11 +9,13 @@ use Rattle.segm.specs.CaseA.{segment, A}
 use Rattle.segm.specs.Segments.{front, segmentsOf, count, whole, segments, segmentAt, total}
 use Rattle.meetings.specs.Meetings.{side, parts, inside, sameEnds, meetsWrongly}
 use Rattle.balance.specs.Balance.{balance, balances}
-use Rattle.checks.specs.declared.Verdict.{Verdict}
-use Rattle.checks.specs.declared.Verdict.the-variants.{Accepted, Refused}
-use Rattle.checks.specs.Drawing.{endsInRange, rises, windingInRange, bitsInRange, fault, faultAt, meetingAt, unbalancedAt}
-use Rattle.checks.specs.Verdict.{wrongLength, unknownChoice, tooShort, firstFrom, first, inOrder, verdict}
-use Rattle.checks.specs.Runs.{fillsRun, clipRun, sliceRun}
+use Rattle.refusal.specs.declared.Verdict.{Verdict}
+use Rattle.refusal.specs.declared.Verdict.the-variants.{Accepted, Refused}
+use Rattle.faults.specs.Faults.{endsInRange, rises, windingInRange, bitsInRange, fault, faultAt, faultsOf}
+use Rattle.checks.specs.Drawing.{meetingAt, meetingsOf, unbalancedAt, unbalancedOf, drawingVerdict}
+use Rattle.refusal.specs.Order.{firstFrom, first}
+use Rattle.refusal.specs.Asked.{wrongLength, unknownChoice, tooShort, askedFirst}
+use Rattle.checks.specs.Runs.{fillsRun, clipRun, sliceRun, asked, verdict}
 
 -- a clip run under nonzero, inside, boundary included, with lists for three segments
 abbrev clip : List ℤ → Verdict
@@ -52,7 +54,7 @@ pub record Cases : Type 0 where
   pub roles-short : verdict (sliceRun A (pos 2) (pos 1) 36 18 17) ≡ Refused 11 0
 
 pub cases : Cases
-unfolding fillsRun clipRun sliceRun verdict inOrder wrongLength unknownChoice tooShort first firstFrom faultAt meetingAt unbalancedAt fault endsInRange rises windingInRange bitsInRange balance balances meetsWrongly parts inside sameEnds side total any sum front segmentsOf count whole segments segmentAt eqZ within ltP eqP coordinate inRange cross between
+unfolding fillsRun clipRun sliceRun verdict asked askedFirst wrongLength unknownChoice tooShort first firstFrom drawingVerdict faultsOf meetingsOf unbalancedOf faultAt meetingAt unbalancedAt fault endsInRange rises windingInRange bitsInRange balance balances meetsWrongly parts inside sameEnds side total any sum front segmentsOf count whole segments segmentAt eqZ within ltP eqP coordinate inRange cross between
 cases = record {
   on-the-limit = refl;
   past-the-limit = refl;

@@ -1,9 +1,6 @@
-pub mod Faults
-pub mod Balances
-pub mod Places
-pub mod Clear
-pub mod Order
-pub mod Listed
-pub mod Good
-pub mod Cases
+pub mod Drawing
+pub mod Runs
 pub mod Memory
+pub mod Accepted
+pub mod Listed
+pub mod Cases

@@ -2,20 +2,20 @@
 use mathlib.Core.Path.{_≡_}
 use mathlib.Core.List.{List, []}
 use mathlib.Core.Bool.{Bool, true, false}
-use Prim.Native.Nat.{ℕ, suc, _<_, _≤_}
+use Prim.Native.Nat.{ℕ, suc, _<_}
 use lib.ListN.{length}
-use lib.IntN.{ℤ, pos, natAbs}
-use lib.Signed.{_≤ℤ_}
+use lib.IntN.{ℤ, pos}
+use Rattle.lists.specs.Members.{_∈_}
 use Rattle.geom.specs.declared.Point.{Point}
 use Rattle.geom.specs.Points.{ltP}
-use Rattle.segm.specs.declared.Segment.{Segment}
-use Rattle.lists.specs.Members.{_∈_, Pairs}
-use Rattle.segm.specs.Segments.{Drawing, count, segments, segmentAt}
+use Rattle.refusal.specs.Order.{isAccepted}
+use Rattle.refusal.specs.Asked.{wrongLength, Choice, unknownChoice, Lent, tooShort}
+use Rattle.segm.specs.Segments.{Drawing, width, count, segments, segmentAt}
+use Rattle.faults.specs.Faults.{endsInRange, rises, windingInRange, bitsInRange}
+use Rattle.faults.specs.Faultless.{Faultless}
 use Rattle.meetings.specs.Meetings.{meetsWrongly, NoneMeetWrongly}
 use Rattle.balance.specs.Balance.{balance, balances}
-use Rattle.checks.specs.Drawing.{endsInRange, rises, windingInRange, bitsInRange}
-use Rattle.checks.specs.Verdict.{Choice, Lent, Run, wrongLength, unknownChoice, tooShort, isAccepted, verdict}
-use Rattle.checks.specs.Runs.{clipRun}
+use Rattle.checks.specs.Runs.{Run, clipRun, verdict}
 
 -- ---- the list of refusals: `Fits r number place`, each with nothing said of the others
 module _ (r : Run) where
@@ -25,7 +25,7 @@ module _ (r : Run) where
 
   -- a refusal fits: its number and its place
   pub data Fits : ℕ → ℕ → Type 0 where
-    wrong-length : wrongLength (r .numbers) ≡ true → Fits 2 0
+    wrong-length : wrongLength width 1024 (length (r .numbers)) ≡ true → Fits 2 0
     coordinate-out : (i : ℕ) → i < length d → endsInRange (segmentAt d i) ≡ false → Fits 3 i
     not-rising : (i : ℕ) → i < length d → rises (segmentAt d i) ≡ false → Fits 4 i
     winding-out : (i : ℕ) → i < length d → windingInRange (segmentAt d i) ≡ false → Fits 5 i
@@ -46,13 +46,8 @@ inputOf r = record { numbers = r .numbers; choices = r .choices; lists = [] }
 unfoldable pub accepts : List ℤ → ℤ → ℤ → ℤ → Bool
 accepts numbers rule invert boundary = isAccepted (verdict (inputOf (clipRun numbers rule invert boundary 0 0)))
 
--- what an accepted drawing has
+-- what an accepted drawing has: what 2 to 7 leave, no two segments meet wrongly (8), and every point is balanced (9)
 pub record Good (d : Drawing) : Type 0 where
-  pub few : length d ≤ 1024
-  pub near : (s : Segment) → s ∈ d → endsInRange s ≡ true
-  pub proper : (s : Segment) → s ∈ d → ltP (s .a) (s .b) ≡ true
-  pub winding : (s : Segment) → s ∈ d → natAbs (s .winding) ≤ 1000
-  pub bits : (s : Segment) → s ∈ d → (pos 0 ≤ℤ s .bits) × (s .bits ≤ℤ pos 3)
-  pub rising : Pairs (λ s t. ltP (t .a) (s .a) ≡ false) d
+  pub faultless : Faultless d
   pub apart : NoneMeetWrongly d
   pub balanced : (p : Point) → balance d p ≡ pos 0

@@ -1,5 +1,4 @@
 pub mod Drawing
-pub mod Verdict
 pub mod Runs
-pub mod Search
+pub mod Memory
 pub mod Accepted

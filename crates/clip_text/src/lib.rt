@@ -17,12 +17,12 @@ ghost use Rattle.clip_print.specs.Printed.{printed};
 ghost use Rattle.clip_text.specs.Answer.{textOutcome, answerTo};
 
 // One number more than the largest drawing has: a text with too many is seen to have too many.
-const ROOM: usize = segm::MOST + 1;
+const ROOM: usize = segm::NUMBERS + 1;
 
 // As many numbers and lengths as the largest drawing needs.
-const POINTS: usize = 8 * 1024;
+const POINTS: usize = 8 * segm::MOST;
 
-const LENGTHS: usize = 2 * 1024;
+const LENGTHS: usize = 2 * segm::MOST;
 
 // The longest answer: 86 bytes for each of 4,096 points, 90 for the last line.
 pub const LONGEST: usize = 43 * POINTS + 90;

@@ -16,7 +16,9 @@ use Rattle.geom.specs.Points.{ltP}
 use Rattle.lists.specs.Members.{_∈_}
 use Rattle.segm.specs.Segments.{Drawing, segmentAt}
 use Rattle.lists.proofs.Members.{in-take, in-drop, in-right}
-use Rattle.neighbours.specs.Neighbours.{Ready, Known, Distinct}
+use Rattle.faults.specs.Faultless.{Faultless}
+use Rattle.faults.proofs.Faultless.{winding-at}
+use Rattle.neighbours.specs.Neighbours.{Known, Distinct}
 use Rattle.count_up.specs.CountUp.{Held, lastOf, lastIn, countUp, Counts, Within, Written, Climbed}
 
 -- what holds at all places but one, and at that
@@ -70,13 +72,13 @@ set-within {b} tops i t small w j = go (ℕ-discrete j i) (decLt i (length tops)
     go (yes e) (no h) = subst (λ (l : List ℤ). natAbs (getD l j (pos 0)) ≤ b) (sym (set-out tops i t (omega arith))) (w j)
 
 -- each step adds a winding
-pub count-within : {d : Drawing} {b : ℕ} (under : ℤ) (l : List ℕ) (tops : List ℤ) → Ready d → Known d l → natAbs under ≤ b → Within (b + 1000 * length l) tops
+pub count-within : {d : Drawing} {b : ℕ} (under : ℤ) (l : List ℕ) (tops : List ℤ) → Faultless d → Known d l → natAbs under ≤ b → Within (b + 1000 * length l) tops
     → Within (b + 1000 * length l) (countUp d under l tops)
 unfolding countUp
 count-within under [] tops r k u w = w
 count-within {d} {b} under (i ∷ l) tops r k u w =
     let t = under +ℤ segmentAt d i .winding in
-    let small : natAbs t ≤ b + 1000 = omega (arith, abs-+ under (segmentAt d i .winding), u, r .winding i (k i (inl refl))) in
+    let small : natAbs t ≤ b + 1000 = omega (arith, abs-+ under (segmentAt d i .winding), u, winding-at r i (k i (inl refl))) in
     let more = count-within {b = b + 1000} t l (set tops i t) r (λ j m. k j (inr m)) small (set-within tops i t (omega arith) (λ j. let h = w j in omega arith)) in
     λ j. let h = more j in omega arith
 
@@ -87,7 +89,7 @@ last-within tops (i ∷ []) w = w i
 last-within tops (i ∷ (j ∷ l)) w = last-within tops (j ∷ l) w
 
 -- a stretch of at most 1,024
-pub climbed-within : {d : Drawing} {first place high b : ℕ} {l : List ℕ} {tops tops′ : List ℤ} → Climbed d first place l tops tops′ high → Ready d → Known d l → length l ≤ 1024 → Within b tops → Within (b + 1024000) tops′
+pub climbed-within : {d : Drawing} {first place high b : ℕ} {l : List ℕ} {tops tops′ : List ℤ} → Climbed d first place l tops tops′ high → Faultless d → Known d l → length l ≤ 1024 → Within b tops → Within (b + 1024000) tops′
 climbed-within {d} {first} {place} {high} {b} {l} {tops} {tops′} c r k few w i =
     let part = take (high - c .low) (drop (c .low) l) in
     let short : length part ≤ 1024 = omega (arith, length-take (high - c .low) (drop (c .low) l), length-drop (c .low) l) in

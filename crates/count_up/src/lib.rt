@@ -6,7 +6,8 @@ ghost use lib.ListN.{length};
 ghost use lib.IntN.{natAbs};
 ghost use Rattle.lists.specs.Members.{_∈_};
 ghost use Rattle.segm.specs.Segments.{segments};
-ghost use Rattle.neighbours.specs.Neighbours.{Ready, Known};
+ghost use Rattle.faults.specs.Faultless.{Faultless};
+ghost use Rattle.neighbours.specs.Neighbours.{Known};
 ghost use Rattle.count_up.specs.CountUp.{countUp, lastIn, Within, LowEnd, HighEnd, Climbed};
 
 // Down from a place of the list, the last place from which on all are `first` or more.
@@ -55,7 +56,7 @@ pub fn count_below(list: &[u16], tops: &[i32]) -> i32
 // The counts of a stretch of the list are written, from the count under it.
 fn count_up(s: &[i32], stretch: &[u16], under: i32, tops: &mut [i32])
     requires { ⌜ (let d = segments (now s) in
-        Ready d
+        Faultless d
         × Known d (now stretch)
         × (length (now stretch) ≤ 1024)
         × (natAbs under ≤ 2100000000)
@@ -76,7 +77,7 @@ fn count_up(s: &[i32], stretch: &[u16], under: i32, tops: &mut [i32])
 // The counts of those of the list that are `first` or more are written, if one of them stands at the place before `near`. The place told is that after them.
 pub fn count_node(s: &[i32], list: &[u16], first: usize, near: usize, tops: &mut [i32]) -> usize
     requires { ⌜ (let d = segments (now s) in
-        Ready d
+        Faultless d
         × Known d (now list)
         × (length (now list) ≤ 1024)
         × (near ≤ length (now list))

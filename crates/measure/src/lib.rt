@@ -19,9 +19,9 @@ fn verdict_of(segments: &[i32]) -> Verdict
     ensures { λ r. ⌜ r ≡ verdictOf (now (segments .entry)) ⌝ }
 {
     if segm::count(segments) <= segm::SMALL {
-        let mut flat = [0u16; 256];
-        let mut starts = [0u16; 257];
-        let mut nodes = [0u16; 256];
+        let mut flat = [0u16; ends::SMALL];
+        let mut starts = [0u16; graph::SMALL_STARTS];
+        let mut nodes = [0u16; ends::SMALL];
         let mut tops = [0i32; segm::SMALL];
         return checks::check_clip(
             segments,
@@ -36,10 +36,10 @@ fn verdict_of(segments: &[i32]) -> Verdict
             &mut tops,
         );
     }
-    let mut flat = [0u16; 2048];
-    let mut starts = [0u16; 2049];
-    let mut nodes = [0u16; 2048];
-    let mut tops = [0i32; 1024];
+    let mut flat = [0u16; ends::MOST];
+    let mut starts = [0u16; graph::STARTS];
+    let mut nodes = [0u16; ends::MOST];
+    let mut tops = [0i32; segm::MOST];
     checks::check_clip(
         segments,
         0,
@@ -76,12 +76,12 @@ fn is_swept(s: &[i32]) -> bool
     requires { ⌜ Good (segments (now s)) ⌝ }
     ensures { λ r. ⌜ r ≡ true ⌝ }
 {
-    let mut flat = [0u16; 2048];
-    let mut starts = [0u16; 2049];
-    let mut nodes = [0u16; 2048];
-    let mut tops = [0i32; 1024];
-    let mut keys = [0u64; 2048];
-    let mut scratch = [0u64; 1024];
+    let mut flat = [0u16; ends::MOST];
+    let mut starts = [0u16; graph::STARTS];
+    let mut nodes = [0u16; ends::MOST];
+    let mut tops = [0i32; segm::MOST];
+    let mut keys = [0u64; ends::MOST];
+    let mut scratch = [0u64; segm::MOST];
     graph::write_nodes(
         s,
         &mut flat,

@@ -28,7 +28,8 @@ use Rattle.strip.specs.Strip.{isVertical}
 use Rattle.strip.proofs.Apart.{Apart, Between, Over, places-apart}
 use Rattle.strip.proofs.Vertical.{not-vertical-wide}
 use Rattle.strip.proofs.Above.{spans-on}
-use Rattle.neighbours.specs.Neighbours.{Ready, Known}
+use Rattle.faults.specs.Faultless.{Faultless}
+use Rattle.neighbours.specs.Neighbours.{Known}
 use Rattle.neighbours.proofs.Upright.{Upright, vertical-upright, in-line}
 use Rattle.neighbours.proofs.Passes.{stands-on}
 use Rattle.neighbours.proofs.Turn.{Coming, turn-quiet}
@@ -39,7 +40,7 @@ use Rattle.starts.specs.Starts.{CanStart}
 use Rattle.meeting_sweep.specs.Events.{Past, ClearEvent}
 use Rattle.meeting_sweep.proofs.Sweeping.{Along, proper, rising, end-x, coming, block-at, left-later, starts-later, earlier, column, along-known}
 
-module _ (d : Drawing) (flat : List ℕ) (ready : Ready d) (ends : Ordered d flat) (apart : NoneMeetWrongly d) where
+module _ (d : Drawing) (flat : List ℕ) (ready : Faultless d) (ends : Ordered d flat) (apart : NoneMeetWrongly d) where
   abbrev seg : ℕ → Segment
   seg = segmentAt d
 

@@ -24,7 +24,7 @@ use Rattle.lists.proofs.Members as lists
 use Rattle.lists.proofs.Members.{stands, pairs-of, pairs-places, pairs-map, pairs-take, pairs-drop, in-after, in-at, in-take, in-drop, cases}
 use Rattle.lists.proofs.UpFrom.{in-upFrom, upFrom-in}
 use Rattle.ends.specs.Ends.{endPoint}
-use Rattle.ends.proofs.Ends.{end-a, end-b}
+use Rattle.ends.proofs.Ends.{end-a, end-b, end-near}
 use Rattle.graph.proofs.Flat.{Ordered}
 use Rattle.meetings.specs.Meetings.{meetsWrongly, NoneMeetWrongly}
 use Rattle.strip.specs.Strip.{isVertical}
@@ -32,7 +32,9 @@ use Rattle.strip.proofs.Apart.{Over, over-wide}
 use Rattle.strip.proofs.Gap.{side-at-a, side-at-b}
 use Rattle.strip.proofs.Above.{spans-on, spans-over}
 use Rattle.strip.proofs.Vertical.{vertical-by, not-vertical-by, not-vertical-wide, not-vertical-ends, wide-not-vertical}
-use Rattle.neighbours.specs.Neighbours.{Ready, Known, Distinct, Passes}
+use Rattle.faults.specs.Faultless.{Faultless}
+use Rattle.faults.proofs.Faultless.{proper-at}
+use Rattle.neighbours.specs.Neighbours.{Known, Distinct, Passes}
 use Rattle.neighbours.proofs.Lists.{Holds, holds-distinct}
 use Rattle.neighbours.proofs.Event.{Swept, cut-after}
 use Rattle.neighbours.proofs.Turn.{Coming, Tested, first-turn, turn-holds, turn, last-turn}
@@ -41,7 +43,6 @@ use Rattle.neighbours.proofs.Passes.{passes-under, passes-above, passes-through
 use Rattle.count_up.specs.CountUp.{Held}
 use Rattle.count_up.proofs.Lists.{held-holds}
 use Rattle.open_list.specs.OpenList.{Left}
-use Rattle.verticals.proofs.Columns.{end-near}
 use Rattle.verticals.specs.Verticals.{Stands, Column}
 use Rattle.starts.specs.Starts.{Splits, Gapped}
 use Rattle.starts.proofs.Nodes.{rise}
@@ -71,9 +72,9 @@ module _ (d : Drawing) (flat : List ℕ) where
     pub behind : (t : ℕ) → t < passed → at t ≤ℤ x
     pub ahead : (t : ℕ) → passed ≤ t → t < length flat → x <ℤ at t
 
-  module _ (ready : Ready d) (ends : Ordered d flat) where
+  module _ (ready : Faultless d) (ends : Ordered d flat) where
     pub proper : (i : ℕ) → i < length d → Before (seg i .a) (seg i .b)
-    proper i h = ltP-true (ready .proper i h .rises)
+    proper i h = ltP-true (proper-at ready i h .rises)
 
     rises : (t u : ℕ) → t ≤ u → u < length flat → at t ≤ℤ at u
     rises t u h k = go (decLt t u)
@@ -122,9 +123,9 @@ module _ (d : Drawing) (flat : List ℕ) where
     pub along-first : Along 0 0 []
     along-first = record {
       x = far;
-      swept = first-turn seg (length d) proper (λ i h. beyond (seg i .a) (ready .proper i h .near-a));
+      swept = first-turn seg (length d) proper (λ i h. beyond (seg i .a) (proper-at ready i h .near-a));
       begun = λ i h. absurd (omega arith);
-      waiting = λ i h k. beyond (seg i .a) (ready .proper i k .near-a);
+      waiting = λ i h k. beyond (seg i .a) (proper-at ready i k .near-a);
       behind = λ t h. absurd (omega arith);
       ahead = λ t h k. beyond (endPoint d (getD flat t 0)) (end-near d ready (getD flat t 0) (ends .below (getD flat t 0) (in-at flat 0 t k)));
     }

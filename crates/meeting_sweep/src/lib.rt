@@ -26,7 +26,8 @@ ghost use Rattle.segm.specs.Segments.{segments};
 ghost use Rattle.ends.specs.Ends.{endPoint, endBefore};
 ghost use Rattle.ends.specs.Ordering.{ordering};
 ghost use Rattle.meetings.specs.Meetings.{NoneMeetWrongly};
-ghost use Rattle.neighbours.specs.Neighbours.{Ready, Known, Ordered, Distinct};
+ghost use Rattle.faults.specs.Faultless.{Faultless};
+ghost use Rattle.neighbours.specs.Neighbours.{Known, Ordered, Distinct};
 ghost use Rattle.scan.specs.Scan.{Room};
 ghost use Rattle.count_up.specs.CountUp.{Within, Counted};
 ghost use Rattle.verticals.specs.Verticals.{Column};
@@ -45,7 +46,7 @@ fn event(
     tops: &mut [i32],
 ) -> Held
     requires { ⌜ (let d = segments (now s) in let l = take count (now list) in
-        Ready d
+        Faultless d
         × Column d (now ends)
         × (from ≤ to)
         × (to ≤ length d)
@@ -117,7 +118,7 @@ fn starts_past(s: &[i32], k: usize, e: usize) -> usize
 // The sweep, from x to x of the ordered ends. The list is working memory; the tops are 0 before it.
 fn sweep(s: &[i32], flat: &[u16], list: &mut [u16], tops: &mut [i32]) -> bool
     requires { ⌜ (let d = segments (now s) in
-        Ready d
+        Faultless d
         × (now flat ≡ ordering (endBefore d) (upFrom 0 (2 * length d)))
         × Room (length d) (now list)
         × (length d ≤ length (now tops))
@@ -155,7 +156,7 @@ fn sweep(s: &[i32], flat: &[u16], list: &mut [u16], tops: &mut [i32]) -> bool
 // Whether no two segments meet wrongly, of a drawing with its ordered ends. Where none do the tops, which are 0 before, are their top counts.
 pub fn is_clear(s: &[i32], flat: &[u16], tops: &mut [i32]) -> bool
     requires { ⌜ (let d = segments (now s) in
-        Ready d
+        Faultless d
         × (now flat ≡ ordering (endBefore d) (upFrom 0 (2 * length d)))
         × (length d ≤ length (now tops))
         × Within 0 (now tops)) ⌝ }

@@ -15,7 +15,8 @@ use Rattle.geom.specs.Points.{eqZ, ltP, eqP, cross, between}
 use Rattle.geom.proofs.Points.{ltP-true, ltP-right, eqP-apart, before-le}
 use Rattle.geom.proofs.CrossProduct.{crossE}
 use Rattle.segm.specs.declared.Segment.{Segment}
-use Rattle.meetings.specs.Meetings.{side, parts, inside, sameEnds, meetsWrongly, Proper}
+use Rattle.meetings.specs.Meetings.{side, parts, inside, sameEnds, meetsWrongly}
+use Rattle.faults.specs.Faultless.{Proper}
 
 -- the sides differ by the same on both
 pub same-turn : (s t : Segment) → side s (t .b) -ℤ side s (t .a) ≡ side t (s .a) -ℤ side t (s .b)

@@ -1,10 +1,10 @@
 -- When two segments meet wrongly. The contracts of `meetings` cite this. Assumes nothing.
 use mathlib.Core.Path.{_≡_}
-use mathlib.Core.Bool.{Bool, true, false, _&&_, _||_}
+use mathlib.Core.Bool.{Bool, false, _&&_, _||_}
 use lib.IntN.{ℤ, pos}
 use lib.Signed.{ltZ}
 use Rattle.geom.specs.declared.Point.{Point}
-use Rattle.geom.specs.Points.{eqP, ltP, inRange, cross, between}
+use Rattle.geom.specs.Points.{eqP, cross, between}
 use Rattle.segm.specs.declared.Segment.{Segment}
 use Rattle.lists.specs.Members.{Pairs}
 use Rattle.segm.specs.Segments.{Drawing}
@@ -38,9 +38,3 @@ meetsWrongly s t =
 -- no two segments of a drawing meet wrongly
 abbrev pub NoneMeetWrongly : Drawing → Type 0
 NoneMeetWrongly d = Pairs (λ s t. meetsWrongly s t ≡ false) d
-
--- a segment whose coordinates are in range and whose a is less than its b: what refusals 3 and 4 leave
-pub record Proper (s : Segment) : Type 0 where
-  pub near-a : inRange (s .a) ≡ true
-  pub near-b : inRange (s .b) ≡ true
-  pub rises : ltP (s .a) (s .b) ≡ true

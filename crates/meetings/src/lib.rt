@@ -2,7 +2,8 @@
 use segm::Segment;
 ghost use mathlib.Core.Path.{_≡_};
 ghost use mathlib.Core.Bool.{_&&_, _||_};
-ghost use Rattle.meetings.specs.Meetings.{Proper, parts, inside, sameEnds, meetsWrongly};
+ghost use Rattle.faults.specs.Faultless.{Proper};
+ghost use Rattle.meetings.specs.Meetings.{parts, inside, sameEnds, meetsWrongly};
 
 // Whether t's ends lie strictly on opposite sides of s.
 fn parts(s: Segment, t: Segment) -> bool

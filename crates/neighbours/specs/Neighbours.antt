@@ -2,17 +2,15 @@
 use mathlib.Core.Path.{_≡_}
 use mathlib.Core.List.{List, [], _∷_}
 use mathlib.Core.Logic.{_⊎_}
-use mathlib.Core.Bool.{false}
 use Prim.Native.Nat.{ℕ, suc, _≤_, _<_}
 use lib.ListN.{length, getD}
-use lib.IntN.{pos, natAbs}
+use lib.IntN.{pos}
 use lib.Signed.{_<ℤ_}
 use Rattle.geom.specs.declared.Point.{Point}
-use Rattle.geom.specs.Points.{ltP}
 use Rattle.segm.specs.declared.Segment.{Segment}
 use Rattle.lists.specs.Members.{_∈_, Pairs}
 use Rattle.segm.specs.Segments.{Drawing, segmentAt}
-use Rattle.meetings.specs.Meetings.{Proper, side}
+use Rattle.meetings.specs.Meetings.{side}
 use Rattle.strip.specs.Strip.{Next}
 
 module _ {A : Type 0} where
@@ -53,13 +51,6 @@ pub record Cut {A : Type 0} (e : Segment → Point) (seg : A → Segment) (z : A
   pub above : place < length l → Above e (v .b) (seg (getD l place z))
 
 -- ---- a drawing and lists of its places
--- a drawing that refusals 2 to 7 leave
-pub record Ready (d : Drawing) : Type 0 where
-  pub few : length d ≤ 1024
-  pub proper : (i : ℕ) → i < length d → Proper (segmentAt d i)
-  pub rising : Pairs (λ s t. ltP (t .a) (s .a) ≡ false) d
-  pub winding : (i : ℕ) → i < length d → natAbs (segmentAt d i .winding) ≤ 1000
-
 -- all are places of the drawing
 abbrev pub Known : Drawing → List ℕ → Type 0
 Known d l = (i : ℕ) → i ∈ l → i < length d

@@ -13,15 +13,17 @@ use Rattle.lists.specs.Members.{_∈_}
 use Rattle.segm.specs.Segments.{Drawing, segmentAt}
 use Rattle.lists.proofs.Members.{in-at, cases, in-++, in-left, in-right}
 use Rattle.strip.specs.Strip.{isVertical, Next}
-use Rattle.neighbours.specs.Neighbours.{Ready, Known, Ordered, Distinct}
+use Rattle.faults.specs.Faultless.{Faultless}
+use Rattle.faults.proofs.Faultless.{proper-at}
+use Rattle.neighbours.specs.Neighbours.{Known, Ordered, Distinct}
 use Rattle.neighbours.proofs.Chain.{chain-put, chain-take}
 use Rattle.scan.specs.Scan.{putAt, outAt, Listed}
 use Rattle.scan.proofs.Laws.{put-in, in-put, out-in, in-out, not-out, pairs-out}
 use Rattle.open_list.specs.OpenList.{FitsAt, ClosesAt, Left, Entered, Marked, Marks}
 
 -- what stands in the list is a place of the drawing with a proper segment
-pub listed : {d : Drawing} (l : List ℕ) → Ready d → Known d l → (k : ℕ) → k < length l → Listed d (getD l k 0)
-listed l r f k h = let i = f (getD l k 0) (in-at l 0 k h) in record { inside = i; proper = r .proper (getD l k 0) i }
+pub listed : {d : Drawing} (l : List ℕ) → Faultless d → Known d l → (k : ℕ) → k < length l → Listed d (getD l k 0)
+listed l r f k h = let i = f (getD l k 0) (in-at l 0 k h) in record { inside = i; proper = proper-at r (getD l k 0) i }
 
 -- ---- leaving
 -- nothing leaves at a start, nor at the end of a vertical segment

@@ -12,9 +12,9 @@ ghost use lib.ListN.{length, getD, take};
 ghost use lib.IntN.{ℤ};
 ghost use Rattle.lists.specs.Members.{_∈_};
 ghost use Rattle.segm.specs.Segments.{segments, segmentAt};
-ghost use Rattle.meetings.specs.Meetings.{Proper};
+ghost use Rattle.faults.specs.Faultless.{Proper, Faultless};
 ghost use Rattle.strip.specs.Strip.{Next};
-ghost use Rattle.neighbours.specs.Neighbours.{Ready, Known, Ordered, Distinct};
+ghost use Rattle.neighbours.specs.Neighbours.{Known, Ordered, Distinct};
 ghost use Rattle.scan.specs.Scan.{Room, Listed};
 ghost use Rattle.open_list.specs.OpenList.{StandsOver, StandsUnder, FitsAt, ClosesAt, Spanning, CanLeave, CanEnter, Left, Entered, Older, Marked, Marks};
 
@@ -88,7 +88,7 @@ fn is_next(s: &[i32], i: u16, j: u16) -> bool
 // Whether the segment at place i may stand right over the one before place k of the list, if there is one.
 fn stands_over(s: &[i32], list: &[u16], k: usize, i: u16) -> bool
     requires { ⌜ (let d = segments (now s) in
-        Ready d × Known d (now list) × (i < length d) × (k ≤ length (now list))) ⌝ }
+        Faultless d × Known d (now list) × (i < length d) × (k ≤ length (now list))) ⌝ }
     ensures { λ r. ⌜ (r ≡ true) ↔ StandsOver (segments (now (s .entry))) k i (now (list .entry)) ⌝ }
 {
     if k == 0 {
@@ -100,7 +100,7 @@ fn stands_over(s: &[i32], list: &[u16], k: usize, i: u16) -> bool
 // Whether it may stand right under the one at place k, if there is one.
 fn stands_under(s: &[i32], list: &[u16], k: usize, i: u16) -> bool
     requires { ⌜ (let d = segments (now s) in
-        Ready d × Known d (now list) × (i < length d)) ⌝ }
+        Faultless d × Known d (now list) × (i < length d)) ⌝ }
     ensures { λ r. ⌜ (r ≡ true) ↔ StandsUnder (segments (now (s .entry))) k i (now (list .entry)) ⌝ }
 {
     if list.len() <= k {
@@ -111,7 +111,7 @@ fn stands_under(s: &[i32], list: &[u16], k: usize, i: u16) -> bool
 
 // Whether the two beside place k of the list may become neighbours.
 fn closes_at(s: &[i32], list: &[u16], k: usize) -> bool
-    requires { ⌜ Ready (segments (now s)) × Known (segments (now s)) (now list) × (k < length (now list)) ⌝ }
+    requires { ⌜ Faultless (segments (now s)) × Known (segments (now s)) (now list) × (k < length (now list)) ⌝ }
     ensures { λ r. ⌜ (r ≡ true) ↔ ClosesAt (segments (now (s .entry))) k (now (list .entry)) ⌝ }
 {
     if k == 0 {
@@ -126,7 +126,7 @@ fn closes_at(s: &[i32], list: &[u16], k: usize) -> bool
 // End e is passed: where a segment that is not vertical ends there, it leaves the list.
 fn leave_one(s: &[i32], e: u16, list: &mut [u16], count: usize, near: usize) -> Held
     requires { ⌜ (let d = segments (now s) in let l = take count (now list) in
-        Ready d
+        Faultless d
         × (e < 2 * length d)
         × Room count (now list)
         × Known d l
@@ -161,7 +161,7 @@ fn leave_one(s: &[i32], e: u16, list: &mut [u16], count: usize, near: usize) -> 
 // there.
 fn place_to_leave(s: &[i32], t: Segment, i: usize, list: &[u16], near: usize) -> usize
     requires { ⌜ (let d = segments (now s) in
-        Ready d
+        Faultless d
         × (t ≡ segmentAt d i)
         × (i < length d)
         × Known d (now list)
@@ -187,7 +187,7 @@ fn place_to_leave(s: &[i32], t: Segment, i: usize, list: &[u16], near: usize) ->
 // The segment t, at place i of the drawing, leaves the list.
 fn take_out(s: &[i32], t: Segment, i: usize, list: &mut [u16], count: usize, near: usize) -> Held
     requires { ⌜ (let d = segments (now s) in let l = take count (now list) in
-        Ready d
+        Faultless d
         × (t ≡ segmentAt d i)
         × (i < length d)
         × Room count (now list)
@@ -229,7 +229,7 @@ pub fn lowest_place(none_before: bool, lowest: usize, here: usize) -> usize {
 // All these ends are passed, one after the other. The place told is the lowest at which one left, or the guess.
 pub fn leave_all(s: &[i32], ends: &[u16], list: &mut [u16], count: usize, guess: usize) -> Held
     requires { ⌜ (let d = segments (now s) in let l = take count (now list) in
-        Ready d
+        Faultless d
         × ((e : ℕ) → e ∈ now ends → e < 2 * length d)
         × Room count (now list)
         × Known d l
@@ -263,7 +263,7 @@ pub fn leave_all(s: &[i32], ends: &[u16], list: &mut [u16], count: usize, guess:
 // Whether the segment at place i may stand at place k of the list.
 fn fits_at(s: &[i32], list: &[u16], k: usize, i: u16) -> bool
     requires { ⌜ (let d = segments (now s) in
-        Ready d × Known d (now list) × (i < length d) × (k ≤ length (now list))) ⌝ }
+        Faultless d × Known d (now list) × (i < length d) × (k ≤ length (now list))) ⌝ }
     ensures { λ r. ⌜ (r ≡ true) ↔ FitsAt (segments (now (s .entry))) k i (now (list .entry)) ⌝ }
 {
     if !stands_over(s, list, k, i) {
@@ -281,7 +281,7 @@ struct Place {
 // A place for the segment t, at place i of the drawing: where the last one entered, if it fits there, else by search. Without a wrong meeting it fits.
 fn place_to_enter(s: &[i32], t: Segment, i: u16, list: &[u16], near: usize) -> Place
     requires { ⌜ (let d = segments (now s) in
-        Ready d × (t ≡ segmentAt d i) × Known d (now list) × (i < length d)) ⌝ }
+        Faultless d × (t ≡ segmentAt d i) × Known d (now list) × (i < length d)) ⌝ }
     ensures { λ r. ⌜ (let d = segments (now (s .entry)) in let l = now (list .entry) in
         (r .fits ≡ true → FitsAt d (r .at) i l)
         × ((x : ℤ) → Spanning d x (i ∷ l) → (i ∈ l → ⊥) → r .fits ≡ true)) ⌝ }
@@ -304,7 +304,7 @@ fn place_to_enter(s: &[i32], t: Segment, i: u16, list: &[u16], near: usize) -> P
 // The segment at place i is passed: where it is not vertical it enters the list.
 fn enter_one(s: &[i32], i: usize, list: &mut [u16], count: usize, near: usize) -> Held
     requires { ⌜ (let d = segments (now s) in let l = take count (now list) in
-        Ready d
+        Faultless d
         × (i < length d)
         × Room count (now list)
         × Known d l
@@ -346,7 +346,7 @@ pub fn enter_all(
     guess: usize,
 ) -> Held
     requires { ⌜ (let d = segments (now s) in let l = take count (now list) in
-        Ready d
+        Faultless d
         × (from ≤ to)
         × (to ≤ length d)
         × (count ≤ from)

@@ -32,6 +32,9 @@ pub passes-asked : (wrong unknown short : Bool) → Passes wrong unknown short �
 unfolding askedFirst
 passes-asked wrong unknown short p = simp (p .right-length, p .known, p .long)
 
+pub same-asked : {wrong wrong′ unknown unknown′ short short′ : Bool} → wrong ≡ wrong′ → unknown ≡ unknown′ → short ≡ short′ → askedFirst wrong unknown short ≡ askedFirst wrong′ unknown′ short′
+same-asked {wrong} {wrong′} {unknown} {unknown′} {short} {short′} w u s = rw (w, u, s)
+
 -- a length that is right
 pub few-entries : (each most numbers : ℕ) → wrongLength each most numbers ≡ false → numbers / each ≤ most
 unfolding wrongLength

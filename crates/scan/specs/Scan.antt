@@ -8,7 +8,7 @@ use lib.ListN.{length, getD, take, drop, set}
 use Rattle.geom.specs.Points.{inRange}
 use Rattle.lists.specs.Members.{_∈_}
 use Rattle.segm.specs.Segments.{Drawing, segmentAt}
-use Rattle.meetings.specs.Meetings.{Proper}
+use Rattle.faults.specs.Faultless.{Proper}
 use Rattle.strip.specs.Strip.{above, underBySide}
 use Rattle.scan.specs.declared.Sought.{Sought}
 use Rattle.scan.specs.declared.Sought.the-variants.{At, Along}

@@ -5,7 +5,7 @@ ghost use mathlib.Core.Path.{_≡_};
 ghost use Prim.Native.Nat.{_+_, _-_, _≤_, _<_};
 ghost use lib.ListN.{length, take};
 ghost use Rattle.segm.specs.Segments.{segments};
-ghost use Rattle.meetings.specs.Meetings.{Proper};
+ghost use Rattle.faults.specs.Faultless.{Proper};
 ghost use Rattle.strip.specs.Strip.{isVertical, underBySide};
 ghost use Rattle.scan.specs.Scan.{isBelow, belowAt, putAt, outAt, movedUp, movedDown, Room, Changes, Listed, AllListed, SoughtInRange};
 

@@ -18,8 +18,11 @@ pub struct Segment {
 // How many numbers a segment has.
 pub const WIDTH: usize = 6;
 
-// How many numbers the largest drawing has, of 1,024 segments.
-pub const MOST: usize = 1024 * WIDTH;
+// How many segments a drawing has at most.
+pub const MOST: usize = 1024;
+
+// How many numbers the largest drawing has.
+pub const NUMBERS: usize = MOST * WIDTH;
 
 // How many segments a small drawing has at most. Working memory is cleared before use, and a small drawing has less of it.
 pub const SMALL: usize = 128;

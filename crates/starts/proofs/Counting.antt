@@ -27,7 +27,9 @@ use Rattle.strip.proofs.Gap.{side-own-a}
 use Rattle.strip.proofs.Apart.{Over, over-wide, side-less}
 use Rattle.strip.proofs.Above.{above-on, above-off, above-own-a}
 use Rattle.strip.proofs.Vertical.{wide-not-vertical}
-use Rattle.neighbours.specs.Neighbours.{Ready, Under, Above}
+use Rattle.faults.specs.Faultless.{Faultless}
+use Rattle.faults.proofs.Faultless.{proper-at}
+use Rattle.neighbours.specs.Neighbours.{Under, Above}
 use Rattle.neighbours.proofs.Lists.{holds-distinct}
 use Rattle.neighbours.proofs.Upright.{Upright, vertical-upright}
 use Rattle.scan.specs.declared.Sought.the-variants.{At}
@@ -73,7 +75,7 @@ stretch-at low high l k h = getD-take (high - low) (drop low l) k 0 h ∙ getD-d
 length-stretch : (low high : ℕ) (l : List ℕ) → high ≤ length l → length (stretch low high l) ≡ high - low
 length-stretch low high l h = length-take-le (high - low) (drop low l) (omega (arith, length-drop low l))
 
-module _ {d : Drawing} (ready : Ready d) {from to : ℕ} (node : NodeEnd d from to to) (few : to ≤ length d) (begins : Splits d from) where
+module _ {d : Drawing} (ready : Faultless d) {from to : ℕ} (node : NodeEnd d from to to) (few : to ≤ length d) (begins : Splits d from) where
   abbrev p : Point
   p = segmentAt d from .a
 
@@ -178,7 +180,7 @@ module _ {d : Drawing} (ready : Ready d) {from to : ℕ} (node : NodeEnd d from 
           parts = ap (λ (r : List ℕ). take low l′ ++ r) (take-append-drop (high - low) (drop low l′)) ∙ take-append-drop low l′
 
 -- THEOREM: a node is passed, and its tops are its counts
-module _ {d : Drawing} (ready : Ready d) {from to : ℕ} (node : NodeEnd d from to to) (few : to ≤ length d) (begins : Splits d from) where
+module _ {d : Drawing} (ready : Faultless d) {from to : ℕ} (node : NodeEnd d from to to) (few : to ≤ length d) (begins : Splits d from) where
   pub node-counting : {l l′ : List ℕ} {near place high : ℕ} {tops tops₁ tops₂ : List ℤ} → length d ≤ length tops → Entered d from to l l′ → (Older from l → Marks from near l′) → (near ≤ length l′ → place ≡ near)
       → Climbed d from place l′ tops tops₁ high → AllStand d from to l′ tops₁ tops₂ → Counting d from to l tops tops₂
   node-counting {l} {l′} {near} {place} {high} {tops} {tops₁} {tops₂} room entered marks same climbed stand count c y held starts known i u = go (decLt i from) (dec (isVertical (segmentAt d i)))
@@ -204,7 +206,7 @@ module _ {d : Drawing} (ready : Ready d) {from to : ℕ} (node : NodeEnd d from 
       slanted j m = wide-not-vertical (segmentAt d j) (over-wide (held-over h j m))
 
       upright : from ≤ i → isVertical (segmentAt d i) ≡ true → Upright (segmentAt d i)
-      upright a v = vertical-upright (ltP-true (ready .proper i (omega arith) .rises)) v
+      upright a v = vertical-upright (ltP-true (proper-at ready i (omega arith) .rises)) v
 
       at-foot : from ≤ i → Held d to (segmentAt d i .a .x) l′
       at-foot a = subst (λ (q : Point). Held d to (q .x) l′) (sym (node .here i a u)) h

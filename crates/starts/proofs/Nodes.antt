@@ -12,10 +12,10 @@ use Rattle.geom.specs.Points.{ltP}
 use Rattle.geom.proofs.Points.{Before, before, compare, not-less-trans, ltP-irrefl, ltP-antisym}
 use Rattle.segm.specs.Segments.{Drawing, segmentAt, nowhere}
 use Rattle.lists.proofs.Members.{in-after, pairs-places}
-use Rattle.neighbours.specs.Neighbours.{Ready}
+use Rattle.faults.specs.Faultless.{Faultless}
 use Rattle.starts.specs.Starts.{Splits}
 
-module _ {d : Drawing} (ready : Ready d) where
+module _ {d : Drawing} (ready : Faultless d) where
   abbrev at : ℕ → Point
   at i = segmentAt d i .a
 

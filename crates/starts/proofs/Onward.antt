@@ -9,7 +9,8 @@ use lib.ListN.{length}
 use lib.IntN.{ℤ}
 use Rattle.segm.specs.Segments.{Drawing, segmentAt}
 use Rattle.strip.specs.Strip.{isVertical}
-use Rattle.neighbours.specs.Neighbours.{Ready, Ordered}
+use Rattle.faults.specs.Faultless.{Faultless}
+use Rattle.neighbours.specs.Neighbours.{Ordered}
 use Rattle.open_list.specs.OpenList.{Entered}
 use Rattle.open_list.proofs.Laws.{none-entered, entered-more}
 use Rattle.open_list.proofs.Spanning.{can-enter-next}
@@ -19,7 +20,7 @@ use Rattle.starts.proofs.Held.{entered-held}
 pub none-started : {d : Drawing} {l : List ℕ} {tops : List ℤ} (from : ℕ) → Ordered d l → Started d from from l l tops tops
 none-started from o = record { entered = none-entered from o; gaps = λ v a b u. absurd (omega arith); counted = λ count c y h s t. t }
 
-module _ {d : Drawing} (ready : Ready d) {from i to : ℕ} (since : from ≤ i) (till : i ≤ to) (few : to ≤ length d) where
+module _ {d : Drawing} (ready : Faultless d) {from i to : ℕ} (since : from ≤ i) (till : i ≤ to) (few : to ≤ length d) where
   pub started-more : {l l₁ l₂ : List ℕ} {tops tops₁ tops₂ : List ℤ} → Started d from i l l₁ tops tops₁ → Started d i to l₁ l₂ tops₁ tops₂ → Started d from to l l₂ tops tops₂
   started-more {l} {l₁} p q = record {
     entered = entered-more from i to since till (p .entered) (q .entered);

@@ -6,7 +6,8 @@ ghost use mathlib.Core.Bool.{true};
 ghost use Prim.Native.Nat.{_*_, _≤_, _<_};
 ghost use lib.ListN.{length, take};
 ghost use Rattle.segm.specs.Segments.{segments};
-ghost use Rattle.neighbours.specs.Neighbours.{Ready, Known, Ordered};
+ghost use Rattle.faults.specs.Faultless.{Faultless};
+ghost use Rattle.neighbours.specs.Neighbours.{Known, Ordered};
 ghost use Rattle.scan.specs.Scan.{Room};
 ghost use Rattle.count_up.specs.CountUp.{Within};
 ghost use Rattle.starts.specs.Starts.{Splits, NodeEnd, Started, CanStart};
@@ -14,7 +15,7 @@ ghost use Rattle.starts.specs.Starts.{Splits, NodeEnd, Started, CanStart
 // The place after those from a place on that start at its point.
 fn node_end(s: &[i32], from: usize, to: usize) -> usize
     requires { ⌜ (let d = segments (now s) in
-        Ready d × (from < to) × (to ≤ length d) × Splits d to) ⌝ }
+        Faultless d × (from < to) × (to ≤ length d) × Splits d to) ⌝ }
     ensures { λ r. ⌜ NodeEnd (segments (now (s .entry))) from to r ⌝ }
 {
     let first = segm::segment_in(s, from);
@@ -48,7 +49,7 @@ fn start_node(
     tops: &mut [i32],
 ) -> Held
     requires { ⌜ (let d = segments (now s) in let l = take count (now list) in
-        Ready d
+        Faultless d
         × (to ≤ length d)
         × (count ≤ from)
         × Room (length d) (now list)
@@ -89,7 +90,7 @@ pub fn start_all(
     tops: &mut [i32],
 ) -> Held
     requires { ⌜ (let d = segments (now s) in let l = take count (now list) in
-        Ready d
+        Faultless d
         × (from ≤ to)
         × (to ≤ length d)
         × (count ≤ from)

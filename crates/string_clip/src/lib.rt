@@ -109,7 +109,7 @@ fn clip_accepted(
 {
     if segm::count(s) <= segm::SMALL {
         let mut bits = [0u8; segm::SMALL];
-        let mut moves = [0u16; 256];
+        let mut moves = [0u16; ends::SMALL];
         return clip_with(
             s,
             rule,
@@ -124,8 +124,8 @@ fn clip_accepted(
             lengths,
         );
     }
-    let mut bits = [0u8; 1024];
-    let mut moves = [0u16; 2048];
+    let mut bits = [0u8; segm::MOST];
+    let mut moves = [0u16; ends::MOST];
     clip_with(
         s,
         rule,
@@ -197,9 +197,9 @@ pub fn clip(
     ensures { λ r. ⌜ outcome r (now (points .exit)) (now (lengths .exit)) ≡ clipOutcome (now (segments .entry)) rule invert boundary (now (points .entry)) (now (lengths .entry)) ⌝ }
 {
     if segm::count(segments) <= segm::SMALL {
-        let mut flat = [0u16; 256];
-        let mut starts = [0u16; 257];
-        let mut nodes = [0u16; 256];
+        let mut flat = [0u16; ends::SMALL];
+        let mut starts = [0u16; graph::SMALL_STARTS];
+        let mut nodes = [0u16; ends::SMALL];
         let mut tops = [0i32; segm::SMALL];
         return clip_in(
             segments,
@@ -214,10 +214,10 @@ pub fn clip(
             lengths,
         );
     }
-    let mut flat = [0u16; 2048];
-    let mut starts = [0u16; 2049];
-    let mut nodes = [0u16; 2048];
-    let mut tops = [0i32; 1024];
+    let mut flat = [0u16; ends::MOST];
+    let mut starts = [0u16; graph::STARTS];
+    let mut nodes = [0u16; ends::MOST];
+    let mut tops = [0i32; segm::MOST];
     clip_in(
         segments,
         rule,
@@ -307,9 +307,9 @@ fn both_at_once(
         × (outcome (r .outside) (now («outside_points» .exit)) (now («outside_lengths» .exit)) ≡ clipOutcome (now (segments .entry)) rule (pos 1) boundary (now («outside_points» .entry)) (now («outside_lengths» .entry))) ⌝ }
 {
     if segm::count(segments) <= segm::SMALL {
-        let mut flat = [0u16; 256];
-        let mut starts = [0u16; 257];
-        let mut nodes = [0u16; 256];
+        let mut flat = [0u16; ends::SMALL];
+        let mut starts = [0u16; graph::SMALL_STARTS];
+        let mut nodes = [0u16; ends::SMALL];
         let mut tops = [0i32; segm::SMALL];
         return both_in(
             segments,
@@ -325,10 +325,10 @@ fn both_at_once(
             outside_lengths,
         );
     }
-    let mut flat = [0u16; 2048];
-    let mut starts = [0u16; 2049];
-    let mut nodes = [0u16; 2048];
-    let mut tops = [0i32; 1024];
+    let mut flat = [0u16; ends::MOST];
+    let mut starts = [0u16; graph::STARTS];
+    let mut nodes = [0u16; ends::MOST];
+    let mut tops = [0i32; segm::MOST];
     both_in(
         segments,
         rule,

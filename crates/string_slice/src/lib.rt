@@ -33,9 +33,9 @@ fn slice_small(
     ensures { λ r. ⌜ outcome r (now (points .exit)) (now (lengths .exit)) (now (roles .exit))
         ≡ sliceOutcome (now (segments .entry)) rule direction «min_area» (now (points .entry)) (now (lengths .entry)) (now (roles .entry)) ⌝ }
 {
-    let mut walks = [0i32; 512];
-    let mut walk_lengths = [0u16; 256];
-    let mut directions = [0u8; 256];
+    let mut walks = [0i32; 2 * ends::SMALL];
+    let mut walk_lengths = [0u16; ends::SMALL];
+    let mut directions = [0u8; ends::SMALL];
     let asked = Asked {
         rule: rule,
         direction: direction,
@@ -78,9 +78,9 @@ fn slice_any(
     ensures { λ r. ⌜ outcome r (now (points .exit)) (now (lengths .exit)) (now (roles .exit))
         ≡ sliceOutcome (now (segments .entry)) rule direction «min_area» (now (points .entry)) (now (lengths .entry)) (now (roles .entry)) ⌝ }
 {
-    let mut walks = [0i32; 4096];
-    let mut walk_lengths = [0u16; 2048];
-    let mut directions = [0u8; 2048];
+    let mut walks = [0i32; 2 * ends::MOST];
+    let mut walk_lengths = [0u16; ends::MOST];
+    let mut directions = [0u8; ends::MOST];
     let asked = Asked {
         rule: rule,
         direction: direction,

@@ -143,9 +143,9 @@ pub fn make_walks(
     ensures { λ r. ⌜ WalkedOf (now (s .entry)) asked r (now (walks .exit)) (now («walk_lengths» .exit)) (now (directions .exit)) ⌝ }
 {
     if segm::count(s) <= segm::SMALL {
-        let mut flat = [0u16; 256];
-        let mut starts = [0u16; 257];
-        let mut nodes = [0u16; 256];
+        let mut flat = [0u16; ends::SMALL];
+        let mut starts = [0u16; graph::SMALL_STARTS];
+        let mut nodes = [0u16; ends::SMALL];
         let mut tops = [0i32; segm::SMALL];
         let mut bits = [0u8; segm::SMALL];
         return make_walks_in(
@@ -161,11 +161,11 @@ pub fn make_walks(
             directions,
         );
     }
-    let mut flat = [0u16; 2048];
-    let mut starts = [0u16; 2049];
-    let mut nodes = [0u16; 2048];
-    let mut tops = [0i32; 1024];
-    let mut bits = [0u8; 1024];
+    let mut flat = [0u16; ends::MOST];
+    let mut starts = [0u16; graph::STARTS];
+    let mut nodes = [0u16; ends::MOST];
+    let mut tops = [0i32; segm::MOST];
+    let mut bits = [0u8; segm::MOST];
     make_walks_in(
         s,
         asked,

@@ -3,8 +3,7 @@ use mathlib.Core.Path.{_≡_, refl, sym, ap, subst, _∙_}
 use mathlib.Core.List.{List, [], _∷_, _++_}
 use mathlib.Core.Logic.{_⊎_, inl, inr}
 use mathlib.Core.Bool.{true, false}
-use Prim.Native.Nat.{ℕ, _-_, _*_, _<_}
-use native.Mathlib.Omega.{arith}
+use Prim.Native.Nat.{ℕ, _-_, _<_}
 use lib.ListN.{length}
 use lib.IntN.{ℤ, pos, negℤ}
 use lib.Signed.{_≤ℤ_, _<ℤ_, ≤ℤ-refl}
@@ -12,14 +11,12 @@ use native.Mathlib.Decide.{decLt}
 use Rattle.integers.proofs.Booleans.{clash, dec}
 use Rattle.integers.proofs.Linear.{ints}
 use Rattle.geom.specs.declared.Point.{Point}
-use Rattle.geom.specs.Points.{inRange}
 use Rattle.lists.specs.Members.{_∈_}
 use Rattle.segm.specs.Segments.{Drawing, segmentAt}
 use Rattle.lists.proofs.Members.{cases, in-++, in-left, in-right}
 use Rattle.ends.specs.Ends.{endPoint}
-use Rattle.ends.proofs.Ends.{end-a, end-b}
+use Rattle.ends.proofs.Ends.{end-a}
 use Rattle.strip.specs.Strip.{isVertical}
-use Rattle.neighbours.specs.Neighbours.{Ready}
 use Rattle.verticals.specs.Verticals.{Stands, Beyond, Unbroken}
 
 pub stands? : (d : Drawing) (v : ℕ) → Dec (Stands d v)
@@ -29,14 +26,6 @@ stands? d v = go (decLt v (length d)) (dec (isVertical (segmentAt d v)))
     go (no h) t = no (λ s. h (s .inside))
     go (yes h) (inl t) = yes (record { inside = h; vertical = t })
     go (yes h) (inr t) = no (λ s. clash (s .vertical) t)
-
--- every end is in range
-pub end-near : (d : Drawing) → Ready d → (e : ℕ) → e < 2 * length d → inRange (endPoint d e) ≡ true
-end-near d r e h = go (decLt e (length d))
-  where
-    go : Dec (e < length d) → inRange (endPoint d e) ≡ true
-    go (yes l) = ap inRange (end-a d e l) ∙ r .proper e l .near-a
-    go (no l) = ap inRange (end-b d e (omega arith)) ∙ r .proper (e - length d) (omega arith) .near-b
 
 module _ (d : Drawing) where
   abbrev height : ℕ → ℤ

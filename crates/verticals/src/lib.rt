@@ -13,8 +13,8 @@ ghost use lib.Signed.{_<ℤ_};
 ghost use Rattle.geom.specs.Points.{inRange};
 ghost use Rattle.segm.specs.Segments.{segments, segmentAt};
 ghost use Rattle.ends.specs.Ends.{endPoint};
-ghost use Rattle.meetings.specs.Meetings.{Proper};
-ghost use Rattle.neighbours.specs.Neighbours.{Ready, Known};
+ghost use Rattle.faults.specs.Faultless.{Proper, Faultless};
+ghost use Rattle.neighbours.specs.Neighbours.{Known};
 ghost use Rattle.scan.specs.Scan.{Listed};
 ghost use Rattle.count_up.specs.CountUp.{lastIn, Within};
 ghost use Rattle.verticals.specs.Verticals.{liesUnder, liesAbove, CutAt, AllStand, Column, Stands, Beyond, Unbroken, ClearIn, Clears};
@@ -45,7 +45,7 @@ fn lies_above(s: &[i32], i: u16, p: Point) -> bool
 
 // Whether the one before place k of the list lies under v, and the one at place k above it.
 fn is_cut(s: &[i32], v: Segment, list: &[u16], k: usize) -> bool
-    requires { ⌜ Ready (segments (now s)) × Proper v × Known (segments (now s)) (now list) × (k ≤ length (now list)) ⌝ }
+    requires { ⌜ Faultless (segments (now s)) × Proper v × Known (segments (now s)) (now list) × (k ≤ length (now list)) ⌝ }
     ensures { λ r. ⌜ (r ≡ true) ↔ CutAt (segments (now (s .entry))) v k (now (list .entry)) ⌝ }
 {
     let a = v.a;
@@ -69,7 +69,7 @@ struct Gap {
 
 // Where the vertical segment v stands in a gap of the list, if it does: at the guess, else by search.
 fn gap_of(s: &[i32], v: Segment, list: &[u16], guess: usize) -> Gap
-    requires { ⌜ Ready (segments (now s)) × Proper v × Known (segments (now s)) (now list) ⌝ }
+    requires { ⌜ Faultless (segments (now s)) × Proper v × Known (segments (now s)) (now list) ⌝ }
     ensures { λ r. ⌜ (r .clear ≡ true → CutAt (segments (now (s .entry))) v (r .place) (now (list .entry)))
         × (ClearIn (segments (now (s .entry))) v (now (list .entry)) → r .clear ≡ true) ⌝ }
 {
@@ -92,7 +92,7 @@ fn gap_of(s: &[i32], v: Segment, list: &[u16], guess: usize) -> Gap
 // The vertical segment v, at place i of the drawing, stands in a gap of the list, if it does; its top count is that of the one below the gap, and its own winding.
 fn stand_one(s: &[i32], v: Segment, i: usize, list: &[u16], guess: usize, tops: &mut [i32]) -> Gap
     requires { ⌜ (let d = segments (now s) in
-        Ready d
+        Faultless d
         × (v ≡ segmentAt d i)
         × (i < length d)
         × Known d (now list)
@@ -121,7 +121,7 @@ pub fn stand_all(
     tops: &mut [i32],
 ) -> bool
     requires { ⌜ (let d = segments (now s) in
-        Ready d
+        Faultless d
         × (to ≤ length d)
         × Known d (now list)
         × (length d ≤ length (now tops))
@@ -190,7 +190,7 @@ fn pass_end(s: &[i32], e: usize, foot: i32, top: i32) -> Last
 
 // Whether no end of a column lies within a vertical segment that starts in it, and these do not overlap.
 pub fn are_unbroken(s: &[i32], ends: &[u16]) -> bool
-    requires { ⌜ Ready (segments (now s)) × Column (segments (now s)) (now ends) ⌝ }
+    requires { ⌜ Faultless (segments (now s)) × Column (segments (now s)) (now ends) ⌝ }
     ensures { λ r. ⌜ (r ≡ true) ↔ Unbroken (segments (now (s .entry))) (now (ends .entry)) ⌝ }
 {
     let mut foot: i32 = -2147483648;

@@ -12,7 +12,8 @@ use Rattle.integers.proofs.Machine.{Is, read, lit, sub, ret}
 use Rattle.segm.specs.declared.Segment.{Segment}
 use Rattle.segm.specs.Segments.{Drawing, segments, segmentAt}
 use Rattle.segm.proofs.Segments.{count-inside, count-past, length-segments}
-use Rattle.balance.proofs.Sums.{share-a, share-b, winding-bound}
+use Rattle.faults.proofs.Faultless.{winding-at}
+use Rattle.balance.proofs.Sums.{share-a, share-b}
 use Rattle.balance.proofs.share.Statement.{statement}
 use Rattle.balance.proofs.share.Tie as tie
 
@@ -60,7 +61,7 @@ module _ (c : tie.After-segment-at2) where
   less : Is w32 1000 (pos 0 -ℤ toZ w32 (ofZ w32 (c .segment-at2 .result .winding))) (pos 0 -ℤ segmentAt d (e - length d) .winding)
   less =
       let fits = read w32 (c .segment-at2 .result .winding) (omega arith) in
-      sub {w = w32} {m = 0} {n = 1000} (lit (pos 0)) (record { is = fits ∙ winding-is; bound = winding-bound d (s .pre .0) (e - length d) (omega (arith, s .pre .1, past-starts)) }) (lit< tt)
+      sub {w = w32} {m = 0} {n = 1000} (lit (pos 0)) (record { is = fits ∙ winding-is; bound = winding-at (s .pre .0) (e - length d) (omega (arith, s .pre .1, past-starts)) }) (lit< tt)
 
 sub-result : tie.Need-sub-result
 sub-result c = less (c .before .before) .fits

@@ -1,77 +1,44 @@
--- The order is the definition's, and so are its two flags. Assumes nothing.
+-- What is asked first, then the drawing. Assumes nothing.
 use borrow.Author.Needs.{needs}
+use mathlib.Core.Path.{_≡_, sym, ap, _∙_}
 use mir.Facts.{toZ-ofZ}
-use Rattle.integers.proofs.Booleans.{or-false}
-use Rattle.lists.specs.Members.{any}
-use Rattle.checks.specs.Runs.{clipRun}
-use Rattle.checks.proofs.Order.{by-flags}
+use Rattle.refusal.specs.declared.Verdict.{Verdict}
+use Rattle.refusal.specs.Order.{_then_}
+use Rattle.segm.specs.Segments.{segments}
+use Rattle.checks.specs.Drawing.{drawingVerdict}
+use Rattle.checks.specs.Runs.{Run, clipRun, asked, verdict}
+use Rattle.checks.proofs.Runs.{asked-few}
 use Rattle.checks.proofs.check_clip.Statement.{statement}
 use Rattle.checks.proofs.check_clip.Tie as tie
 
-count-requires : tie.Need-count-requires
-count-requires c κs = search needs
+ask-clip-requires : tie.Need-ask-clip-requires
+ask-clip-requires c κs = search needs
 
-is-unknown-requires : tie.Need-is-unknown-requires
-is-unknown-requires c κs = search needs
+-- the run, and what it was asked
+module _ (k : tie.After-ask-clip) where
+  abbrev s : tie.Start
+  s = k .before
 
-is-unknown-requires-2 : tie.Need-is-unknown-requires-2
-is-unknown-requires-2 c κs = search needs
+  abbrev run : Run
+  run = clipRun (s .args .numbers .now) (s .args .rule) (s .args .invert) (s .args .boundary) (s .args .points) (s .args .lengths)
 
-is-unknown-requires-3 : tie.Need-is-unknown-requires-3
-is-unknown-requires-3 c κs = search needs
+  asked-is : k .ask-clip .result ≡ asked run
+  asked-is = rw (toZ-ofZ (s .fits .rule), toZ-ofZ (s .fits .invert), toZ-ofZ (s .fits .boundary)) at (k .ask-clip .ensures)
 
-is-short-requires : tie.Need-is-short-requires
-is-short-requires c κs = search needs
-
-is-short-requires-2 : tie.Need-is-short-requires-2
-is-short-requires-2 c κs = search needs
-
-in-order-requires : tie.Need-in-order-requires
-in-order-requires c κs = search needs
-
-same-length : tie.Need-same-length
-same-length c = search needs
-
-same-length-2 : tie.Need-same-length-2
-same-length-2 c = search needs
-
-same-length-3 : tie.Need-same-length-3
-same-length-3 c = search needs
-
-same-length-4 : tie.Need-same-length-4
-same-length-4 c = search needs
+check-alone-requires : tie.Need-check-alone-requires
+unfolding clipRun
+check-alone-requires c κs = λ e. asked-few (run c) (sym (asked-is c) ∙ e)
 
 returns : tie.Need-returns
-unfolding clipRun any
+unfolding verdict clipRun
 returns c =
-    let o = c .before .before .before .before .before .before .before in
-    let t₂ = o .before .before .before .before .before in
-    let t₁ = t₂ .before in
-    let u₃ = t₁ .before in
-    let u₂ = u₃ .before in
-    let u₁ = u₂ .before in
-    let n = u₁ .before in
-    let s = n .before .before .before .before in
-    let a = s .args in (
-      by-flags (clipRun (a .segments .now) (a .rule) (a .invert) (a .boundary) (a .points) (a .lengths)) (o .in-order .ensures .0)
-          (simp (u₁ .is-unknown .ensures, u₂ .is-unknown2 .ensures, u₃ .is-unknown3 .ensures, toZ-ofZ (s .fits .rule), toZ-ofZ (s .fits .invert), toZ-ofZ (s .fits .boundary), or-false))
-          (simp (t₁ .is-short .ensures, t₂ .is-short2 .ensures, n .count .ensures, or-false)),
-      o .in-order .ensures .1,
-    )
+    let k = c .before in
+    c .check-alone .ensures ∙ ap (λ (v : Verdict). v then drawingVerdict (segments (s k .args .numbers .now))) (asked-is k)
 
 pub check-clip-spec : {M : Type 1} → statement M
 check-clip-spec =
     tie.close
     (tie.spec
-    count-requires
-    is-unknown-requires
-    is-unknown-requires-2
-    is-unknown-requires-3
-    is-short-requires
-    is-short-requires-2
-    in-order-requires
-    same-length
-    same-length-2
-    same-length-3
-    same-length-4
+    ask-clip-requires
+    check-alone-requires
     returns)

@@ -7,23 +7,19 @@ use lib.ListN.{length, take}
 use lib.Seq.{length-take-le}
 use lib.IntN.{natAbs}
 use Rattle.segm.specs.Segments.{Drawing, segments}
-use Rattle.keys.proofs.Keyed.{near-ends}
 use Rattle.graph.specs.Nodes.{Nodes}
 use Rattle.balance.proofs.Nodes.{numbered}
-use Rattle.checks.specs.Search.{OrderedIn, NumberedIn}
-use Rattle.checks.proofs.Faults.{at, proper-at, rising-starts}
+use Rattle.checks.specs.Memory.{OrderedIn, NumberedIn}
 use Rattle.checks.proofs.check_ends.Statement.{statement}
 use Rattle.checks.proofs.check_ends.Tie as tie
 
 write-nodes-requires : tie.Need-write-nodes-requires
 write-nodes-requires c κs =
     let s = c .before .before .before .before .before .before .before .before .before .before in
-    let d = segments (s .args .s .now) in
-    let sound = s .pre .0 in
-    let few = sound .few in
+    let few = s .pre .0 .few in
     let room = s .pre .1 in
     let memory = s .pre .2 in
-    (rising-starts d (at d sound), near-ends d (λ i l. let p = proper-at d sound i l in (p .near-a, p .near-b)), few, room .flat-room few, room .starts-room few, room .nodes-room few, memory .keys-room, memory .scratch-room)
+    (s .pre .0, room .flat-room few, room .starts-room few, room .nodes-room few, memory .keys-room, memory .scratch-room)
 
 -- the nodes were written
 module _ (w : tie.After-write-nodes) where
@@ -79,7 +75,7 @@ returns : tie.Need-returns
 returns c =
     let f = c .before .before in
     let w = f .before .before .before .before .before .before .before .before .before .before .before .before .before .before .before in
-    (f .find-by-ends .ensures .0, λ e. (written w, f .find-by-ends .ensures .1 e))
+    (f .find-by-ends .ensures .0, λ e. record { nodes-are = written w; counts-are = f .find-by-ends .ensures .1 e })
 
 pub check-ends-spec : {M : Type 1} → statement M
 check-ends-spec =

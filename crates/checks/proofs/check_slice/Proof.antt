@@ -1,77 +1,44 @@
--- The order is the definition's, and so are its two flags. Assumes nothing.
+-- What is asked first, then the drawing. Assumes nothing.
 use borrow.Author.Needs.{needs}
+use mathlib.Core.Path.{_≡_, sym, ap, _∙_}
 use mir.Facts.{toZ-ofZ}
-use Rattle.integers.proofs.Booleans.{or-false}
-use Rattle.lists.specs.Members.{any}
-use Rattle.checks.specs.Runs.{sliceRun}
-use Rattle.checks.proofs.Order.{by-flags}
+use Rattle.refusal.specs.declared.Verdict.{Verdict}
+use Rattle.refusal.specs.Order.{_then_}
+use Rattle.segm.specs.Segments.{segments}
+use Rattle.checks.specs.Drawing.{drawingVerdict}
+use Rattle.checks.specs.Runs.{Run, sliceRun, asked, verdict}
+use Rattle.checks.proofs.Runs.{asked-few}
 use Rattle.checks.proofs.check_slice.Statement.{statement}
 use Rattle.checks.proofs.check_slice.Tie as tie
 
-count-requires : tie.Need-count-requires
-count-requires c κs = search needs
+ask-slice-requires : tie.Need-ask-slice-requires
+ask-slice-requires c κs = search needs
 
-is-unknown-requires : tie.Need-is-unknown-requires
-is-unknown-requires c κs = search needs
+-- the run, and what it was asked
+module _ (k : tie.After-ask-slice) where
+  abbrev s : tie.Start
+  s = k .before
 
-is-unknown-requires-2 : tie.Need-is-unknown-requires-2
-is-unknown-requires-2 c κs = search needs
+  abbrev run : Run
+  run = sliceRun (s .args .numbers .now) (s .args .rule) (s .args .direction) (s .args .points) (s .args .lengths) (s .args .roles)
 
-is-short-requires : tie.Need-is-short-requires
-is-short-requires c κs = search needs
+  asked-is : k .ask-slice .result ≡ asked run
+  asked-is = rw (toZ-ofZ (s .fits .rule), toZ-ofZ (s .fits .direction)) at (k .ask-slice .ensures)
 
-is-short-requires-2 : tie.Need-is-short-requires-2
-is-short-requires-2 c κs = search needs
-
-is-short-requires-3 : tie.Need-is-short-requires-3
-is-short-requires-3 c κs = search needs
-
-in-order-requires : tie.Need-in-order-requires
-in-order-requires c κs = search needs
-
-same-length : tie.Need-same-length
-same-length c = search needs
-
-same-length-2 : tie.Need-same-length-2
-same-length-2 c = search needs
-
-same-length-3 : tie.Need-same-length-3
-same-length-3 c = search needs
-
-same-length-4 : tie.Need-same-length-4
-same-length-4 c = search needs
+check-alone-requires : tie.Need-check-alone-requires
+unfolding sliceRun
+check-alone-requires c κs = λ e. asked-few (run c) (sym (asked-is c) ∙ e)
 
 returns : tie.Need-returns
-unfolding sliceRun any
+unfolding verdict sliceRun
 returns c =
-    let o = c .before .before .before .before .before .before .before in
-    let t₃ = o .before .before .before .before .before in
-    let t₂ = t₃ .before in
-    let t₁ = t₂ .before in
-    let u₂ = t₁ .before in
-    let u₁ = u₂ .before in
-    let n = u₁ .before in
-    let s = n .before .before .before .before in
-    let a = s .args in (
-      by-flags (sliceRun (a .segments .now) (a .rule) (a .direction) (a .points) (a .lengths) (a .roles)) (o .in-order .ensures .0)
-          (simp (u₁ .is-unknown .ensures, u₂ .is-unknown2 .ensures, toZ-ofZ (s .fits .rule), toZ-ofZ (s .fits .direction), or-false))
-          (simp (t₁ .is-short .ensures, t₂ .is-short2 .ensures, t₃ .is-short3 .ensures, n .count .ensures, or-false)),
-      o .in-order .ensures .1,
-    )
+    let k = c .before in
+    c .check-alone .ensures ∙ ap (λ (v : Verdict). v then drawingVerdict (segments (s k .args .numbers .now))) (asked-is k)
 
 pub check-slice-spec : {M : Type 1} → statement M
 check-slice-spec =
     tie.close
     (tie.spec
-    count-requires
-    is-unknown-requires
-    is-unknown-requires-2
-    is-short-requires
-    is-short-requires-2
-    is-short-requires-3
-    in-order-requires
-    same-length
-    same-length-2
-    same-length-3
-    same-length-4
+    ask-slice-requires
+    check-alone-requires
     returns)

@@ -9,11 +9,10 @@ use lib.Seq.{length-take-le}
 use Rattle.segm.specs.Segments.{Drawing, segments}
 use Rattle.segm.proofs.Segments.{length-segments}
 use Rattle.balance.specs.Balance.{Numbered}
-use Rattle.checks.specs.declared.Verdict.{Verdict}
-use Rattle.checks.specs.Drawing.{meetingAt, unbalancedAt}
-use Rattle.checks.specs.Verdict.{first, _then_}
-use Rattle.checks.proofs.Places.{not-both}
-use Rattle.checks.proofs.Order.{refused-then}
+use Rattle.refusal.specs.declared.Verdict.{Verdict}
+use Rattle.checks.specs.Drawing.{meetingsOf, unbalancedOf}
+use Rattle.refusal.specs.Order.{first, _then_}
+use Rattle.refusal.proofs.Order.{not-both, refused-then}
 use Rattle.checks.proofs.find_by_ends.Statement.{statement}
 use Rattle.checks.proofs.find_by_ends.Tie as tie
 
@@ -42,10 +41,10 @@ module _ (k : tie.After-count) where
 
   -- what 8 and 9 find
   abbrev eight : Verdict
-  eight = first (meetingAt d) d
+  eight = meetingsOf d
 
   abbrev nine : Verdict
-  nine = first (unbalancedAt d) d
+  nine = unbalancedOf d
 
 mul-e : tie.Need-mul-e
 mul-e c = record { fits = omega (arith, n-is c, s c .pre .0 .few) }

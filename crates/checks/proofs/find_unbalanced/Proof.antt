@@ -5,20 +5,20 @@ use mathlib.Core.Path.{_≡_, sym, ap, _∙_}
 use lib.ListN.{length}
 use Rattle.segm.specs.Segments.{segments}
 use Rattle.segm.proofs.Segments.{count-inside, count-past}
-use Rattle.checks.specs.Drawing.{unbalancedAt}
-use Rattle.checks.specs.Verdict.{first}
-use Rattle.checks.proofs.Balances.{weighed, nineBelow, first-nine}
+use Rattle.checks.specs.Drawing.{unbalancedOf}
+use Rattle.refusal.specs.Order.{first}
+use Rattle.checks.proofs.Drawing.{nineBelow, first-nine}
 use Rattle.checks.proofs.find_unbalanced.Statement.{statement}
 use Rattle.checks.proofs.find_unbalanced.Tie as tie
 
 first-unbalanced-requires : tie.Need-first-unbalanced-requires
-first-unbalanced-requires c κs = let s = c .before .before in (weighed (segments (s .args .s .now)) (s .pre .0), s .pre .1, s .pre .2, λ v _. s .pre .3 v)
+first-unbalanced-requires c κs = let s = c .before .before in (s .pre .0, s .pre .1, s .pre .2, λ v _. s .pre .3 v)
 
 count-requires : tie.Need-count-requires
 count-requires c κs = search needs
 
 -- the verdict, by the place found
-by-place : (c : tie.After-first-unbalanced) → let d = segments (c .before .before .before .args .s .now) in first (unbalancedAt d) d ≡ nineBelow (length d) (c .first-unbalanced .result)
+by-place : (c : tie.After-first-unbalanced) → let d = segments (c .before .before .before .args .s .now) in unbalancedOf d ≡ nineBelow (length d) (c .first-unbalanced .result)
 by-place c = let d = segments (c .before .before .before .args .s .now) in first-nine d ∙ ap (nineBelow (length d)) (sym (c .first-unbalanced .ensures))
 
 same-length : tie.Need-same-length

@@ -6,9 +6,10 @@ use lib.ListN.{drop}
 use Rattle.segm.specs.declared.Segment.{Segment}
 use Rattle.lists.specs.Members.{any}
 use Rattle.segm.specs.Segments.{segments, segmentAt}
-use Rattle.meetings.specs.Meetings.{Proper, meetsWrongly}
+use Rattle.faults.specs.Faultless.{Proper}
+use Rattle.meetings.specs.Meetings.{meetsWrongly}
 use Rattle.checks.specs.Drawing.{meetingAt}
-use Rattle.checks.proofs.Faults.{proper-at}
+use Rattle.faults.proofs.Faultless.{proper-at}
 use borrow.Author.Needs.{needs}
 use Rattle.checks.proofs.meeting_at.Statement.{statement}
 use Rattle.checks.proofs.meeting_at.Tie as tie
@@ -22,7 +23,7 @@ segment-at-requires c κs = search needs
 meets-any-requires : tie.Need-meets-any-requires
 meets-any-requires c κs =
     let s = c .before in
-    (s .pre .0, subst Proper (sym (c .segment-at .ensures)) (proper-at (segments (s .args .s .now)) (s .pre .0) (s .args .i) (s .pre .1)))
+    (s .pre .0, subst Proper (sym (c .segment-at .ensures)) (proper-at (s .pre .0) (s .args .i) (s .pre .1)))
 
 -- the call's answer, of the segment at place i
 later : (c : tie.After-meets-any) → any (meetsWrongly (segmentAt (segments (c .before .before .args .s .now)) (c .before .before .args .i))) (drop (suc (c .before .before .args .i)) (segments (c .before .before .args .s .now))) ≡ c .meets-any .result

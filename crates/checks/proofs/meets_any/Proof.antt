@@ -8,8 +8,9 @@ use Rattle.lists.specs.Members.{any}
 use Rattle.segm.specs.Segments.{segments, nowhere, segmentAt}
 use Rattle.lists.proofs.Members.{any-step}
 use Rattle.segm.proofs.Segments.{count-inside, count-past}
-use Rattle.meetings.specs.Meetings.{Proper, meetsWrongly}
-use Rattle.checks.proofs.Faults.{proper-at}
+use Rattle.faults.specs.Faultless.{Proper}
+use Rattle.meetings.specs.Meetings.{meetsWrongly}
+use Rattle.faults.proofs.Faultless.{proper-at}
 use Rattle.checks.proofs.meets_any.Statement.{statement}
 use Rattle.checks.proofs.meets_any.Tie as tie
 
@@ -36,7 +37,7 @@ meets-wrongly-requires : tie.Need-meets-wrongly-requires Inv-loop μ-loop
 meets-wrongly-requires c κs =
     let l = c .before .before in
     let s = l .before .before in
-    (s .pre .1, subst Proper (sym (c .segment-at .ensures)) (proper-at (segments (s .args .s .now)) (s .pre .0) (l .loop .k) (inside (c .before))))
+    (s .pre .1, subst Proper (sym (c .segment-at .ensures)) (proper-at (s .pre .0) (l .loop .k) (inside (c .before))))
 
 -- what is left, by the segment looked at
 module _ (c : tie.After-meets-wrongly Inv-loop μ-loop) where

@@ -12,6 +12,7 @@ use Rattle.integers.proofs.Machine.{Is, add, ret, read, got}
 use Rattle.segm.specs.declared.Segment.{Segment}
 use Rattle.segm.specs.Segments.{Drawing, segments, segmentAt}
 use Rattle.lists.proofs.Members.{in-at}
+use Rattle.faults.proofs.Faultless.{winding-at}
 use Rattle.count_up.specs.CountUp.{countUp}
 use Rattle.count_up.proofs.Stretch.{count-more, count-none}
 use Rattle.count_up.proofs.count_up.Statement.{statement}
@@ -58,7 +59,7 @@ module _ (c : tie.After-struct-told Inv-loop μ-loop) where
   winding = got w32 (c .before .before .segment-in .result .winding) (omega arith) (ap (λ (t : Segment). t .winding) (c .before .before .segment-in .ensures))
 
   summed : Is w32 (2100000000 + 1000 * l .loop .k + 1000) (toZ w32 (l .loop .sum) +ℤ toZ w32 (ofZ w32 (c .before .before .segment-in .result .winding))) (toZ w32 (l .loop .sum) +ℤ segmentAt d i .winding)
-  summed = add {x = toZ w32 (l .loop .sum)} {a = toZ w32 (l .loop .sum)} (record { is = refl; bound = l .loop .inv .small }) (record { is = winding; bound = s .pre .0 .winding i known }) (omega (arith, within, s .pre .2))
+  summed = add {x = toZ w32 (l .loop .sum)} {a = toZ w32 (l .loop .sum)} (record { is = refl; bound = l .loop .inv .small }) (record { is = winding; bound = winding-at (s .pre .0) i known }) (omega (arith, within, s .pre .2))
 
 mul-i : tie.Need-mul-i Inv-loop μ-loop
 mul-i c = search needs

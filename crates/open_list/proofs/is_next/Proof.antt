@@ -3,7 +3,7 @@ use mathlib.Core.Path.{_≡_, sym, subst}
 use mathlib.Core.Logic.{_↔_}
 use mathlib.Core.Bool.{true}
 use Rattle.segm.specs.Segments.{segments, segmentAt}
-use Rattle.meetings.specs.Meetings.{Proper}
+use Rattle.faults.specs.Faultless.{Proper}
 use Rattle.strip.specs.Strip.{Next}
 use Rattle.open_list.proofs.is_next.Statement.{statement}
 use Rattle.open_list.proofs.is_next.Tie as tie

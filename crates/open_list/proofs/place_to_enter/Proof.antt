@@ -4,7 +4,8 @@ use mathlib.Core.Path.{refl, sym, subst}
 use lib.ListN.{length}
 use Rattle.segm.specs.declared.Segment.{Segment}
 use Rattle.segm.specs.Segments.{segments}
-use Rattle.meetings.specs.Meetings.{Proper}
+use Rattle.faults.specs.Faultless.{Proper}
+use Rattle.faults.proofs.Faultless.{proper-at}
 use Rattle.scan.specs.declared.Sought.the-variants.{Along}
 use Rattle.scan.specs.Scan.{belowAt, Changes}
 use Rattle.open_list.proofs.Spanning.{fits}
@@ -18,7 +19,7 @@ returns : tie.Need-returns
 returns c = (λ t. c .before .fits-at .ensures .0 (c .if2 .taken), λ x w n. refl)
 
 place-of-requires : tie.Need-place-of-requires
-place-of-requires c κs = let s = c .before .before in (λ i m. record { inside = s .pre .2 i m; proper = s .pre .0 .proper i (s .pre .2 i m) }, subst Proper (sym (s .pre .1)) (s .pre .0 .proper (s .args .i) (s .pre .3)))
+place-of-requires c κs = let s = c .before .before in (λ i m. record { inside = s .pre .2 i m; proper = proper-at (s .pre .0) i (s .pre .2 i m) }, subst Proper (sym (s .pre .1)) (proper-at (s .pre .0) (s .args .i) (s .pre .3)))
 
 fits-at-requires-2 : tie.Need-fits-at-requires-2
 fits-at-requires-2 c κs = let s = c .before .before .before in (s .pre .0, s .pre .2, s .pre .3, c .place-of .ensures .till)

@@ -6,7 +6,8 @@ use native.Mathlib.Omega.{arith}
 use lib.ListN.{length}
 use Rattle.segm.specs.declared.Segment.{Segment}
 use Rattle.segm.specs.Segments.{segments}
-use Rattle.meetings.specs.Meetings.{Proper}
+use Rattle.faults.specs.Faultless.{Proper}
+use Rattle.faults.proofs.Faultless.{proper-at}
 use Rattle.scan.specs.declared.Sought.the-variants.{Along}
 use Rattle.scan.specs.Scan.{belowAt, Changes}
 use Rattle.open_list.proofs.Spanning.{found}
@@ -44,7 +45,7 @@ returns-2 : tie.Need-returns-2
 returns-2 c x w m = (omega arith, omega (arith, c .if5 .taken))
 
 place-of-requires : tie.Need-place-of-requires
-place-of-requires c κs = let s = c .before .before .before in (λ i m. record { inside = s .pre .3 i m; proper = s .pre .0 .proper i (s .pre .3 i m) }, subst Proper (sym (s .pre .1)) (s .pre .0 .proper (s .args .i) (s .pre .2)))
+place-of-requires c κs = let s = c .before .before .before in (λ i m. record { inside = s .pre .3 i m; proper = proper-at (s .pre .0) i (s .pre .3 i m) }, subst Proper (sym (s .pre .1)) (proper-at (s .pre .0) (s .args .i) (s .pre .2)))
 
 returns-3 : tie.Need-returns-3
 returns-3 c x w m =

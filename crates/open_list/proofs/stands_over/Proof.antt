@@ -5,6 +5,7 @@ use native.Mathlib.Omega.{arith}
 use Prim.Native.Nat.{ℕ, _-_}
 use lib.ListN.{getD}
 use Rattle.segm.specs.Segments.{segments, segmentAt}
+use Rattle.faults.proofs.Faultless.{proper-at}
 use Rattle.strip.specs.Strip.{Next}
 use Rattle.open_list.proofs.Laws.{listed}
 use Rattle.open_list.proofs.stands_over.Statement.{statement}
@@ -25,7 +26,7 @@ shared-slice-read-is-next c = search needs
 is-next-requires : tie.Need-is-next-requires
 is-next-requires c κs =
     let s = c .before .before .before in
-    (listed (s .args .list .now) (s .pre .0) (s .pre .1) (s .args .k - 1) (omega arith), record { inside = s .pre .2; proper = s .pre .0 .proper (s .args .i) (s .pre .2) })
+    (listed (s .args .list .now) (s .pre .0) (s .pre .1) (s .args .k - 1) (omega arith), record { inside = s .pre .2; proper = proper-at (s .pre .0) (s .args .i) (s .pre .2) })
 
 returns-2 : tie.Need-returns-2
 returns-2 c =

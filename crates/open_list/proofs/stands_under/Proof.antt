@@ -2,6 +2,7 @@
 use borrow.Author.Needs.{needs}
 use mathlib.Core.Path.{refl}
 use native.Mathlib.Omega.{arith}
+use Rattle.faults.proofs.Faultless.{proper-at}
 use Rattle.open_list.proofs.Laws.{listed}
 use Rattle.open_list.proofs.stands_under.Statement.{statement}
 use Rattle.open_list.proofs.stands_under.Tie as tie
@@ -18,7 +19,7 @@ shared-slice-read-is-next c = search needs
 is-next-requires : tie.Need-is-next-requires
 is-next-requires c κs =
     let s = c .before .before .before in
-    (record { inside = s .pre .2; proper = s .pre .0 .proper (s .args .i) (s .pre .2) }, listed (s .args .list .now) (s .pre .0) (s .pre .1) (s .args .k) (omega arith))
+    (record { inside = s .pre .2; proper = proper-at (s .pre .0) (s .args .i) (s .pre .2) }, listed (s .args .list .now) (s .pre .0) (s .pre .1) (s .args .k) (omega arith))
 
 returns-2 : tie.Need-returns-2
 returns-2 c = (λ t h. c .is-next .ensures .0 t, λ f. c .is-next .ensures .1 (f (omega arith)))

@@ -7,7 +7,8 @@ use mir.Syntax.{w64}
 use Rattle.integers.proofs.Machine.{got}
 use Rattle.segm.specs.declared.Segment.{Segment}
 use Rattle.segm.specs.Segments.{segments}
-use Rattle.meetings.specs.Meetings.{Proper, side}
+use Rattle.faults.specs.Faultless.{Proper}
+use Rattle.meetings.specs.Meetings.{side}
 use Rattle.strip.specs.Strip.{above, underBySide}
 use Rattle.scan.specs.declared.Sought.{Sought}
 use Rattle.scan.specs.Scan.{isBelow, SoughtInRange}

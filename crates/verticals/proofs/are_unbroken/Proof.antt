@@ -17,13 +17,15 @@ use Rattle.integers.proofs.Order.{lt-le}
 use Rattle.geom.proofs.Points.{near-y, ltP-true}
 use Rattle.lists.specs.Members.{_∈_}
 use Rattle.lists.proofs.Members.{in-at, in-take, pairs-before}
+use Rattle.faults.proofs.Faultless.{proper-at}
 use Rattle.ends.specs.Ends.{endPoint}
+use Rattle.ends.proofs.Ends.{end-near}
 use Rattle.neighbours.proofs.Upright.{vertical-upright}
 use Rattle.verticals.specs.Verticals.{Stands, Beyond, Unbroken}
 use mir.Syntax.{w32}
 use mir.Val.{toZ, ofZ}
 use Rattle.segm.specs.Segments.{Drawing, segments, segmentAt}
-use Rattle.verticals.proofs.Columns.{Passed, none-passed, passes, not-between, not-below, stands?, end-near}
+use Rattle.verticals.proofs.Columns.{Passed, none-passed, passes, not-between, not-below, stands?}
 use Rattle.verticals.proofs.are_unbroken.Statement.{statement}
 use Rattle.verticals.proofs.are_unbroken.Tie as tie
 
@@ -89,7 +91,7 @@ module _ (c : tie.After-pass-end Inv-loop μ-loop) where
   least = let n = near-y (endPoint d e) (end-near d (s .pre .0) e (s .pre .1 .known e here)) in omega (ints, n, of-abs (endPoint d e .y), of-neg (pos 2147483648), of-pos 2147483648)
 
   up : Stands d e → segmentAt d e .a .y <ℤ segmentAt d e .b .y
-  up h = vertical-upright (ltP-true (s .pre .0 .proper e (h .inside) .rises)) (h .vertical) .rises
+  up h = vertical-upright (ltP-true (proper-at (s .pre .0) e (h .inside) .rises)) (h .vertical) .rises
 
 returns : tie.Need-returns Inv-loop μ-loop
 returns c =

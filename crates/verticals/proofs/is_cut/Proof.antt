@@ -11,6 +11,7 @@ use lib.ListN.{length, getD}
 use Rattle.integers.proofs.Booleans.{clash}
 use Rattle.segm.specs.Segments.{Drawing, segments, segmentAt}
 use Rattle.lists.proofs.Members.{in-at}
+use Rattle.faults.proofs.Faultless.{proper-at}
 use Rattle.scan.specs.Scan.{Listed}
 use Rattle.verticals.specs.Verticals.{liesUnder}
 use Rattle.verticals.proofs.is_cut.Statement.{statement}
@@ -27,7 +28,7 @@ module _ (c : tie.Start) where
   k = c .args .k
 
   listed : (j : ℕ) → j < length l → Listed d (getD l j 0)
-  listed j h = let i = c .pre .2 (getD l j 0) (in-at l 0 j h) in record { inside = i; proper = c .pre .0 .proper (getD l j 0) i }
+  listed j h = let i = c .pre .2 (getD l j 0) (in-at l 0 j h) in record { inside = i; proper = proper-at (c .pre .0) (getD l j 0) i }
 
 sub-lies-under : tie.Need-sub-lies-under
 sub-lies-under c = search needs

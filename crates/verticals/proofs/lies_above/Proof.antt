@@ -9,7 +9,8 @@ use mir.Val.{toZ, ofZ}
 use Rattle.integers.proofs.Booleans.{or-l}
 use Rattle.segm.specs.declared.Segment.{Segment}
 use Rattle.segm.specs.Segments.{segments, segmentAt}
-use Rattle.meetings.specs.Meetings.{Proper, side}
+use Rattle.faults.specs.Faultless.{Proper}
+use Rattle.meetings.specs.Meetings.{side}
 use Rattle.verticals.specs.Verticals.{liesAbove}
 use Rattle.verticals.proofs.Sides.{side-got, start-got}
 use Rattle.verticals.proofs.lies_above.Statement.{statement}

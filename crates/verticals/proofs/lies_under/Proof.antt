@@ -9,7 +9,7 @@ use mir.Val.{toZ, ofZ}
 use Rattle.integers.proofs.Booleans.{or-l}
 use Rattle.segm.specs.declared.Segment.{Segment}
 use Rattle.segm.specs.Segments.{segments, segmentAt}
-use Rattle.meetings.specs.Meetings.{Proper}
+use Rattle.faults.specs.Faultless.{Proper}
 use Rattle.strip.specs.Strip.{above}
 use Rattle.verticals.specs.Verticals.{liesUnder}
 use Rattle.verticals.proofs.Sides.{side-got, start-got}

@@ -14,7 +14,8 @@ use Rattle.integers.proofs.Order.{abs-+}
 use Rattle.segm.specs.declared.Segment.{Segment}
 use Rattle.segm.specs.Segments.{Drawing, segments, segmentAt}
 use Rattle.strip.specs.Strip.{isVertical}
-use Rattle.neighbours.specs.Neighbours.{Ready}
+use Rattle.faults.specs.Faultless.{Faultless}
+use Rattle.faults.proofs.Faultless.{winding-at}
 use Rattle.count_up.specs.CountUp.{lastIn, Within}
 use Rattle.count_up.proofs.Stretch.{last-within, set-within}
 use Rattle.verticals.specs.Verticals.{CutAt, AllStand, ClearIn}
@@ -39,7 +40,7 @@ module _ {d : Drawing} {from to i : ℕ} {l : List ℕ} {old tops : List ℤ} (a
     within = λ b w j. let h = a .within b w j in omega (arith, a .since);
   }
 
-  standing-on : Ready d → i < length d → i < length tops → isVertical (segmentAt d i) ≡ true → (k : ℕ) → CutAt d (segmentAt d i) k l
+  standing-on : Faultless d → i < length d → i < length tops → isVertical (segmentAt d i) ≡ true → (k : ℕ) → CutAt d (segmentAt d i) k l
       → Standing d from to (i + 1) l old (set tops i (lastIn tops (take k l) +ℤ segmentAt d i .winding))
   standing-on r known room e k c = record {
     since = omega (arith, a .since);
@@ -49,7 +50,7 @@ module _ {d : Drawing} {from to i : ℕ} {l : List ℕ} {old tops : List ℤ} (a
     within = λ b w.
         let small = last-within tops (take k l) (a .within b w) in
         set-within tops i (lastIn tops (take k l) +ℤ segmentAt d i .winding)
-        (omega (arith, abs-+ (lastIn tops (take k l)) (segmentAt d i .winding), small, r .winding i known, a .since))
+        (omega (arith, abs-+ (lastIn tops (take k l)) (segmentAt d i .winding), small, winding-at r i known, a .since))
         (λ j. let h = a .within b w j in omega (arith, a .since));
   }
 

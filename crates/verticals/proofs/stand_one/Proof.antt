@@ -12,14 +12,15 @@ use Rattle.integers.proofs.Booleans.{clash}
 use Rattle.integers.proofs.Machine.{Is, add, ret, read, got}
 use Rattle.segm.specs.declared.Segment.{Segment}
 use Rattle.lists.proofs.Members.{in-take}
-use Rattle.meetings.specs.Meetings.{Proper}
+use Rattle.faults.specs.Faultless.{Proper}
+use Rattle.faults.proofs.Faultless.{proper-at, winding-at}
 use Rattle.count_up.specs.CountUp.{lastIn}
 use Rattle.count_up.proofs.Stretch.{last-within}
 use Rattle.verticals.proofs.stand_one.Statement.{statement}
 use Rattle.verticals.proofs.stand_one.Tie as tie
 
 gap-of-requires : tie.Need-gap-of-requires
-gap-of-requires c κs = let s = c .before in let p = s .pre in (p .0, subst Proper (sym (p .1)) (p .0 .proper (s .args .i) (p .2)), p .3)
+gap-of-requires c κs = let s = c .before in let p = s .pre in (p .0, subst Proper (sym (p .1)) (proper-at (p .0) (s .args .i) (p .2)), p .3)
 
 slice-aggregate-count-below : tie.Need-slice-aggregate-count-below
 slice-aggregate-count-below c =
@@ -47,7 +48,7 @@ module _ (c : tie.After-struct-told) where
   summed =
       add
       (record { is = got w32 (c .before .before .count-below .result) (omega arith) (c .before .before .count-below .ensures); bound = last-within (s .args .tops .now) (take (gap .gap-of .result .place) (s .args .list .now)) (s .pre .5) })
-      (record { is = read w32 (s .args .v .winding) (omega arith); bound = subst (λ (v : Segment). natAbs (v .winding) ≤ 1000) (sym (s .pre .1)) (s .pre .0 .winding (s .args .i) (s .pre .2)) })
+      (record { is = read w32 (s .args .v .winding) (omega arith); bound = subst (λ (v : Segment). natAbs (v .winding) ≤ 1000) (sym (s .pre .1)) (winding-at (s .pre .0) (s .args .i) (s .pre .2)) })
       (omega arith)
 
 add-tops : tie.Need-add-tops

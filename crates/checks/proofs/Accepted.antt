@@ -1,41 +1,36 @@
 -- What an accepted drawing has, in the forms that later layers use.
-use mathlib.Core.Path.{_≡_, refl, sym, ap, subst, _∙_}
+use mathlib.Core.Path.{_≡_, refl, ap, subst, _∙_}
 use mathlib.Core.List.{List, [], _∷_}
 use mathlib.Core.Logic.{_⊎_, inl, inr}
-use mathlib.Core.Bool.{true, false, not, true≢false}
-use Prim.Native.Nat.{ℕ, _*_, _-_, _<_, _≤_}
+use mathlib.Core.Bool.{true, false}
+use Prim.Native.Nat.{ℕ, _<_, _≤_}
 use native.Mathlib.Omega.{arith}
 use lib.Dec.{ltb}
 use lib.ListN.{length}
 use lib.IntN.{ℤ, pos, _-ℤ_}
-use borrow.Author.Tests.{ltb-true, ltb-false, not-false}
-use Rattle.integers.proofs.Booleans.{dec, clash, nor-r}
-use Rattle.geom.specs.declared.Point.{Point}
-use Rattle.geom.specs.Points.{within, ltP, eqP}
-use Rattle.geom.proofs.Points.{within-l, within-r, eqZ-true, eqP-true}
-use Rattle.segm.specs.declared.Segment.{Segment}
+use borrow.Author.Tests.{ltb-true, ltb-false}
+use Rattle.integers.proofs.Booleans.{dec, clash}
 use Rattle.lists.specs.Members.{_∈_, Pairs, any}
-use Rattle.segm.specs.Segments.{Drawing, count, whole, segments, nowhere, segmentAt}
-use Rattle.lists.proofs.Members.{pairs-map, pairs-places, in-after, any-false}
-use Rattle.segm.proofs.Segments.{length-segments, everywhere, total-none}
-use Rattle.meetings.specs.Meetings.{Proper, sameEnds}
+use Rattle.lists.proofs.Members.{pairs-map, pairs-places, in-after}
+use Rattle.geom.specs.declared.Point.{Point}
+use Rattle.geom.specs.Points.{eqP}
+use Rattle.geom.proofs.Points.{eqZ-true, eqP-true}
+use Rattle.refusal.specs.declared.Verdict.the-variants.{Accepted}
+use Rattle.refusal.specs.Asked.{Choice, unknownChoice, Lent, tooShort}
+use Rattle.refusal.proofs.Order.{accepted-then, is-accepted}
+use Rattle.segm.specs.declared.Segment.{Segment}
+use Rattle.segm.specs.Segments.{Drawing, count, segments, nowhere, segmentAt}
+use Rattle.segm.proofs.Segments.{everywhere, total-none}
+use Rattle.faults.specs.Faultless.{Proper}
+use Rattle.faults.proofs.Faultless.{faultless, proper-in}
+use Rattle.meetings.specs.Meetings.{sameEnds}
 use Rattle.meetings.proofs.Apart.{apart-ends, same-ends-sym}
 use Rattle.balance.specs.Balance.{balance, balances}
-use Rattle.checks.specs.declared.Verdict.{Verdict}
-use Rattle.checks.specs.declared.Verdict.the-variants.{Accepted, Refused}
-use Rattle.checks.specs.Drawing.{endsInRange, rises, bitsInRange, faultAt, unbalancedAt}
-use Rattle.checks.specs.Verdict.{Choice, Lent, Run, wrongLength, unknownChoice, tooShort, isAccepted, verdict}
-use Rattle.checks.specs.Runs.{clipRun}
+use Rattle.checks.specs.Drawing.{drawingVerdict}
+use Rattle.checks.specs.Runs.{Run, clipRun, asked, verdict}
 use Rattle.checks.specs.Accepted.{Good, inputOf, accepts}
-use Rattle.checks.proofs.Faults.{Faultless, faultless-at, rising-starts, proper, balanced-at}
-use Rattle.checks.proofs.Clear.{no-meeting}
-use Rattle.checks.proofs.Balances.{winding-bound}
-use Rattle.checks.proofs.Places.{first-none}
-use Rattle.checks.proofs.Order.{Passed, passed, passes}
-
-is-accepted : (v : Verdict) → isAccepted v ≡ true → v ≡ Accepted
-is-accepted Accepted e = refl
-is-accepted (Refused number place) e = absurd (true≢false (sym e))
+use Rattle.checks.proofs.Drawing.{no-meeting, balanced-at, drawing-passed}
+use Rattle.checks.proofs.Runs.{asked-few, passed, passes}
 
 -- ---- balance: a point is an end, or nothing starts or ends there
 data End (d : Drawing) (p : Point) : Type 0 where
@@ -72,39 +67,19 @@ balanced-all d ends p = go (end d p)
     go (free h) = balance-free d p h
 
 -- ---- the law
-module _ (r : Run) (p : Passed r) where
-  abbrev d : Drawing
-  d = segments (r .numbers)
-
-  -- a member stands at a place, where no refusal fits
-  at : (i : ℕ) → i < length d → Faultless (segmentAt d (i - 1) .a) (segmentAt d i)
-  at i l = faultless-at d i (first-none (faultAt d) d (p .faultless) i l)
-
-  pub passed-good : Good d
-  unfolding segmentAt rises bitsInRange wrongLength
-  passed-good = record {
-    few = omega (arith, length-segments (r .numbers), ltb-false 1024 (count (r .numbers)) (nor-r (not (whole (r .numbers))) (ltb 1024 (count (r .numbers))) (p .right-length)));
-    near = everywhere d (λ s. endsInRange s ≡ true) (λ i l. at i l .ends);
-    proper = everywhere d (λ s. ltP (s .a) (s .b) ≡ true) (λ i l. at i l .order);
-    winding = everywhere d _ (λ i l. winding-bound (segmentAt d i) (at i l .winding));
-    bits = everywhere d _ (λ i l. (within-l (pos 0) (pos 3) (segmentAt d i .bits) (at i l .bits), within-r (pos 0) (pos 3) (segmentAt d i .bits) (at i l .bits)));
-    rising = rising-starts d at;
-    apart = no-meeting d .0 (p .apart);
-    balanced = balanced-all d (everywhere d (λ s. (balances d (s .a) ≡ true) × (balances d (s .b) ≡ true)) (λ i l. balanced-at d i (first-none (unbalancedAt d) d (p .balanced) i l)));
-  }
+pub drawing-good : (d : Drawing) → length d ≤ 1024 → drawingVerdict d ≡ Accepted → Good d
+unfolding segmentAt
+drawing-good d few e =
+    let c = drawing-passed d e in
+    record {
+      faultless = faultless d few (c .faultless);
+      apart = no-meeting d .0 (c .apart);
+      balanced = balanced-all d (everywhere d (λ s. (balances d (s .a) ≡ true) × (balances d (s .b) ≡ true)) (balanced-at d (c .balanced)));
+    }
 
 pub verdict-good : (r : Run) → verdict r ≡ Accepted → Good (segments (r .numbers))
-verdict-good r e = passed-good r (passed r e)
-
--- its choices are known, and its lists long enough
-module _ (r : Run) (e : verdict r ≡ Accepted) where
-  pub verdict-known : (c : Choice) → c ∈ r .choices → within (pos 0) (c .greatest) (c .value) ≡ true
-  unfolding unknownChoice
-  verdict-known c m = not-false _ (any-false unknownChoice (r .choices) (passed r e .known) c m)
-
-  pub verdict-room : (l : Lent) → l ∈ r .lists → l .each * count (r .numbers) ≤ l .entries
-  unfolding tooShort
-  verdict-room l m = ltb-false (l .entries) (l .each * count (r .numbers)) (any-false (tooShort (count (r .numbers))) (r .lists) (passed r e .long) l m)
+unfolding verdict
+verdict-good r e = let both = accepted-then (asked r) _ e in drawing-good (segments (r .numbers)) (asked-few r (both .0)) (both .1)
 
 -- an accepted drawing: what a run was lent does not count
 module _ (numbers : List ℤ) (rule invert boundary : ℤ) (e : accepts numbers rule invert boundary ≡ true) where
@@ -121,13 +96,11 @@ module _ (numbers : List ℤ) (rule invert boundary : ℤ) (e : accepts numbers 
   unfolding clipRun
   accepted-run choices lists known long =
       let p = passed _ accepted-input in
-      passes _ (record { right-length = p .right-length; known = known; long = long; faultless = p .faultless; apart = p .apart; balanced = p .balanced })
+      passes _ (record { asks = record { right-length = p .asks .right-length; known = known; long = long }; drawing = p .drawing })
 
 -- its segments, one by one
-module _ (d : Drawing) (g : Good d) (s : Segment) (m : s ∈ d) where
-  pub good-proper : Proper s
-  unfolding rises
-  good-proper = proper s (g .near s m) (g .proper s m)
+pub good-proper : (d : Drawing) → Good d → (s : Segment) → s ∈ d → Proper s
+good-proper d g = proper-in (g .faultless)
 
 -- ---- in a good drawing two different places never have both ends equal
 module _ (d : Drawing) (g : Good d) where

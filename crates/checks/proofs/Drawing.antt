@@ -1,0 +1,82 @@
+-- What the verdict on a drawing says of its places: what it means that 8 and 9 fit nowhere, and how the code finds them.
+use mathlib.Core.Path.{_≡_, refl, ap, _∙_}
+use mathlib.Core.Logic.{_↔_}
+use mathlib.Core.Bool.{Bool, true, false, not, cond, _&&_}
+use Prim.Native.Nat.{ℕ, zero, suc, _+_, _<_}
+use native.Mathlib.Omega.{arith}
+use lib.Dec.{eqb, ltb}
+use lib.ListN.{length, drop}
+use borrow.Author.Tests.{lt-ltb, le-ltb}
+use Rattle.integers.proofs.Booleans.{clash, is-false, both-l, both-r}
+use Rattle.lists.specs.Members.{any}
+use Rattle.lists.proofs.Members.{pairs-of, pairs-places, any-some, any-false}
+use Rattle.refusal.specs.declared.Verdict.{Verdict}
+use Rattle.refusal.specs.declared.Verdict.the-variants.{Accepted, Refused}
+use Rattle.refusal.specs.Order.{firstFrom, first}
+use Rattle.refusal.proofs.Order.{first-none, all-none, accepted-then}
+use Rattle.segm.specs.Segments.{Drawing, nowhere, segmentAt}
+use Rattle.faults.specs.Faults.{faultsOf}
+use Rattle.faults.proofs.Faults.{last}
+use Rattle.faults.proofs.Faultless.{faultless}
+use Rattle.meetings.specs.Meetings.{meetsWrongly, NoneMeetWrongly}
+use Rattle.balance.specs.Balance.{balances, unbalanced, firstPlace, firstUnbalanced}
+use Rattle.checks.specs.Drawing.{meetingAt, meetingsOf, unbalancedAt, unbalancedOf, drawingVerdict}
+
+-- ---- 8
+-- 8 fits nowhere exactly where no two segments meet wrongly
+pub no-meeting : (d : Drawing) → (meetingsOf d ≡ Accepted) ↔ NoneMeetWrongly d
+unfolding meetingsOf meetingAt segmentAt
+no-meeting d = (
+  λ e. pairs-of (λ s t. meetsWrongly s t ≡ false) d nowhere (λ i h. any-false (meetsWrongly (segmentAt d i)) (drop (suc i) d) (last (any (meetsWrongly (segmentAt d i)) (drop (suc i) d)) 8 (omega arith) (first-none (meetingAt d) (length d) e i h))),
+  λ p. all-none (meetingAt d) (length d) (λ i h. ap (λ (b : Bool). cond b 8 0) (none p i h)),
+)
+  where
+    none : NoneMeetWrongly d → (i : ℕ) → i < length d → any (meetsWrongly (segmentAt d i)) (drop (suc i) d) ≡ false
+    none p i h = is-false (any (meetsWrongly (segmentAt d i)) (drop (suc i) d)) (λ e. let s = any-some (meetsWrongly (segmentAt d i)) (drop (suc i) d) e in
+        clash (s .passes) (pairs-places (λ s t. meetsWrongly s t ≡ false) d nowhere p i h (s .member) (s .in-list)))
+
+-- ---- 9
+pub balanced-at : (d : Drawing) → unbalancedOf d ≡ Accepted → (i : ℕ) → i < length d → (balances d (segmentAt d i .a) ≡ true) × (balances d (segmentAt d i .b) ≡ true)
+unfolding unbalancedOf unbalancedAt
+balanced-at d e i l =
+    let both = balanced (balances d (segmentAt d i .a) && balances d (segmentAt d i .b)) 9 (omega arith) (first-none (unbalancedAt d) (length d) e i l) in
+    (both-l (balances d (segmentAt d i .a)) (balances d (segmentAt d i .b)) both, both-r (balances d (segmentAt d i .a)) (balances d (segmentAt d i .b)) both)
+  where
+    balanced : (b : Bool) (m : ℕ) → 0 < m → cond b 0 m ≡ 0 → b ≡ true
+    balanced true m h e = refl
+    balanced false m h e = absurd (omega arith)
+
+-- 9 at a place below n
+abbrev pub nineBelow : ℕ → ℕ → Verdict
+nineBelow n place = cond (ltb place n) (Refused 9 place) Accepted
+
+module _ (d : Drawing) where
+  first-nine-from : (left i : ℕ) → firstFrom (unbalancedAt d) left i ≡ nineBelow (i + left) (firstPlace (unbalanced d) left i)
+  unfolding firstFrom firstPlace unbalancedAt unbalanced
+  first-nine-from zero i = rw (le-ltb i (i + 0) (omega arith))
+  first-nine-from (suc left) i = go (balances d (segmentAt d i .a) && balances d (segmentAt d i .b)) (first-nine-from left (suc i))
+    where
+      next : suc i + left ≡ i + suc left
+      next = omega arith
+
+      go : (b : Bool) → firstFrom (unbalancedAt d) left (suc i) ≡ nineBelow (suc i + left) (firstPlace (unbalanced d) left (suc i))
+          → cond (eqb (cond b 0 9) 0) (firstFrom (unbalancedAt d) left (suc i)) (Refused (cond b 0 9) i) ≡ nineBelow (i + suc left) (cond (not b) i (firstPlace (unbalanced d) left (suc i)))
+      go true e = e ∙ ap (λ n. nineBelow n (firstPlace (unbalanced d) left (suc i))) next
+      go false e = rw (lt-ltb i (i + suc left) (omega arith))
+
+  pub first-nine : unbalancedOf d ≡ nineBelow (length d) (firstUnbalanced d)
+  unfolding unbalancedOf first firstUnbalanced
+  first-nine = first-nine-from (length d) 0 ∙ ap (λ n. nineBelow n (firstPlace (unbalanced d) (length d) 0)) (omega arith)
+
+-- ---- all three
+pub record DrawingPassed (d : Drawing) : Type 0 where
+  pub faultless : faultsOf d ≡ Accepted
+  pub apart : meetingsOf d ≡ Accepted
+  pub balanced : unbalancedOf d ≡ Accepted
+
+pub drawing-passed : (d : Drawing) → drawingVerdict d ≡ Accepted → DrawingPassed d
+unfolding drawingVerdict
+drawing-passed d e =
+    let e₃ = accepted-then (faultsOf d) _ e in
+    let e₈ = accepted-then (meetingsOf d) _ (e₃ .1) in
+    record { faultless = e₃ .0; apart = e₈ .0; balanced = e₈ .1 }
