@@ -11,9 +11,11 @@ use Rattle.lists.specs.Written.{written}
 use Rattle.segm.specs.Segments.{front, segmentsOf, count, whole, segments, segmentAt, total}
 use Rattle.meetings.specs.Meetings.{side, parts, inside, sameEnds, meetsWrongly}
 use Rattle.balance.specs.Balance.{balance, balances}
-use Rattle.checks.specs.Drawing.{endsInRange, rises, windingInRange, bitsInRange, fault, faultAt, meetingAt, unbalancedAt}
-use Rattle.checks.specs.Verdict.{wrongLength, unknownChoice, tooShort, firstFrom, first, inOrder, verdict}
-use Rattle.checks.specs.Runs.{fillsRun}
+use Rattle.faults.specs.Faults.{endsInRange, rises, windingInRange, bitsInRange, fault, faultAt, faultsOf}
+use Rattle.checks.specs.Drawing.{meetingAt, unbalancedAt, meetingsOf, unbalancedOf, drawingVerdict}
+use Rattle.refusal.specs.Asked.{wrongLength, unknownChoice, tooShort, askedFirst}
+use Rattle.refusal.specs.Order.{firstFrom, first}
+use Rattle.checks.specs.Runs.{asked, verdict, fillsRun}
 use Rattle.segm.specs.CaseA.{segment, A}
 use Rattle.fill_rule.specs.declared.Rule.the-variants.{EvenOdd}
 use Rattle.build.specs.declared.run.Filled.the-variants.{Refused}
@@ -71,7 +73,7 @@ pub record Cases : Type 0 where
   pub even-below : filled EvenOdd (negsuc 1) ≡ false
 
 pub cases : Cases
-unfolding eqZ within ltP eqP coordinate inRange cross between any sum written front segmentsOf count whole segments segmentAt total side parts inside sameEnds meetsWrongly endsInRange rises windingInRange bitsInRange fault faultAt meetingAt balance balances unbalancedAt wrongLength unknownChoice tooShort firstFrom first inOrder verdict fillsRun spans above clockwise met bottom top filled ruleOf fillOf fill fills fillsOutcome
+unfolding eqZ within ltP eqP coordinate inRange cross between any sum written front segmentsOf count whole segments segmentAt total side parts inside sameEnds meetsWrongly endsInRange rises windingInRange bitsInRange fault faultAt meetingAt balance balances unbalancedAt wrongLength unknownChoice tooShort firstFrom first asked askedFirst drawingVerdict faultsOf meetingsOf unbalancedOf verdict fillsRun spans above clockwise met bottom top filled ruleOf fillOf fill fills fillsOutcome
 cases = record {
   unknown-rule = refl;
   one-short = refl;

@@ -41,6 +41,11 @@ pub passes : (r : Run) → Passed r → verdict r ≡ Accepted
 unfolding verdict asked
 passes r p = ap (λ (v : Verdict). v then drawingVerdict (segments (r .numbers))) (passes-asked _ _ _ (p .asks)) ∙ p .drawing
 
+-- the code asks first, then looks at the drawing
+pub checked-verdict : (r : Run) {v w : Verdict} → v ≡ asked r → w ≡ (v then drawingVerdict (segments (r .numbers))) → w ≡ verdict r
+unfolding verdict
+checked-verdict r a e = e ∙ ap (λ (v : Verdict). v then drawingVerdict (segments (r .numbers))) a
+
 -- its choices are known, and its lists long enough
 module _ (r : Run) (e : verdict r ≡ Accepted) where
   pub verdict-known : (c : Choice) → c ∈ r .choices → within (pos 0) (c .greatest) (c .value) ≡ true

@@ -17,13 +17,13 @@ use Rattle.lists.specs.Members.{_∈_}
 use Rattle.segm.specs.Segments.{Drawing, width, segments, numbersOf, laid}
 use Rattle.segm.proofs.Laid.{segments-laid}
 use Rattle.lists.proofs.Members.{in-map}
-use Rattle.checks.specs.Drawing.{endsInRange}
-use Rattle.checks.specs.declared.Verdict.the-variants.{Accepted}
-use Rattle.checks.specs.Verdict.{verdict}
-use Rattle.checks.specs.Runs.{upTo, ruleChoice, flagChoice, clipRun}
+use Rattle.faults.specs.Faults.{endsInRange}
+use Rattle.refusal.specs.declared.Verdict.the-variants.{Accepted}
+use Rattle.checks.specs.Runs.{verdict, ruleChoice, flagChoice, clipRun}
+use Rattle.refusal.specs.Asked.{upTo}
 use Rattle.checks.specs.Accepted.{accepts, Good}
-use Rattle.checks.proofs.Order.{passed}
-use Rattle.checks.proofs.Good.{verdict-known, accepted-input, accepted-good, accepted-run}
+use Rattle.checks.proofs.Runs.{passed, verdict-known}
+use Rattle.checks.proofs.Accepted.{accepted-input, accepted-good, accepted-run}
 use Rattle.fill_rule.specs.FillRule.{ruleOf}
 use Rattle.build.specs.Links.{filterOf}
 use Rattle.string_clip.specs.declared.Clipped.the-variants.{Done}
@@ -74,19 +74,19 @@ module _ (c : Choices) (d : Drawing) (e : accepts (laid d) (c .rule) (c .invert)
   small r (inr i) z m =
       let f = in-map numbersOf r d i in
       let s = f .0 in
-      let b = good .bits s (f .1) in
-      small-segment s (good .near s (f .1)) (good .winding s (f .1)) (abs-up-to 3 (s .bits) (b .0) (b .1)) z (subst (λ (l : List ℤ). z ∈ l) (f .2) m)
+      let b = good .faultless .bits s (f .1) in
+      small-segment s (good .faultless .near s (f .1)) (good .faultless .winding s (f .1)) (abs-up-to 3 (s .bits) (b .0) (b .1)) z (subst (λ (l : List ℤ). z ∈ l) (f .2) m)
 
   -- an accepted drawing has a text, which holds its choices and its numbers
   pub accepted-text : parsed width (writing c d) ≡ Drawn c (laid d)
-  accepted-text = reads-back c d (λ r i z m. omega (arith, small r i z m)) (fits c d (good .few) small)
+  accepted-text = reads-back c d (λ r i z m. omega (arith, small r i z m)) (fits c d (good .faultless .few) small)
 
   -- lists for 1,024 segments are long enough for it
   accepted-clip : (xs : List ℤ) (ns : List ℕ) → length xs ≡ 8192 → length ns ≡ 2048 → verdict (clipRun (laid d) (c .rule) (c .invert) (c .boundary) (length xs) (length ns)) ≡ Accepted
   unfolding clipRun
   accepted-clip xs ns h k =
       let n = ap length (segments-laid d) in
-      let room : Room (laid d) xs ns = record { points-fit = omega (arith, n, h, good .few); lengths-fit = omega (arith, n, k, good .few) } in
+      let room : Room (laid d) xs ns = record { points-fit = omega (arith, n, h, good .faultless .few); lengths-fit = omega (arith, n, k, good .faultless .few) } in
       accepted-run (laid d) (c .rule) (c .invert) (c .boundary) e _ _ (passed _ (accepted-input (laid d) (c .rule) (c .invert) (c .boundary) e) .known) (room-long (laid d) xs ns room)
 
   abbrev paths : Drawing → List (List Point)

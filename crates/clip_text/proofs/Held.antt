@@ -9,10 +9,9 @@ use Rattle.geom.specs.declared.Point.{Point}
 use Rattle.lists.specs.Sums.{tally}
 use Rattle.segm.specs.Segments.{width, segments}
 use Rattle.lists.proofs.Written.{length-written, take-written}
-use Rattle.checks.specs.declared.Verdict.{Verdict}
-use Rattle.checks.specs.declared.Verdict.the-variants as verdict-is
-use Rattle.checks.specs.Verdict.{verdict}
-use Rattle.checks.specs.Runs.{clipRun}
+use Rattle.refusal.specs.declared.Verdict.{Verdict}
+use Rattle.refusal.specs.declared.Verdict.the-variants as verdict-is
+use Rattle.checks.specs.Runs.{verdict, clipRun}
 use Rattle.fill_rule.specs.FillRule.{ruleOf}
 use Rattle.build.specs.Links.{filterOf}
 use Rattle.string_clip.specs.declared.Clipped.the-variants.{Refused}

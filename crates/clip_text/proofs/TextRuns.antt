@@ -13,8 +13,8 @@ use lib.IntN.{ℤ}
 use Rattle.lists.specs.Written.{written}
 use Rattle.segm.specs.Segments.{width, count, whole}
 use Rattle.lists.proofs.Written.{length-written, take-written}
-use Rattle.checks.specs.Verdict.{wrongLength, inOrder, verdict}
-use Rattle.checks.specs.Runs.{clipRun}
+use Rattle.refusal.specs.Asked.{wrongLength}
+use Rattle.checks.specs.Runs.{INORDER, verdict, clipRun}
 use Rattle.string_clip.specs.declared.Clipped.the-variants.{Refused}
 use Rattle.string_clip.specs.Run.{Outcome, outcome, clipOutcome}
 use Rattle.text.specs.declared.Choices.{Choices}
@@ -39,7 +39,7 @@ module _ (points : List ℤ) (lengths : List ℕ) where
 
   -- too many are refused whatever they are
   long-refused : (c : Choices) (l : List ℤ) → 1024 * width < length l → run c l ≡ outcome (Refused 2 0) points lengths
-  unfolding clipOutcome verdict inOrder clipRun
+  unfolding clipOutcome verdict INORDER clipRun
   long-refused c l h = rw (long-wrong l h) refl
 
   -- what the code does once it has read: it runs on the numbers that the list holds

@@ -26,4 +26,4 @@ module _ (d : Drawing) (s : Segment) where
 
   pub top-bound : Good d → s ∈ d → natAbs (top d s) ≤ 1025000
   unfolding top
-  top-bound g m = omega (arith, abs-+ (bottom d s) (s .winding), bottom-bound d g s, g .winding s m)
+  top-bound g m = omega (arith, abs-+ (bottom d s) (s .winding), bottom-bound d g s, g .faultless .winding s m)

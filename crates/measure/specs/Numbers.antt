@@ -2,10 +2,9 @@
 use mathlib.Core.List.{List}
 use Prim.Native.Nat.{ℕ}
 use lib.IntN.{ℤ, pos}
-use Rattle.checks.specs.declared.Verdict.{Verdict}
-use Rattle.checks.specs.declared.Verdict.the-variants.{Accepted, Refused}
-use Rattle.checks.specs.Verdict.{verdict}
-use Rattle.checks.specs.Runs.{clipRun}
+use Rattle.refusal.specs.declared.Verdict.{Verdict}
+use Rattle.refusal.specs.declared.Verdict.the-variants.{Accepted, Refused}
+use Rattle.checks.specs.Runs.{verdict, clipRun}
 use Rattle.measure.specs.declared.Check.{Check}
 
 -- of a clip run with known choices: the lists are long enough for 1,024 segments, and more are refused before

@@ -23,9 +23,9 @@ bottom-adds d i = refl
 module _ (d : Drawing) (g : Good d) where
   -- each adds at most 1,000
   pub adds-bound : (i j : Segment) → j ∈ d → natAbs (adds i j) ≤ 1000
-  adds-bound i j m = only-bound (met i j) (j .winding) (g .winding j m)
+  adds-bound i j m = only-bound (met i j) (j .winding) (g .faultless .winding j m)
 
   pub bottom-bound : (i : Segment) → natAbs (bottom d i) ≤ 1024000
   bottom-bound i =
       let b = sum-bound (adds i) 1000 d (adds-bound i) in
-      subst (λ z. natAbs z ≤ 1024000) (bottom-adds d i) (omega (arith, b, g .few))
+      subst (λ z. natAbs z ≤ 1024000) (bottom-adds d i) (omega (arith, b, g .faultless .few))

@@ -42,7 +42,7 @@ length-fills rule d = length-map d (fill rule d)
 module _ (d : Drawing) (g : Good d) where
   pub fill-small : (rule : Rule) (i : Segment) → i ∈ d → fill rule d i < 16
   unfolding fill fillOf
-  fill-small rule i m = size (filled rule (top d i)) (filled rule (bottom d i)) (natAbs (i .bits)) (bits-abs (i .bits) (g .bits i m))
+  fill-small rule i m = size (filled rule (top d i)) (filled rule (bottom d i)) (natAbs (i .bits)) (bits-abs (i .bits) (g .faultless .bits i m))
 
   pub fills-small : (rule : Rule) (f : ℕ) → f ∈ fills rule d → f < 16
   unfolding fills

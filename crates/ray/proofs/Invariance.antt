@@ -36,7 +36,7 @@ one-or-apart {d} g j h m n = go (pairs-at (λ s t. meetsWrongly s t ≡ false) d
     go (inr (inr e)) = inr (turned (apart e))
 
 pub proper : {d : Drawing} → Good d → (s : Segment) → s ∈ d → Before (s .a) (s .b)
-proper g s m = ltP-true (g .proper s m)
+proper g s m = ltP-true (g .faultless .proper s m)
 
 -- ---- what is under h right of x
 unfoldable pub beneath : Drawing → Segment → ℤ → ℤ

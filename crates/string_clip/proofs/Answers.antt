@@ -11,10 +11,10 @@ use Rattle.geom.specs.Points.{within}
 use Rattle.lists.specs.Members.{any}
 use Rattle.segm.specs.Segments.{segments}
 use Rattle.contour.specs.Points.{Writes}
-use Rattle.checks.specs.declared.Verdict.{Verdict}
-use Rattle.checks.specs.declared.Verdict.the-variants as verdict-is
-use Rattle.checks.specs.Verdict.{wrongLength, unknownChoice, inOrder, verdict}
-use Rattle.checks.specs.Runs.{ruleChoice, flagChoice, clipRun}
+use Rattle.refusal.specs.declared.Verdict.{Verdict}
+use Rattle.refusal.specs.declared.Verdict.the-variants as verdict-is
+use Rattle.refusal.specs.Asked.{wrongLength, unknownChoice}
+use Rattle.checks.specs.Runs.{INORDER, verdict, ruleChoice, flagChoice, clipRun}
 use Rattle.fill_rule.specs.declared.Rule.{Rule}
 use Rattle.fill_rule.specs.FillRule.{ruleOf}
 use Rattle.build.specs.declared.links.Filter.{Filter}
@@ -72,7 +72,7 @@ module _ (numbers : List ℤ) (rule boundary : ℤ) (xs₀ xs₁ : List ℤ) (ns
 
   one-verdict : said numbers rule (pos 1) boundary xs₁ ns₁ ≡ said numbers rule (pos 0) boundary xs₀ ns₀
   unfolding verdict clipRun
-  one-verdict = ap₂ (λ (unknown short : Bool). inOrder (wrongLength numbers) unknown short (segments numbers)) as-known (room-long numbers xs₁ ns₁ r₁ ∙ sym (room-long numbers xs₀ ns₀ r₀))
+  one-verdict = ap₂ (λ (unknown short : Bool). INORDER (wrongLength numbers) unknown short (segments numbers)) as-known (room-long numbers xs₁ ns₁ r₁ ∙ sym (room-long numbers xs₀ ns₀ r₀))
 
   pub outside-accepted : {t : Totals} {points : List ℤ} {lengths : List ℕ} → outcome (Done t) points lengths ≡ clipOutcome numbers rule (pos 0) boundary xs₀ ns₀ → said numbers rule (pos 1) boundary xs₁ ns₁ ≡ verdict-is.Accepted
   outside-accepted e = one-verdict ∙ done-accepted numbers rule (pos 0) boundary xs₀ ns₀ e

@@ -13,11 +13,13 @@ use Rattle.lists.specs.UpFrom.{upFrom}
 use Rattle.segm.specs.CaseA.{segment, A}
 use Rattle.segm.specs.Segments.{front, segmentsOf, count, whole, segments, segmentAt, total}
 use Rattle.meetings.specs.Meetings.{side, parts, inside, sameEnds, meetsWrongly}
-use Rattle.checks.specs.declared.Verdict.the-variants.{Accepted}
+use Rattle.refusal.specs.declared.Verdict.the-variants.{Accepted}
 use Rattle.balance.specs.Balance.{balance, balances}
-use Rattle.checks.specs.Drawing.{endsInRange, rises, windingInRange, bitsInRange, fault, faultAt, meetingAt, unbalancedAt}
-use Rattle.checks.specs.Verdict.{wrongLength, unknownChoice, tooShort, firstFrom, first, inOrder, verdict}
-use Rattle.checks.specs.Runs.{clipRun}
+use Rattle.faults.specs.Faults.{endsInRange, rises, windingInRange, bitsInRange, fault, faultAt, faultsOf}
+use Rattle.checks.specs.Drawing.{meetingAt, unbalancedAt, meetingsOf, unbalancedOf, drawingVerdict}
+use Rattle.refusal.specs.Asked.{wrongLength, unknownChoice, tooShort, askedFirst}
+use Rattle.refusal.specs.Order.{firstFrom, first}
+use Rattle.checks.specs.Runs.{asked, verdict, clipRun}
 use Rattle.checks.specs.Accepted.{accepts}
 use Rattle.fill_rule.specs.FillRule.{filled, ruleOf, fillOf}
 use Rattle.strip.specs.Strip.{spans, above, clockwise}
@@ -87,7 +89,7 @@ pub record Cases : Type 0 where
   pub accepted-A : accepts A (pos 1) (pos 0) (pos 1) ≡ true
 
 pub cases : Cases
-unfolding accepts clipRun verdict inOrder wrongLength unknownChoice tooShort first firstFrom faultAt meetingAt unbalancedAt fault endsInRange rises windingInRange bitsInRange balance balances meetsWrongly parts inside sameEnds side total any sum tally keep written upFrom front segmentsOf count whole segments segmentAt eqZ within ltP eqP coordinate inRange cross between spans above clockwise met bottom top filled ruleOf fillOf fill sidesSet keepsSides keeps filterOf keptLinks node has clear asDrawn isLeft taken takenAll bitsLeft firstLeft bothMoves begins way over other fitting goesOn follow pathFrom walkFrom walk through finished pathPoints clipPaths stepsFrom stepsOfPath stepsOf travelOf totals coordinates flatten clipOutcome
+unfolding accepts clipRun verdict asked askedFirst drawingVerdict faultsOf meetingsOf unbalancedOf wrongLength unknownChoice tooShort first firstFrom faultAt meetingAt unbalancedAt fault endsInRange rises windingInRange bitsInRange balance balances meetsWrongly parts inside sameEnds side total any sum tally keep written upFrom front segmentsOf count whole segments segmentAt eqZ within ltP eqP coordinate inRange cross between spans above clockwise met bottom top filled ruleOf fillOf fill sidesSet keepsSides keeps filterOf keptLinks node has clear asDrawn isLeft taken takenAll bitsLeft firstLeft bothMoves begins way over other fitting goesOn follow pathFrom walkFrom walk through finished pathPoints clipPaths stepsFrom stepsOfPath stepsOf travelOf totals coordinates flatten clipOutcome
 cases = record {
   inside-A = λ xs ns. refl;
   outside-A = λ xs ns. refl;

@@ -101,7 +101,7 @@ found-fit f n h = (omega (arith, f .points, f .few-paths, f .few-steps), omega (
 module _ (d : Drawing) (g : Good d) (rule : Rule) (filter : Filter) where
   pub clip-found : Found (keptLinks rule filter d) (lineBits (keptLinks rule filter d)) (clipPaths rule filter d)
   unfolding clipPaths walk
-  clip-found = bits-found (keptLinks rule filter d) (kept-proper rule filter d (g .proper)) (lineBits (keptLinks rule filter d))
+  clip-found = bits-found (keptLinks rule filter d) (kept-proper rule filter d (g .faultless .proper)) (lineBits (keptLinks rule filter d))
 
   pub clip-fits : (2 * length (flatten (clipPaths rule filter d)) ≤ 8 * length d) × (length (clipPaths rule filter d) ≤ 2 * length d)
   unfolding keptLinks

@@ -18,7 +18,7 @@ use Rattle.segm.specs.declared.Segment.{Segment}
 use Rattle.lists.specs.Members.{_∈_}
 use Rattle.lists.specs.Sums.{one}
 use Rattle.segm.specs.Segments.{Drawing, nowhere, segmentAt}
-use Rattle.checks.specs.Drawing.{endsInRange}
+use Rattle.faults.specs.Faults.{endsInRange}
 use Rattle.clip_walk.specs.Walk.{has, asDrawn, linesIn}
 use Rattle.string_clip.specs.Paths.{travelOf}
 use Rattle.string_clip.specs.Writing.{travelOver}

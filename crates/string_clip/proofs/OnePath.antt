@@ -64,14 +64,14 @@ module _ {links : Drawing} {flat starts nodes bits : List ℕ} (w : Walking link
     as-many-rest = ap length r ∙ length-taken bits (moveOf (length bits) out k)
 
     pub sound-rest : Sound (length rest) g
-    sound-rest = subst (λ m. Sound m g) (sym (as-many-rest ∙ w .as-many)) (nodes-sound links (w .good .proper) flat starts nodes (w .nodes-are) (w .good .few))
+    sound-rest = subst (λ m. Sound m g) (sym (as-many-rest ∙ w .as-many)) (nodes-sound links (w .good .faultless .proper) flat starts nodes (w .nodes-are) (w .good .faultless .few))
 
     pub fewer-rest : isLeft bits (moveOf (length bits) out k) ≡ true → bitsLeft rest < 2 * length bits
     fewer-rest h = omega (arith, ap bitsLeft r, left-taken bits (moveOf (length bits) out k) h, bits-few bits)
 
     moves : out ≡ has true (getD bits k 0) → map (moveOf (length links) out) (k ∷ ends) ≡ pathAt links bits k
     moves e =
-        path-is links (w .good .proper) flat starts nodes (w .nodes-are) out k bits rest (w .good .few) (w .as-many) place (r ∙ ap (taken bits) (first out))
+        path-is links (w .good .faultless .proper) flat starts nodes (w .nodes-are) out k bits rest (w .good .faultless .few) (w .as-many) place (r ∙ ap (taken bits) (first out))
         ∙ ap (λ (o : Bool). pathFrom links bits (move k o)) e
 
     pub points-of : out ≡ has true (getD bits k 0) → endsPoints links out (k ∷ ends) ≡ pathPoints links (pathAt links bits k)

@@ -6,7 +6,7 @@ use lib.IntN.{ℤ}
 use Rattle.geom.specs.declared.Point.{Point}
 use Rattle.lists.specs.Written.{written}
 use Rattle.contour.proofs.Coordinates.{pair-coordinates}
-use Rattle.checks.specs.declared.Verdict.the-variants.{Accepted}
+use Rattle.refusal.specs.declared.Verdict.the-variants.{Accepted}
 use Rattle.contour.proofs.CutWritten.{cut-written}
 use Rattle.string_clip.specs.Run.{totals, answered, output}
 

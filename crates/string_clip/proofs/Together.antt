@@ -17,12 +17,12 @@ use Rattle.lists.proofs.Written.{length-written, written-past}
 use Rattle.lists.proofs.Members.{cases}
 use Rattle.lists.proofs.Sums.{tally-cong, tally-+, tally-one, tally-in, tally-some}
 use Rattle.segm.proofs.Segments.{length-segments}
-use Rattle.checks.specs.declared.Verdict.the-variants.{Accepted}
-use Rattle.checks.specs.Verdict.{unknownChoice, tooShort, verdict}
-use Rattle.checks.specs.Runs.{ruleChoice, flagChoice, lent, clipRun}
+use Rattle.refusal.specs.declared.Verdict.the-variants.{Accepted}
+use Rattle.refusal.specs.Asked.{unknownChoice, tooShort, lent}
+use Rattle.checks.specs.Runs.{verdict, ruleChoice, flagChoice, clipRun}
 use Rattle.checks.specs.Accepted.{Good, accepts}
-use Rattle.checks.proofs.Order.{passed}
-use Rattle.checks.proofs.Good.{distinct, verdict-good, verdict-room, accepted-input, accepted-run}
+use Rattle.checks.proofs.Runs.{passed, verdict-room}
+use Rattle.checks.proofs.Accepted.{distinct, verdict-good, accepted-input, accepted-run}
 use Rattle.fill_rule.specs.declared.Rule.{Rule}
 use Rattle.build.specs.declared.links.Filter.{Filter}
 use Rattle.fill_rule.specs.FillRule.{ruleOf}
@@ -89,11 +89,11 @@ module _ (d : Drawing) (g : Good d) (rule : Rule) (boundary : ℤ) where
   by-ray δ m = keeps-drawn rule boundary d (δ .forth) (δ .segment) (in-drawn d δ m .1)
 
   tally-by : (invert : ℤ) (f : Step → ℕ) → tally f (stepsBy invert) ≡ tally (λ δ. cond (keptBy invert δ) (f (travelled δ)) 0) (drawn d)
-  tally-by invert f = run-tally rule (filterOf invert boundary) d (g .proper) f
+  tally-by invert f = run-tally rule (filterOf invert boundary) d (g .faultless .proper) f
 
   count-by : (invert : ℤ) (δ : Direction) → δ ∈ drawn d → times (travelled δ) (stepsBy invert) ≡ one (keptBy invert δ)
   unfolding times
-  count-by invert δ m = tally-by invert (λ τ. one (same (travelled δ) τ)) ∙ once-among (keptBy invert) (drawn d) (drawn-apart d (g .proper) (distinct d g)) δ m
+  count-by invert δ m = tally-by invert (λ τ. one (same (travelled δ) τ)) ∙ once-among (keptBy invert) (drawn d) (drawn-apart d (g .faultless .proper) (distinct d g)) δ m
 
   once-in : (δ : Direction) → δ ∈ drawn d → OneOf (times (travelled δ) (stepsBy (pos 0))) (times (travelled δ) (stepsBy (pos 1)))
   once-in δ m = go (rayKeeps rule boundary d (δ .segment)) (by-ray δ m .0) (by-ray δ m .1)

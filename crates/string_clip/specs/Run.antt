@@ -8,10 +8,9 @@ use Rattle.lists.specs.Sums.{tally}
 use Rattle.lists.specs.Written.{written}
 use Rattle.segm.specs.Segments.{segments}
 use Rattle.contour.specs.Points.{coordinates, pairUp, cut}
-use Rattle.checks.specs.declared.Verdict.{Verdict}
-use Rattle.checks.specs.declared.Verdict.the-variants as verdict-is
-use Rattle.checks.specs.Verdict.{verdict}
-use Rattle.checks.specs.Runs.{clipRun}
+use Rattle.refusal.specs.declared.Verdict.{Verdict}
+use Rattle.refusal.specs.declared.Verdict.the-variants as verdict-is
+use Rattle.checks.specs.Runs.{verdict, clipRun}
 use Rattle.fill_rule.specs.FillRule.{ruleOf}
 use Rattle.build.specs.Links.{filterOf}
 use Rattle.string_clip.specs.declared.Totals.{Totals}

@@ -5,7 +5,7 @@ ghost use mathlib.Core.Bool.{true};
 ghost use Prim.Native.Nat.{_*_};
 ghost use lib.ListN.{length};
 ghost use Rattle.segm.specs.Segments.{segments};
-ghost use Rattle.checks.specs.Drawing.{endsInRange};
+ghost use Rattle.faults.specs.Faults.{endsInRange};
 ghost use Rattle.checks.specs.Accepted.{Good};
 ghost use Rattle.clip_walk.specs.Walk.{linesIn, asDrawn};
 ghost use Rattle.string_clip.specs.Paths.{travelOf};

@@ -18,8 +18,8 @@ use Rattle.contour.specs.Points.{coordinates, pairUp, AllInRange, cut}
 use Rattle.contour.proofs.Coordinates.{pair-coordinates}
 use Rattle.contour.proofs.Areas.{near-all}
 use Rattle.contour.proofs.CutWritten.{cut-written, tally-lengths}
-use Rattle.checks.specs.declared.Verdict.{Verdict}
-use Rattle.checks.specs.declared.Verdict.the-variants as verdict-is
+use Rattle.refusal.specs.declared.Verdict.{Verdict}
+use Rattle.refusal.specs.declared.Verdict.the-variants as verdict-is
 use Rattle.checks.specs.Accepted.{Good}
 use Rattle.fill_rule.specs.declared.Rule.{Rule}
 use Rattle.clip_walk.specs.Walk.{Move, bitsLeft}
@@ -134,7 +134,7 @@ module _ (rule : Rule) (d : Drawing) (good : Good d) {n : ℕ} {points : List �
       ap (tally (λ k. k)) (m .lengths-are) ∙ tally-lengths (allPoints d (m .found)) ∙ sym (ap (λ (l : List (List Point)). length (flatten l)) (m .paths-are)) in
       record {
         inside = omega (arith, sum, few-points, room);
-        few = omega (arith, sum, few-points, good .few);
+        few = omega (arith, sum, few-points, good .faultless .few);
         near = subst (λ (l : List (List Point)). AllInRange (flatten l)) (sym (m .paths-are)) (near-all (allPoints d (m .found)) (λ l i. let r = in-map (walkPoints d) l (m .found) i in subst AllInRange (sym (r .2)) (walk-near d (proper d good) (r .0))));
       }
 

@@ -10,7 +10,7 @@ use Rattle.geom.specs.Points.{inRange}
 use Rattle.lists.specs.Written.{written}
 use Rattle.segm.specs.Segments.{Drawing}
 use Rattle.lists.proofs.Written.{written-map}
-use Rattle.checks.specs.Drawing.{endsInRange}
+use Rattle.faults.specs.Faults.{endsInRange}
 use Rattle.checks.specs.Accepted.{Good}
 use Rattle.fill_rule.specs.declared.Rule.{Rule}
 use Rattle.ray.specs.Ray.{fills}
@@ -21,9 +21,9 @@ use Rattle.string_slice.specs.Contours.{sideBits}
 pub proper : (d : Drawing) → Good d → ProperLinks d
 unfolding endsInRange
 proper d g = record {
-  few = g .few;
-  near = λ s m. (both-l (inRange (s .a)) (inRange (s .b)) (g .near s m), both-r (inRange (s .a)) (inRange (s .b)) (g .near s m));
-  rises = g .proper;
+  few = g .faultless .few;
+  near = λ s m. (both-l (inRange (s .a)) (inRange (s .b)) (g .faultless .near s m), both-r (inRange (s .a)) (inRange (s .b)) (g .faultless .near s m));
+  rises = g .faultless .proper;
 }
 
 pub length-sides : (rule : Rule) (d : Drawing) → length (sideBits rule d) ≡ length d

@@ -17,12 +17,13 @@ use Rattle.integers.proofs.Booleans.{dec}
 use Rattle.geom.specs.Points.{eqZ}
 use Rattle.segm.specs.Segments.{Drawing, segments}
 use Rattle.segm.proofs.Segments.{length-segments}
-use Rattle.checks.specs.declared.Verdict.{Verdict}
-use Rattle.checks.specs.declared.Verdict.the-variants as verdict-is
-use Rattle.checks.specs.Verdict.{Run, verdict}
-use Rattle.checks.specs.Runs.{lent, sliceRun}
+use Rattle.refusal.specs.declared.Verdict.{Verdict}
+use Rattle.refusal.specs.declared.Verdict.the-variants as verdict-is
+use Rattle.checks.specs.Runs.{Run, verdict, sliceRun}
+use Rattle.refusal.specs.Asked.{lent}
 use Rattle.checks.specs.Accepted.{Good}
-use Rattle.checks.proofs.Good.{verdict-good, verdict-room}
+use Rattle.checks.proofs.Accepted.{verdict-good}
+use Rattle.checks.proofs.Runs.{verdict-room}
 use Rattle.fill_rule.specs.FillRule.{ruleOf}
 use Rattle.fill_rule.proofs.Choices.{is, is-not}
 use Rattle.clip_walk.specs.Walk.{Move}
@@ -89,16 +90,16 @@ module _ {numbers : List ℤ} {rule direction : ℤ} {outs : List ℤ} {counted 
   few = few-found (ruleOf rule) d good (g .walks-made)
 
   pub lengths-front : n ≤ length lengths
-  lengths-front = omega (arith, few, g .room .lengths-room (good .few))
+  lengths-front = omega (arith, few, g .room .lengths-room (good .faultless .few))
 
   pub directions-front : n ≤ length dirs
-  directions-front = omega (arith, few, g .room .directions-room (good .few))
+  directions-front = omega (arith, few, g .room .directions-room (good .faultless .few))
 
   pub as-many : length (take n dirs) ≡ length (take n lengths)
   as-many = length-take-le n dirs directions-front ∙ sym (length-take-le n lengths lengths-front)
 
   pub stands : Stand points (take n lengths)
-  stands = stand (ruleOf rule) d good (g .walks-made) (g .room .points-room (good .few))
+  stands = stand (ruleOf rule) d good (g .walks-made) (g .room .points-room (good .faultless .few))
 
   number : length (flatten (pathsIn points (take n lengths))) ≤ 2 * length d
   number = few-points (ruleOf rule) d good (g .walks-made)

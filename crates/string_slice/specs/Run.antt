@@ -9,10 +9,9 @@ use Rattle.lists.specs.Written.{written}
 use Rattle.segm.specs.Segments.{segments}
 use Rattle.contour.specs.Points.{coordinates}
 use Rattle.contour.specs.Contour.{Contour}
-use Rattle.checks.specs.declared.Verdict.{Verdict}
-use Rattle.checks.specs.declared.Verdict.the-variants as verdict-is
-use Rattle.checks.specs.Verdict.{verdict}
-use Rattle.checks.specs.Runs.{sliceRun}
+use Rattle.refusal.specs.declared.Verdict.{Verdict}
+use Rattle.refusal.specs.declared.Verdict.the-variants as verdict-is
+use Rattle.checks.specs.Runs.{verdict, sliceRun}
 use Rattle.fill_rule.specs.FillRule.{ruleOf}
 use Rattle.slice_cut.specs.Cutting.{pointsOf, rolesOf, counts}
 use Rattle.string_slice.specs.declared.Sliced.{Sliced}

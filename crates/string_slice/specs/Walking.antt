@@ -6,10 +6,9 @@ use Prim.Native.Nat.{ℕ, _*_, _≤_}
 use lib.ListN.{length, take}
 use lib.IntN.{ℤ}
 use Rattle.segm.specs.Segments.{Drawing, segments}
-use Rattle.checks.specs.declared.Verdict.{Verdict}
-use Rattle.checks.specs.declared.Verdict.the-variants as verdict-is
-use Rattle.checks.specs.Verdict.{verdict}
-use Rattle.checks.specs.Runs.{sliceRun}
+use Rattle.refusal.specs.declared.Verdict.{Verdict}
+use Rattle.refusal.specs.declared.Verdict.the-variants as verdict-is
+use Rattle.checks.specs.Runs.{verdict, sliceRun}
 use Rattle.fill_rule.specs.FillRule.{ruleOf}
 use Rattle.clip_walk.specs.Walk.{Move}
 use Rattle.slice_walk.specs.Walk.{walks}

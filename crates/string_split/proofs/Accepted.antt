@@ -14,10 +14,9 @@ use Rattle.geom.specs.Points.{inRange}
 use Rattle.lists.proofs.Members.{stands}
 use Rattle.contour.specs.Points.{pairUp, origin, AllInRange}
 use Rattle.contour.proofs.Coordinates.{length-pairs}
-use Rattle.checks.specs.declared.Verdict.the-variants.{Accepted}
-use Rattle.checks.specs.Verdict.{refuseIf, firstFrom}
-use Rattle.checks.proofs.Places.{none-from}
-use Rattle.checks.proofs.Order.{accepted-then, accepted-if}
+use Rattle.refusal.specs.declared.Verdict.the-variants.{Accepted}
+use Rattle.refusal.specs.Order.{refuseIf, firstFrom}
+use Rattle.refusal.proofs.Order.{none-from, accepted-then, accepted-if}
 use Rattle.string_split.specs.Run.{wrongLength, tooShort, outAt, splitVerdict}
 use Rattle.string_split.specs.Splitting.{Splittable}
 

@@ -9,7 +9,7 @@ use Rattle.lists.specs.Members.{any, keep}
 use Rattle.lists.specs.Written.{written}
 use Rattle.contour.specs.Points.{coordinates, pairUp}
 use Rattle.contour.specs.Area.{crossProduct, around, shoelace, isClockwise, isLarge}
-use Rattle.checks.specs.Verdict.{firstFrom}
+use Rattle.refusal.specs.Order.{firstFrom}
 use Rattle.bin_store.specs.Sightings.{isSighted, numberOf, sight}
 use Rattle.string_split.specs.declared.Loops.the-variants.{Done, Refused}
 use Rattle.string_split.specs.Loops.{closed, bufferPoint, bufferPoints, rest, allLoops, splitLoops}

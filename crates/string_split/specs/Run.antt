@@ -9,9 +9,9 @@ use Rattle.geom.specs.declared.Point.{Point}
 use Rattle.geom.specs.Points.{inRange}
 use Rattle.lists.specs.Written.{written}
 use Rattle.contour.specs.Points.{coordinates, pairUp, origin}
-use Rattle.checks.specs.declared.Verdict.{Verdict}
-use Rattle.checks.specs.declared.Verdict.the-variants as verdict-is
-use Rattle.checks.specs.Verdict.{refuseIf, firstFrom, _then_}
+use Rattle.refusal.specs.declared.Verdict.{Verdict}
+use Rattle.refusal.specs.declared.Verdict.the-variants as verdict-is
+use Rattle.refusal.specs.Order.{refuseIf, firstFrom, _then_}
 use Rattle.string_split.specs.declared.buffer.Found.{Found}
 use Rattle.string_split.specs.declared.Loops.{Loops}
 use Rattle.string_split.specs.declared.Loops.the-variants.{Done, Refused}

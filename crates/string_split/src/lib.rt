@@ -9,7 +9,7 @@ use checks::Verdict;
 ghost use mathlib.Core.Path.{_≡_};
 ghost use Prim.Native.Nat.{_≤_};
 ghost use lib.ListN.{length};
-ghost use Rattle.checks.specs.Verdict.{firstFrom};
+ghost use Rattle.refusal.specs.Order.{firstFrom};
 ghost use Rattle.contour.specs.Points.{pairUp, Writes};
 ghost use Rattle.string_split.specs.Loops.{splitLoops};
 ghost use Rattle.string_split.specs.Run.{outAt, splitVerdict, foundOf, outcome, splitOutcome};

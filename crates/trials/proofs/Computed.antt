@@ -11,9 +11,11 @@ use Rattle.contour.specs.Points.{coordinates, pairUp}
 use Rattle.contour.specs.Area.{crossProduct, around, shoelace, isLarge}
 use Rattle.meetings.specs.Meetings.{side, parts, inside, sameEnds, meetsWrongly}
 use Rattle.balance.specs.Balance.{balance, balances}
-use Rattle.checks.specs.Drawing.{endsInRange, rises, windingInRange, bitsInRange, fault, faultAt, meetingAt, unbalancedAt}
-use Rattle.checks.specs.Verdict.{wrongLength, unknownChoice, tooShort, firstFrom, first, inOrder, verdict}
-use Rattle.checks.specs.Runs.{fillsRun, clipRun}
+use Rattle.faults.specs.Faults.{endsInRange, rises, windingInRange, bitsInRange, fault, faultAt, faultsOf}
+use Rattle.checks.specs.Drawing.{meetingAt, unbalancedAt, meetingsOf, unbalancedOf, drawingVerdict}
+use Rattle.refusal.specs.Asked.{wrongLength, unknownChoice, tooShort, askedFirst}
+use Rattle.refusal.specs.Order.{firstFrom, first}
+use Rattle.checks.specs.Runs.{asked, verdict, fillsRun, clipRun}
 use Rattle.fill_rule.specs.FillRule.{filled, ruleOf, fillOf}
 use Rattle.strip.specs.Strip.{spans, above, clockwise}
 use Rattle.ray.specs.Ray.{met, bottom, top, fill, fills}
@@ -29,7 +31,7 @@ use Rattle.string_split.specs.Run as split
 use Rattle.trials.specs.Trials.{Trials}
 
 pub trials : Trials
-unfolding eqZ within ltP eqP coordinate inRange cross between any sum tally keep written upFrom front segmentsOf count whole segments segmentAt total coordinates pairUp crossProduct around shoelace isLarge side parts inside sameEnds meetsWrongly endsInRange rises windingInRange bitsInRange fault faultAt meetingAt balance balances unbalancedAt wrongLength unknownChoice tooShort firstFrom first inOrder verdict fillsRun clipRun spans above clockwise met bottom top filled ruleOf fillOf fill fills fillsOutcome sidesSet keepsSides keeps filterOf keptLinks node has clear asDrawn isLeft taken takenAll bitsLeft firstLeft bothMoves begins way over other fitting goesOn follow pathFrom walkFrom walk through finished pathPoints clipPaths stepsFrom stepsOfPath stepsOf travelOf totals clipOutcome flatten isSighted numberOf sight closed bufferPoint bufferPoints rest allLoops splitLoops split.wrongLength split.tooShort split.outAt split.splitVerdict split.splitOutcome
+unfolding eqZ within ltP eqP coordinate inRange cross between any sum tally keep written upFrom front segmentsOf count whole segments segmentAt total coordinates pairUp crossProduct around shoelace isLarge side parts inside sameEnds meetsWrongly endsInRange rises windingInRange bitsInRange fault faultAt meetingAt balance balances unbalancedAt wrongLength unknownChoice tooShort firstFrom first asked askedFirst drawingVerdict faultsOf meetingsOf unbalancedOf verdict fillsRun clipRun spans above clockwise met bottom top filled ruleOf fillOf fill fills fillsOutcome sidesSet keepsSides keeps filterOf keptLinks node has clear asDrawn isLeft taken takenAll bitsLeft firstLeft bothMoves begins way over other fitting goesOn follow pathFrom walkFrom walk through finished pathPoints clipPaths stepsFrom stepsOfPath stepsOf travelOf totals clipOutcome flatten isSighted numberOf sight closed bufferPoint bufferPoints rest allLoops splitLoops split.wrongLength split.tooShort split.outAt split.splitVerdict split.splitOutcome
 trials = record {
   fills-of-A = refl;
   A-inverted = refl;

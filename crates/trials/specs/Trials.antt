@@ -6,10 +6,9 @@ use Prim.Native.Nat.{ℕ, _*_}
 use lib.ListN.{drop}
 use lib.IntN.{ℤ, pos, negsuc}
 use Rattle.lists.specs.UpFrom.{upFrom}
-use Rattle.checks.specs.declared.Verdict.{Verdict}
-use Rattle.checks.specs.declared.Verdict.the-variants as verdict-is
-use Rattle.checks.specs.Verdict.{verdict}
-use Rattle.checks.specs.Runs.{clipRun}
+use Rattle.refusal.specs.declared.Verdict.{Verdict}
+use Rattle.refusal.specs.declared.Verdict.the-variants as verdict-is
+use Rattle.checks.specs.Runs.{verdict, clipRun}
 use Rattle.segm.specs.CaseA.{segment, A}
 use Rattle.build.specs.declared.run.Filled.the-variants as fills-are
 use Rattle.build.specs.Fills as fills

@@ -1,7 +1,7 @@
 -- The verdict decides the arm. Assumes nothing.
 use borrow.Author.Needs.{needs}
 use mathlib.Core.Path.{_≡_, sym, ap, _∙_}
-use Rattle.checks.specs.declared.Verdict.{Verdict}
+use Rattle.refusal.specs.declared.Verdict.{Verdict}
 use Rattle.measure.specs.Numbers.{verdictOf, checkNumbers}
 use Rattle.measure.proofs.measure_check.Statement.{statement}
 use Rattle.measure.proofs.measure_check.Tie as tie

@@ -2,9 +2,9 @@
 use borrow.Author.Needs.{needs}
 use mathlib.Core.Path.{_≡_, sym, ap, _∙_}
 use mir.Val.{boolByte}
-use Rattle.checks.specs.declared.Verdict.{Verdict}
+use Rattle.refusal.specs.declared.Verdict.{Verdict}
 use Rattle.checks.specs.Runs.{clipRun}
-use Rattle.checks.proofs.Good.{verdict-good}
+use Rattle.checks.proofs.Accepted.{verdict-good}
 use Rattle.measure.specs.Numbers.{verdictOf, sweepNumber}
 use Rattle.measure.proofs.measure_sweep.Statement.{statement}
 use Rattle.measure.proofs.measure_sweep.Tie as tie

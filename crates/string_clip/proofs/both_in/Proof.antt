@@ -6,7 +6,7 @@ use native.Mathlib.Omega.{arith}
 use Prim.Native.Nat.{ℕ}
 use lib.IntN.{ℤ, pos}
 use mir.Facts.{toZ-ofZ}
-use Rattle.checks.specs.declared.Verdict.the-variants.{Accepted}
+use Rattle.refusal.specs.declared.Verdict.the-variants.{Accepted}
 use Rattle.fill_rule.specs.FillRule.{ruleOf}
 use Rattle.build.specs.Links.{filterOf}
 use Rattle.string_clip.specs.declared.Clipped.{Clipped}
@@ -65,7 +65,7 @@ clip-accepted-requires c κs =
     let p = s (k t) .pre in
     let good = accepted-drawing (numbers (k t)) (a .rule) (pos 1) (a .boundary) (a .outside-points .now) (a .outside-lengths .now) (accepted t) in
     let left = k t .clip-in .ensures .1 _ (t .enum-told .given .1) in
-    (good, left .0, left .1, omega (arith, p .0 .tops-room (good .few), k t .clip-in .kept .1 .1 .1 .1 .1 .1 .1 .0), p .2 .points-fit, p .2 .lengths-fit)
+    (good, left .0, left .1, omega (arith, p .0 .tops-room (good .faultless .few), k t .clip-in .kept .1 .1 .1 .1 .1 .1 .1 .0), p .2 .points-fit, p .2 .lengths-fit)
 
 enum-known-inside : tie.Need-enum-known-inside
 enum-known-inside c = search needs

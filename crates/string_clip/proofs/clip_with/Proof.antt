@@ -51,7 +51,7 @@ module _ (k : tie.After-count) where
   bits-room = omega (arith, m-is, s .pre .4)
 
 mul-e : tie.Need-mul-e
-mul-e c = record { fits = omega (arith, m-is c, s c .pre .0 .few) }
+mul-e c = record { fits = omega (arith, m-is c, s c .pre .0 .faultless .few) }
 
 slice-relend-prefix-masked-bits : tie.Need-slice-relend-prefix-masked-bits
 slice-relend-prefix-masked-bits c = bits-room c

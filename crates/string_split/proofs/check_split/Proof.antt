@@ -8,7 +8,7 @@ use Prim.Native.Nat.{_/_, _%_}
 use lib.ListN.{length}
 use lib.IntN.{ℤ}
 use Rattle.contour.specs.Points.{pairUp}
-use Rattle.checks.specs.Verdict.{firstFrom}
+use Rattle.refusal.specs.Order.{firstFrom}
 use Rattle.string_split.specs.Run.{wrongLength, tooShort, outAt, splitVerdict}
 use Rattle.string_split.proofs.check_split.Statement.{statement}
 use Rattle.string_split.proofs.check_split.Tie as tie

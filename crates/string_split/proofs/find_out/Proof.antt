@@ -11,9 +11,9 @@ use Rattle.geom.specs.declared.Point.{Point}
 use Rattle.geom.specs.Points.{inRange}
 use Rattle.contour.specs.Points.{pairUp}
 use Rattle.contour.proofs.Coordinates.{length-pairs}
-use Rattle.checks.specs.declared.Verdict.the-variants.{Refused}
-use Rattle.checks.specs.Verdict.{firstFrom}
-use Rattle.checks.proofs.Places.{step-none, step-some, step-end}
+use Rattle.refusal.specs.declared.Verdict.the-variants.{Refused}
+use Rattle.refusal.specs.Order.{firstFrom}
+use Rattle.refusal.proofs.Order.{step-none, step-some, step-end}
 use Rattle.string_split.specs.Run.{outAt}
 use Rattle.string_split.proofs.find_out.Statement.{statement}
 use Rattle.string_split.proofs.find_out.Tie as tie

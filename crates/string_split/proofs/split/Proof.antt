@@ -6,7 +6,7 @@ use lib.ListN.{length}
 use lib.IntN.{ℤ}
 use Rattle.geom.specs.declared.Point.{Point}
 use Rattle.contour.specs.Points.{pairUp}
-use Rattle.checks.specs.declared.Verdict.{Verdict}
+use Rattle.refusal.specs.declared.Verdict.{Verdict}
 use Rattle.string_split.specs.declared.Loops.the-variants.{Done}
 use Rattle.string_split.specs.Loops.{splitLoops}
 use Rattle.string_split.specs.Run.{outcome, answered, splitOutcome}

@@ -56,7 +56,7 @@ module _ (c : tie.After-struct-told) where
   winding-read : Val 1000 (toZ w32 (ofZ w32 (t .segment-at .result .winding))) (u .winding)
   winding-read = record {
     is = read w32 (t .segment-at .result .winding) (omega arith) ∙ ap (λ (v : Segment). v .winding) (t .segment-at .ensures);
-    bound = s .pre .0 .winding u known;
+    bound = s .pre .0 .faultless .winding u known;
   }
 
   bits-read : toZ w32 (ofZ w32 (t .segment-at .result .bits)) ≡ u .bits
@@ -69,7 +69,7 @@ sub-fill-of : tie.Need-sub-fill-of
 sub-fill-of c = less c .fits
 
 fill-of-requires : tie.Need-fill-of-requires
-fill-of-requires c κs = let a = c .before in subst (λ (z : ℤ). (pos 0 ≤ℤ z) × (z ≤ℤ pos 3)) (sym (bits-read a)) (s a .pre .0 .bits (u a) (known a))
+fill-of-requires c κs = let a = c .before in subst (λ (z : ℤ). (pos 0 ≤ℤ z) × (z ≤ℤ pos 3)) (sym (bits-read a)) (s a .pre .0 .faultless .bits (u a) (known a))
 
 returns : tie.Need-returns
 returns c =

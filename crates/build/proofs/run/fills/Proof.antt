@@ -28,7 +28,7 @@ fills-in-requires : tie.Need-fills-in-requires
 fills-in-requires c κs =
     let t = c .before .before .before .before .before in
     let k = t .before in
-    small-memory (k .before .before .args .segments .now) (omega (arith, k .count .ensures, t .if1 .taken))
+    small-memory (k .before .before .args .numbers .now) (omega (arith, k .count .ensures, t .if1 .taken))
 
 same-length : tie.Need-same-length
 same-length c = search needs
@@ -37,7 +37,7 @@ returns : tie.Need-returns
 returns c =
     let k = c .before .before .before .before .before .before in
     let s = k .before .before .before .before .before .before .before .before .before in
-    k .fills-in .ensures ∙ ap (λ (z : ℤ). fillsOutcome (s .args .segments .now) z (s .args .fills .now)) (toZ-ofZ (s .fits .rule))
+    k .fills-in .ensures ∙ ap (λ (z : ℤ). fillsOutcome (s .args .numbers .now) z (s .args .fills .now)) (toZ-ofZ (s .fits .rule))
 
 slice-aggregate-fills-in-5 : tie.Need-slice-aggregate-fills-in-5
 slice-aggregate-fills-in-5 c = search needs
@@ -52,7 +52,7 @@ slice-aggregate-fills-in-8 : tie.Need-slice-aggregate-fills-in-8
 slice-aggregate-fills-in-8 c = search needs
 
 fills-in-requires-2 : tie.Need-fills-in-requires-2
-fills-in-requires-2 c κs = let s = c .before .before .before .before .before .before .before .before in any-memory (s .args .segments .now)
+fills-in-requires-2 c κs = let s = c .before .before .before .before .before .before .before .before in any-memory (s .args .numbers .now)
 
 same-length-2 : tie.Need-same-length-2
 same-length-2 c = search needs
@@ -61,7 +61,7 @@ returns-2 : tie.Need-returns-2
 returns-2 c =
     let k = c .before .before .before .before .before .before in
     let s = k .before .before .before .before .before .before .before .before .before in
-    k .fills-in2 .ensures ∙ ap (λ (z : ℤ). fillsOutcome (s .args .segments .now) z (s .args .fills .now)) (toZ-ofZ (s .fits .rule))
+    k .fills-in2 .ensures ∙ ap (λ (z : ℤ). fillsOutcome (s .args .numbers .now) z (s .args .fills .now)) (toZ-ofZ (s .fits .rule))
 
 pub fills-spec : {M : Type 1} → statement M
 fills-spec =

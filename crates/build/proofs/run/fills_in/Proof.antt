@@ -8,24 +8,45 @@ use lib.ListN.{length}
 use lib.IntN.{ℤ}
 use mir.Facts.{toZ-ofZ}
 use Rattle.lists.specs.Written.{written}
+use Rattle.refusal.specs.declared.Verdict.{Verdict}
+use Rattle.refusal.specs.declared.Verdict.the-variants.{Accepted}
+use Rattle.refusal.specs.Asked.{lent}
 use Rattle.segm.specs.Segments.{segments}
 use Rattle.segm.proofs.Segments.{length-segments}
-use Rattle.checks.specs.declared.Verdict.{Verdict}
-use Rattle.checks.specs.declared.Verdict.the-variants.{Accepted}
-use Rattle.checks.specs.Verdict.{Run, verdict}
-use Rattle.checks.specs.Runs.{lent, fillsRun}
-use Rattle.checks.proofs.Good.{verdict-good, verdict-room}
+use Rattle.checks.specs.Runs.{Run, fillsRun, asked, verdict}
+use Rattle.checks.proofs.Runs.{asked-few, checked-verdict, verdict-room}
+use Rattle.checks.proofs.Accepted.{verdict-good}
 use Rattle.fill_rule.specs.declared.Rule.{Rule}
-use Rattle.build.specs.declared.run.Filled.the-variants.{Done}
 use Rattle.fill_rule.specs.FillRule.{ruleOf}
 use Rattle.ray.specs.Ray.{fills}
-use Rattle.build.specs.Fills.{outcome, answered, fillsOutcome}
 use Rattle.ray.proofs.Fills.{length-fills}
+use Rattle.build.specs.declared.run.Filled.the-variants.{Done}
+use Rattle.build.specs.Fills.{outcome, answered, fillsOutcome}
 use Rattle.build.proofs.run.fills_in.Statement.{statement}
 use Rattle.build.proofs.run.fills_in.Tie as tie
 
-check-fills-requires : tie.Need-check-fills-requires
-check-fills-requires c κs = search needs
+ask-fills-requires : tie.Need-ask-fills-requires
+ask-fills-requires c κs = search needs
+
+-- what was asked first
+module _ (k : tie.After-ask-fills) where
+  abbrev s : tie.Start
+  s = k .before .before .before .before .before
+
+  abbrev numbers : List ℤ
+  numbers = s .args .numbers .now
+
+  abbrev run : Run
+  run = fillsRun numbers (s .args .rule) (length (s .args .fills .now))
+
+  asked-is : k .ask-fills .result ≡ asked run
+  asked-is = rw (toZ-ofZ (s .fits .rule)) at (k .ask-fills .ensures)
+
+check-drawing-requires : tie.Need-check-drawing-requires
+unfolding fillsRun
+check-drawing-requires c κs =
+    let k = c .before .before .before .before in
+    (λ e. asked-few (run k) (sym (asked-is k) ∙ e), s k .pre)
 
 enum-told : tie.Need-enum-told
 enum-told c = search needs
@@ -34,36 +55,31 @@ rule-of-requires : tie.Need-rule-of-requires
 rule-of-requires c κs = search needs
 
 -- what the checks told
-module _ (c : tie.After-check-fills) where
-  abbrev s : tie.Start
-  s = c .before .before .before .before .before .before .before .before .before
+module _ (c : tie.After-check-drawing) where
+  abbrev k : tie.After-ask-fills
+  k = c .before .before .before .before .before
 
-  abbrev numbers : List ℤ
-  numbers = s .args .segments .now
-
-  abbrev run : Run
-  run = fillsRun numbers (s .args .rule) (length (s .args .fills .now))
-
-  said : c .check-fills .result ≡ verdict run
-  said = c .check-fills .ensures .0 ∙ ap (λ (z : ℤ). verdict (fillsRun numbers z (length (s .args .fills .now)))) (toZ-ofZ (s .fits .rule))
+  said : c .check-drawing .result ≡ verdict (run k)
+  unfolding fillsRun
+  said = checked-verdict (run k) (asked-is k) (c .check-drawing .ensures .0)
 
   -- the outcome, by the verdict
-  by-verdict : {v : Verdict} → c .check-fills .result ≡ v → answered v (fills (ruleOf (s .args .rule)) (segments numbers)) (s .args .fills .now) ≡ fillsOutcome numbers (s .args .rule) (s .args .fills .now)
+  by-verdict : {v : Verdict} → c .check-drawing .result ≡ v → answered v (fills (ruleOf (s k .args .rule)) (segments (numbers k))) (s k .args .fills .now) ≡ fillsOutcome (numbers k) (s k .args .rule) (s k .args .fills .now)
   unfolding fillsOutcome
-  by-verdict e = ap (λ (v : Verdict). answered v (fills (ruleOf (s .args .rule)) (segments numbers)) (s .args .fills .now)) (sym e ∙ said)
+  by-verdict e = ap (λ (v : Verdict). answered v (fills (ruleOf (s k .args .rule)) (segments (numbers k))) (s k .args .fills .now)) (sym e ∙ said)
 
 write-fills-requires : tie.Need-write-fills-requires
 unfolding fillsRun
 write-fills-requires c κs =
     let t = c .before .before .before in
-    let v = t .before .before .before .before .before .before .before .before .before in
-    let accepted : verdict (run v) ≡ Accepted = sym (said v) ∙ t .enum-told .given .1 in
-    let good = verdict-good (run v) accepted in
-    let room = verdict-room (run v) accepted (lent (length (s v .args .fills .now)) 1) (inl refl) in (
+    let v = c .before .before .before .before .before .before .before .before .before .before .before .before in
+    let accepted : verdict (run (k v)) ≡ Accepted = sym (said v) ∙ t .enum-told .given .1 in
+    let good = verdict-good (run (k v)) accepted in
+    let room = verdict-room (run (k v)) accepted (lent (length (s (k v) .args .fills .now)) 1) (inl refl) in (
       good,
-      v .check-fills .ensures .1 (t .enum-told .given .1) .1,
-      omega (arith, s v .pre .tops-room (good .few), v .check-fills .kept .1 .1 .1 .1 .1 .1 .0),
-      omega (arith, room, length-segments (numbers v)),
+      v .check-drawing .ensures .1 (t .enum-told .given .1) .counts-are,
+      omega (arith, s (k v) .pre .tops-room (good .faultless .few), v .check-drawing .kept .1 .1 .1 .1 .1 .0),
+      omega (arith, room, length-segments (numbers (k v))),
     )
 
 count-requires : tie.Need-count-requires
@@ -90,12 +106,12 @@ same-length-5 c = search needs
 returns : tie.Need-returns
 returns c =
     let w = c .before .before .before in
-    let r = w .before .before .before in
-    let t = r .before in
-    let v = t .before .before .before .before .before .before .before .before .before in
-    let rule = r .rule-of .ensures ∙ ap ruleOf (toZ-ofZ (s v .fits .rule)) in
-    let n = c .count .ensures ∙ sym (length-fills (ruleOf (s v .args .rule)) (segments (numbers v)) ∙ length-segments (numbers v)) in
-    let list = w .write-fills .ensures ∙ ap (λ (q : Rule). written (fills q (segments (numbers v))) (s v .args .fills .now)) rule in
+    let r = c .before .before .before .before .before .before in
+    let t = c .before .before .before .before .before .before .before in
+    let v = c .before .before .before .before .before .before .before .before .before .before .before .before .before .before .before .before in
+    let rule = r .rule-of .ensures ∙ ap ruleOf (toZ-ofZ (s (k v) .fits .rule)) in
+    let n = c .count .ensures ∙ sym (length-fills (ruleOf (s (k v) .args .rule)) (segments (numbers (k v))) ∙ length-segments (numbers (k v))) in
+    let list = w .write-fills .ensures ∙ ap (λ (q : Rule). written (fills q (segments (numbers (k v)))) (s (k v) .args .fills .now)) rule in
     ap₂ outcome (ap Done n) list ∙ by-verdict v (t .enum-told .given .1)
 
 same-length-6 : tie.Need-same-length-6
@@ -111,13 +127,17 @@ same-length-9 : tie.Need-same-length-9
 same-length-9 c = search needs
 
 returns-2 : tie.Need-returns-2
-returns-2 c = let m = c .before .before in by-verdict (m .before .before .before .before .before .before .before .before) (c .before .number .given .1)
+returns-2 c =
+    let v = c .before .before .before .before .before .before .before .before .before .before in
+    let n = c .before in
+    by-verdict v (n .number .given .1)
 
 pub fills-in-spec : {M : Type 1} → statement M
 fills-in-spec =
     tie.close
     (tie.spec
-    check-fills-requires
+    ask-fills-requires
+    check-drawing-requires
     enum-told
     rule-of-requires
     write-fills-requires

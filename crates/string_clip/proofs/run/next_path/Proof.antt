@@ -45,7 +45,7 @@ take-requires c κs =
     let h = c .before in
     let p = s h .pre in (
       omega (arith, p .1),
-      omega (arith, p .0 .good .few, p .0 .as-many),
+      omega (arith, p .0 .good .faultless .few, p .0 .as-many),
       omega (arith, p .0 .nodes-are .each-end, p .0 .as-many),
       can-begin (p .0) (p .1) (out-is h) (p .2),
     )
@@ -80,7 +80,7 @@ module _ (t : tie.After-take) where
     follow-few (graph (s h .args .flat .now) (s h .args .starts .now) (s h .args .nodes .now)) (h .has .result) (bitsLeft rest) (s h .args .k) rest,
     fewer,
     s h .pre .0 .as-many,
-    s h .pre .0 .good .few,
+    s h .pre .0 .good .faultless .few,
   )
 
   -- one point more than moves
@@ -121,7 +121,7 @@ unfolding movesOn
 write-path-requires c κs =
     let f = c .before .before .before .before .before .before in
     let p = s (h (t f)) .pre in
-    (p .0 .good .few, omega (arith, number-front f, f .follow .ensures .0), omega (arith, number-front f, f .follow .ensures .0, number (t f), p .4))
+    (p .0 .good .faultless .few, omega (arith, number-front f, f .follow .ensures .0), omega (arith, number-front f, f .follow .ensures .0, number (t f), p .4))
 
 add-result : tie.Need-add-result
 unfolding movesOn

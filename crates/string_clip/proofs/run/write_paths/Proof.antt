@@ -55,13 +55,13 @@ module _ (l : tie.At-loop Inv-loop μ-loop) where
 
   -- all points and paths fit in the lists
   all-fit : (2 * length (flatten (bitsPaths links bits₀)) ≤ 8 * length bits₀) × (length (bitsPaths links bits₀) ≤ 2 * length bits₀)
-  all-fit = found-fit (bits-found links (s .pre .0 .good .proper) bits₀) (length bits₀) (omega arith)
+  all-fit = found-fit (bits-found links (s .pre .0 .good .faultless .proper) bits₀) (length bits₀) (omega arith)
 
 slice-read-if1 : tie.Need-slice-read-if1 Inv-loop μ-loop
 slice-read-if1 c = let l = c .before .before in omega (arith, c .before .loop-test .taken, w l .as-many, s l .pre .0 .as-many)
 
 add-k : tie.Need-add-k Inv-loop μ-loop
-add-k c = let l = c .before .before .before in record { fits = omega (arith, c .before .before .loop-test .taken, s l .pre .0 .as-many, s l .pre .0 .good .few) }
+add-k c = let l = c .before .before .before in record { fits = omega (arith, c .before .before .loop-test .taken, s l .pre .0 .as-many, s l .pre .0 .good .faultless .few) }
 
 loop-less : tie.Need-loop-less Inv-loop μ-loop
 loop-less c = let l = c .before .before .before in omega (arith, c .before .before .loop-test .taken)
@@ -112,7 +112,7 @@ module _ (e : tie.Else1 Inv-loop μ-loop) where
     paths-fit (links l) (bits₀ l) (w l) inside line,
     all-fit l,
     s l .pre .0 .as-many,
-    s l .pre .0 .good .few,
+    s l .pre .0 .good .faultless .few,
   )
 
   -- few points
@@ -122,7 +122,7 @@ module _ (e : tie.Else1 Inv-loop μ-loop) where
     points-fit (links l) (bits₀ l) (w l) inside line,
     all-fit l,
     s l .pre .0 .as-many,
-    s l .pre .0 .good .few,
+    s l .pre .0 .good .faultless .few,
   )
 
 mul-next-path : tie.Need-mul-next-path Inv-loop μ-loop

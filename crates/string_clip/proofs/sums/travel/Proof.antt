@@ -36,7 +36,7 @@ link-travel-requires c κs =
     let o = c .before in
     let l = o .before .before in
     let s = l .before .before in
-    s .pre .0 .near (o .segment-in .result) (segment-in (segments (s .args .links .now)) (l .loop .i) (o .segment-in .ensures) (omega arith))
+    s .pre .0 .faultless .near (o .segment-in .result) (segment-in (segments (s .args .links .now)) (l .loop .i) (o .segment-in .ensures) (omega arith))
 
 -- one link more
 module _ (c : tie.After-link-travel Inv-loop μ-loop) where
@@ -64,7 +64,7 @@ module _ (c : tie.After-link-travel Inv-loop μ-loop) where
       omega (arith, link, l .loop .inv, travel-next d bits (l .loop .i) (omega (arith, s .pre .1)) here)
 
 add-sum : tie.Need-add-sum Inv-loop μ-loop
-add-sum c = record { fits = omega (arith, next c, travel-bound (d c) (bits c) (s c .pre .0 .near), s c .pre .0 .few) }
+add-sum c = record { fits = omega (arith, next c, travel-bound (d c) (bits c) (s c .pre .0 .faultless .near), s c .pre .0 .faultless .few) }
 
 add-i : tie.Need-add-i Inv-loop μ-loop
 add-i c = search needs

@@ -9,11 +9,10 @@ use lib.IntN.{ℤ}
 use mir.Syntax.{w32}
 use Rattle.integers.proofs.Machine.{read}
 use Rattle.segm.specs.Segments.{Drawing, segments}
-use Rattle.checks.specs.declared.Verdict.{Verdict}
-use Rattle.checks.specs.Verdict.{Run, verdict}
-use Rattle.checks.specs.Runs.{sliceRun}
+use Rattle.refusal.specs.declared.Verdict.{Verdict}
+use Rattle.checks.specs.Runs.{Run, verdict, sliceRun}
 use Rattle.checks.specs.Accepted.{Good}
-use Rattle.checks.proofs.Good.{verdict-good}
+use Rattle.checks.proofs.Accepted.{verdict-good}
 use Rattle.fill_rule.specs.declared.Rule.{Rule}
 use Rattle.fill_rule.specs.FillRule.{ruleOf}
 use Rattle.clip_walk.specs.Walk.{Move}

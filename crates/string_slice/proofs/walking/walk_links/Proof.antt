@@ -38,7 +38,7 @@ module _ (k : tie.After-count) where
   m-is = k .count .ensures ∙ sym (length-segments (s .args .s .now))
 
   few : m ≤ 1024
-  few = omega (arith, m-is, s .pre .0 .few)
+  few = omega (arith, m-is, s .pre .0 .faultless .few)
 
   bits-room : m ≤ length (s .args .bits .now)
   bits-room = omega (arith, m-is, s .pre .4)
