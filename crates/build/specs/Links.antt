@@ -7,7 +7,7 @@ use lib.IntN.{ℤ, pos, natAbs}
 use Rattle.geom.specs.Points.{eqZ}
 use Rattle.segm.specs.declared.Segment.{Segment}
 use Rattle.lists.specs.Members.{keep}
-use Rattle.segm.specs.Segments.{Drawing}
+use Rattle.segm.specs.Segments.{Drawing, withBits}
 use Rattle.fill_rule.specs.declared.Rule.{Rule}
 use Rattle.build.specs.declared.links.Filter.{Filter}
 use Rattle.build.specs.declared.links.Filter.the-variants.{InsideIncluded, InsideExcluded, OutsideIncluded, OutsideExcluded}
@@ -39,7 +39,7 @@ keptLinks rule filter d = keep (λ s. keeps filter (fill rule d s)) d
 
 -- a segment, without its line bits if it is not kept
 abbrev pub linesIf : Bool → Segment → Segment
-linesIf kept s = cond kept s (record { a = s .a; b = s .b; winding = s .winding; bits = pos 0 })
+linesIf kept s = cond kept s (withBits (pos 0) s)
 
 -- the segments of a drawing, those that a run does not keep without their line bits. (The walk over these has the paths of the kept links)
 unfoldable pub masked : Rule → Filter → Drawing → Drawing

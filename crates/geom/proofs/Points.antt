@@ -3,6 +3,7 @@ use mathlib.Core.Path.{_≡_, ap, subst}
 use mathlib.Core.Logic.{_⊎_, inl, inr}
 use mathlib.Core.Bool.{true, false, _&&_}
 use Prim.Native.Nat.{_≤_, _<_, _^_}
+use native.Mathlib.Omega.{arith}
 use lib.IntN.{ℤ, pos, negℤ, natAbs}
 use lib.Dec.{eqb}
 use lib.Signed.{ltZ, leZ, mag, _≤ℤ_, _<ℤ_}
@@ -13,9 +14,9 @@ use Rattle.integers.proofs.Booleans.{both, both-l, both-r, or-l, or-r, one-of, 
 use Rattle.integers.proofs.Linear.{ints}
 use Rattle.integers.proofs.Laws.{≤ℤ-antisym}
 use Rattle.integers.proofs.Machine.{bits-eq}
-use Rattle.integers.proofs.Order.{order, ltZ-true, ltZ-false, leZ-true, lt-ltZ, le-ltZ, le-leZ, abs-in}
+use Rattle.integers.proofs.Order.{order, ltZ-true, ltZ-false, leZ-true, lt-ltZ, le-ltZ, le-leZ, abs-in, abs--}
 use Rattle.geom.specs.declared.Point.{Point}
-use Rattle.geom.specs.Points.{eqZ, within, ltP, eqP, coordinate, inRange}
+use Rattle.geom.specs.Points.{eqZ, within, ltP, eqP, coordinate, inRange, travel}
 
 -- ---- equality
 pub eqZ-true : {a b : ℤ} → eqZ a b ≡ true → a ≡ b
@@ -52,7 +53,7 @@ pub within-r : (low high z : ℤ) → within low high z ≡ true → z ≤ℤ hi
 unfolding within
 within-r low high z e = leZ-true (both-r (leZ low z) (leZ z high) e)
 
-near : (z : ℤ) → coordinate z ≡ true → natAbs z ≤ 16777216
+pub near : (z : ℤ) → coordinate z ≡ true → natAbs z ≤ 16777216
 unfolding coordinate
 near z e = abs-in {z = z} (within-l (negℤ (pos 16777216)) (pos 16777216) z e) (within-r (negℤ (pos 16777216)) (pos 16777216) z e)
 
@@ -131,6 +132,11 @@ not-less-trans p q r h k = is-false (ltP r p) (λ e. go (compare p q) (ltP-true 
     go (inl b) e = clash (before (before-trans e b)) k
     go (inr (inl b)) e = clash (before b) h
     go (inr (inr b)) e = clash (before (subst (λ (i : Point). Before r i) b e)) k
+
+-- ---- travel, of points in range
+pub travel-bound : (p q : Point) → inRange p ≡ true → inRange q ≡ true → travel p q ≤ 67108864
+unfolding travel
+travel-bound p q hp hq = omega (arith, abs-- (q .x) (p .x), abs-- (q .y) (p .y), near-x p hp, near-x q hq, near-y p hp, near-y q hq)
 
 -- of two points the one that is not less has the greater x, or the same
 pub not-less-x : (p q : Point) → ltP q p ≡ false → p .x ≤ℤ q .x

@@ -1,7 +1,8 @@
 -- Points: their order, their range, and on which side of a line they lie. A point is the code's own pair of coordinates, read as integers.
 -- The contracts of `geom` cite these. Assumes nothing.
 use mathlib.Core.Bool.{Bool, _&&_, _||_}
-use lib.IntN.{ℤ, pos, negℤ, _-ℤ_, _*ℤ_}
+use Prim.Native.Nat.{ℕ, _+_}
+use lib.IntN.{ℤ, pos, negℤ, natAbs, _-ℤ_, _*ℤ_}
 use lib.Signed.{ltZ, leZ}
 use Rattle.geom.specs.declared.Point.{Point}
 
@@ -28,6 +29,10 @@ coordinate = within (negℤ (pos 16777216)) (pos 16777216)
 -- both coordinates of p are in range
 unfoldable pub inRange : Point → Bool
 inRange p = coordinate (p .x) && coordinate (p .y)
+
+-- the travel from p to q: |dx| + |dy|
+unfoldable pub travel : Point → Point → ℕ
+travel p q = natAbs (q .x -ℤ p .x) + natAbs (q .y -ℤ p .y)
 
 -- the cross product x1·y2 - x2·y1 of the ways from p to q and from p to r: positive if r is left of the way from p to q, negative if right
 unfoldable pub cross : Point → Point → Point → ℤ

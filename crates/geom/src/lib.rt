@@ -3,7 +3,7 @@ ghost use mathlib.Core.Path.{_≡_};
 ghost use mathlib.Core.Bool.{true};
 ghost use Prim.Native.Nat.{_≤_};
 ghost use lib.IntN.{natAbs, _-ℤ_};
-ghost use Rattle.geom.specs.Points.{within, ltP, eqP, inRange, cross, between};
+ghost use Rattle.geom.specs.Points.{within, ltP, eqP, inRange, travel, cross, between};
 
 // A point, in hundredths of a millimetre, y up.
 pub struct Point {
@@ -94,4 +94,11 @@ pub fn distance(z: i32, w: i32) -> u64
     ensures { λ r. ⌜ r ≡ natAbs (z -ℤ w) ⌝ }
 {
     absolute(difference(z, w))
+}
+
+// The travel from p to q, |dx| + |dy|.
+pub fn travel(p: Point, q: Point) -> u64
+    ensures { λ r. ⌜ r ≡ travel p q ⌝ }
+{
+    distance(q.x, p.x) + distance(q.y, p.y)
 }

@@ -8,7 +8,7 @@ use native.Mathlib.Omega.{arith}
 use lib.ListN.{length, getD, take, drop}
 use native.Mathlib.Numerals.{add-one}
 use lib.Seq.{drop-cons}
-use Rattle.integers.proofs.Booleans.{nor-l, nor-r, one-of}
+use Rattle.integers.proofs.Booleans.{dec, clash, nor-l, nor-r, one-of}
 use Rattle.lists.specs.Members.{_∈_, Pairs, any, keep}
 
 pub cases : {A B C : Type 0} → (A → C) → (B → C) → A ⊎ B → C
@@ -113,6 +113,16 @@ module _ {A : Type 0} where
   in-map g y (x ∷ l) (inl e) = (x, inl refl, e)
   in-map g y (x ∷ l) (inr m) = let r = in-map g y l m in (r .0, inr (r .1), r .2)
 
+  pub map-in : {B : Type 0} (g : A → B) (x : A) (l : List A) → x ∈ l → g x ∈ map g l
+  map-in g x [] m = absurd m
+  map-in g x (y ∷ l) (inl e) = inl (ap g e)
+  map-in g x (y ∷ l) (inr m) = inr (map-in g x l m)
+
+  -- R holds of two lists, and of one of each
+  pub pairs-++ : (R : A → A → Type 0) (l m : List A) → Pairs R l → Pairs R m → ((x y : A) → x ∈ l → y ∈ m → R x y) → Pairs R (l ++ m)
+  pairs-++ R [] m h k f = k
+  pairs-++ R (x ∷ l) m h k f = (λ y n. cases (h .0 y) (f x y (inl refl)) (in-++ y l m n), pairs-++ R l m (h .1) k (λ y z n o. f y z (inr n) o))
+
   -- ---- some member
   pub any-false : (P : A → Bool) (l : List A) → any P l ≡ false → (x : A) → x ∈ l → P x ≡ false
   unfolding any
@@ -134,6 +144,13 @@ module _ {A : Type 0} where
       go : (P y ≡ true) ⊎ (any P l ≡ true) → (any P l ≡ true → Some P l) → Some P (y ∷ l)
       go (inl p) rest = record { member = y; in-list = inl refl; passes = p }
       go (inr p) rest = let s = rest p in record { member = s .member; in-list = inr (s .in-list); passes = s .passes }
+
+  pub any-in : (P : A → Bool) (l : List A) (x : A) → x ∈ l → P x ≡ true → any P l ≡ true
+  any-in P l x m h = go (dec (any P l))
+    where
+      go : (any P l ≡ true) ⊎ (any P l ≡ false) → any P l ≡ true
+      go (inl e) = e
+      go (inr e) = absurd (clash h (any-false P l e x m))
 
   -- one place more
   pub any-step : (P : A → Bool) (l : List A) (z : A) (k : ℕ) → k < length l → any P (drop k l) ≡ (P (getD l k z) || any P (drop (k + 1) l))

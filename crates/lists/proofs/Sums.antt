@@ -9,6 +9,7 @@ use lib.ListN.{length, getD, take, drop, take-append-drop}
 use native.Mathlib.Numerals.{add-one}
 use lib.Seq.{take-suc}
 use lib.IntN.{ℤ, pos, natAbs, _+ℤ_, _-ℤ_, +ℤ-idl, +ℤ-assoc}
+use lib.Signed.{_≤ℤ_, ≤ℤ-refl}
 use Rattle.integers.proofs.Linear.{ints, of-+}
 use Rattle.integers.proofs.Order.{abs-+}
 use Rattle.integers.proofs.Ring.{_⊞_, _⊟_, _≐_, ring4}
@@ -46,6 +47,14 @@ module _ {A : Type 0} where
   unfolding sum
   sum-bound f k [] h = omega arith
   sum-bound f k (x ∷ l) h = omega (arith, abs-+ (f x) (sum f l), h x (inl refl), sum-bound f k l (λ y m. h y (inr m)))
+
+  pub sum-mono : {f g : A → ℤ} (l : List A) → ((x : A) → x ∈ l → f x ≤ℤ g x) → sum f l ≤ℤ sum g l
+  unfolding sum
+  sum-mono [] h = ≤ℤ-refl (pos 0)
+  sum-mono {f} {g} (x ∷ l) h =
+      let first = h x (inl refl) in
+      let rest = sum-mono {f = f} {g = g} l (λ y m. h y (inr m)) in
+      omega (ints, of-+ (f x) (sum f l), of-+ (g x) (sum g l))
 
   pub sum-map : {B : Type 0} (f : B → ℤ) (g : A → B) (l : List A) → sum f (map g l) ≡ sum (λ x. f (g x)) l
   unfolding sum

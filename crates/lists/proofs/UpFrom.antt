@@ -1,10 +1,10 @@
 -- Numbers in a row.
-use mathlib.Core.Path.{_≡_, refl, ap}
-use mathlib.Core.List.{_∷_, _++_}
+use mathlib.Core.Path.{_≡_, refl, ap, ap₂, _∙_}
+use mathlib.Core.List.{List, [], _∷_, _++_, map}
 use mathlib.Core.Logic.{_⊎_, inl, inr}
 use Prim.Native.Nat.{ℕ, zero, suc, _<_, _≤_, _+_}
 use native.Mathlib.Omega.{arith}
-use lib.ListN.{length}
+use lib.ListN.{length, getD}
 use native.Mathlib.Decide.{decLe}
 use Rattle.lists.specs.Members.{_∈_, Pairs}
 use Rattle.lists.specs.UpFrom.{upFrom}
@@ -39,3 +39,11 @@ pub pairs-upFrom : (R : ℕ → ℕ → Type 0) (k n : ℕ) → ((i j : ℕ) →
 unfolding upFrom
 pairs-upFrom R k zero f = tt
 pairs-upFrom R k (suc n) f = (λ j m. let b = in-upFrom j (suc k) n m in f k j (omega (arith, b .0)) (omega (arith, b .1)), pairs-upFrom R (suc k) n (λ i j h l. f i j h (omega arith)))
+
+-- the members place by place
+pub map-places : {A : Type 0} (l : List A) (z : A) (f : ℕ → A) (k : ℕ) → ((i : ℕ) → i < length l → f (k + i) ≡ getD l i z) → map f (upFrom k (length l)) ≡ l
+unfolding upFrom
+map-places [] z f k h = refl
+map-places (x ∷ l) z f k h =
+    let e : k ≡ k + 0 = omega arith in
+    ap₂ _∷_ (ap f e ∙ h 0 (omega arith)) (map-places l z f (suc k) (λ i m. let e : suc k + i ≡ k + suc i = omega arith in ap f e ∙ h (suc i) (omega arith)))

@@ -9,7 +9,7 @@ use lib.ListN.{length, length-map}
 use lib.IntN.{pos, natAbs}
 use Rattle.segm.specs.declared.Segment.{Segment}
 use Rattle.lists.specs.Members.{_∈_}
-use Rattle.segm.specs.Segments.{Drawing, total}
+use Rattle.segm.specs.Segments.{Drawing, total, withBits}
 use Rattle.lists.proofs.Sums.{sum-map}
 use Rattle.meetings.specs.Meetings.{side}
 use Rattle.fill_rule.specs.declared.Rule.{Rule}
@@ -56,7 +56,7 @@ module _ (d : Drawing) (g : Good d) where
 -- ---- line bits count for their own four-fold part only
 -- a segment without its line bits
 abbrev pub plain : Segment → Segment
-plain s = record { a = s .a; b = s .b; winding = s .winding; bits = pos 0 }
+plain = withBits (pos 0)
 
 module _ (d : Drawing) (i : Segment) where
   bottom-plain : bottom (map plain d) (plain i) ≡ bottom d i

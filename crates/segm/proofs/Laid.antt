@@ -9,7 +9,6 @@ use lib.IntN.{ℤ}
 use Rattle.segm.specs.declared.Segment.{Segment}
 use Rattle.lists.specs.Written.{written}
 use Rattle.segm.specs.Segments.{Drawing, width, front, segmentsOf, count, segments, numbersOf, laid}
-use Rattle.lists.proofs.Written.{take-written}
 
 length-numbers : (s : Segment) → length (numbersOf s) ≡ width
 unfolding numbersOf
@@ -39,14 +38,12 @@ pub segments-laid : (d : Drawing) → segments (laid d) ≡ d
 unfolding segments count
 segments-laid d = let n : length (laid d) / width ≡ length d = omega (arith, length-laid d) in ap (λ k. segmentsOf k (laid d)) n ∙ segmentsOf-laid d
 
+pub count-laid : (d : Drawing) → count (laid d) ≡ length d
+unfolding count
+count-laid d = omega (arith, length-laid d)
+
 -- ---- written to the front of a lent list
 module _ (d : Drawing) (old : List ℤ) where
-  pub take-laid : take (length d * width) (written (laid d) old) ≡ laid d
-  take-laid = take-written (laid d) old (length d * width) (sym (length-laid d))
-
-  pub segments-written : segments (take (length d * width) (written (laid d) old)) ≡ d
-  segments-written = ap segments take-laid ∙ segments-laid d
-
   -- one segment more
   pub written-put : (t : Segment) (l : List ℤ) (i : ℕ) → l ≡ written (laid d) old → i ≡ length d
       → take (i * width) l ++ (numbersOf t ++ drop (i * width + width) l) ≡ written (laid (d ++ (t ∷ []))) old

@@ -1,6 +1,6 @@
 -- Segments by place, and what a sum of windings depends on.
 use mathlib.Core.Path.{_≡_, refl, sym, _∙_, ap, ap₂, subst}
-use mathlib.Core.List.{List}
+use mathlib.Core.List.{List, _++_}
 use mathlib.Core.Bool.{Bool, true, false, _&&_}
 use Prim.Native.Nat.{ℕ, zero, suc, _+_, _*_, _<_, _≤_}
 use native.Mathlib.Omega.{arith}
@@ -12,7 +12,7 @@ use Rattle.lists.specs.Members.{_∈_}
 use Rattle.lists.specs.Sums.{only}
 use Rattle.segm.specs.Segments.{Drawing, width, front, segmentsOf, count, segments, nowhere, segmentAt, total}
 use Rattle.lists.proofs.Members.{in-at, stands}
-use Rattle.lists.proofs.Sums.{sum-cong, sum-zero, sum-split, sum-trade}
+use Rattle.lists.proofs.Sums.{sum-cong, sum-zero, sum-split, sum-trade, sum-++}
 
 length-segmentsOf : (n : ℕ) (l : List ℤ) → length (segmentsOf n l) ≡ n
 unfolding segmentsOf
@@ -109,3 +109,7 @@ module _ (d : Drawing) where
   unfolding total
   total-trade P Q P′ Q′ h e =
       sum-trade (λ s. only (P s) (s .winding)) (λ s. only (Q s) (s .winding)) (λ s. only (P′ s) (s .winding)) (λ s. only (Q′ s) (s .winding)) d (λ s m. h s m (s .winding)) e
+
+pub total-++ : (P : Segment → Bool) (l r : Drawing) → total P (l ++ r) ≡ total P l +ℤ total P r
+unfolding total
+total-++ P l r = sum-++ (λ s. only (P s) (s .winding)) l r

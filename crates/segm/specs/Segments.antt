@@ -26,6 +26,10 @@ front l = record {
   bits = getD l 5 (pos 0);
 }
 
+-- s with other line bits
+abbrev pub withBits : ℤ → Segment → Segment
+withBits bits s = record { a = s .a; b = s .b; winding = s .winding; bits = bits }
+
 -- n segments, one after the other
 unfoldable pub segmentsOf : ℕ → List ℤ → Drawing
 segmentsOf zero l = []

@@ -79,14 +79,6 @@ pub fn segment_at(s: &[i32], i: usize) -> Segment
     segment_in(s, i)
 }
 
-// How many numbers n segments have.
-pub fn size(n: usize) -> usize
-    requires { ⌜ n ≤ 1024 ⌝ }
-    ensures { λ r. ⌜ r ≡ n * width ⌝ }
-{
-    n * WIDTH
-}
-
 // Writes t at place i.
 pub fn put(s: &mut [i32], i: usize, t: Segment)
     requires { ⌜ i * width + width ≤ length (now s) ⌝ }

@@ -11,7 +11,7 @@ use Rattle.segm.proofs.Segments.{length-segments}
 use Rattle.balance.specs.Balance.{Numbered}
 use Rattle.refusal.specs.declared.Verdict.{Verdict}
 use Rattle.checks.specs.Drawing.{meetingsOf, unbalancedOf}
-use Rattle.refusal.specs.Order.{first, _then_}
+use Rattle.refusal.specs.Order.{_then_}
 use Rattle.refusal.proofs.Order.{not-both, refused-then}
 use Rattle.checks.proofs.find_by_ends.Statement.{statement}
 use Rattle.checks.proofs.find_by_ends.Tie as tie

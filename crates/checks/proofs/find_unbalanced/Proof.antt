@@ -6,7 +6,6 @@ use lib.ListN.{length}
 use Rattle.segm.specs.Segments.{segments}
 use Rattle.segm.proofs.Segments.{count-inside, count-past}
 use Rattle.checks.specs.Drawing.{unbalancedOf}
-use Rattle.refusal.specs.Order.{first}
 use Rattle.checks.proofs.Drawing.{nineBelow, first-nine}
 use Rattle.checks.proofs.find_unbalanced.Statement.{statement}
 use Rattle.checks.proofs.find_unbalanced.Tie as tie
