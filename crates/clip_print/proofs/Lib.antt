@@ -1,3 +1,2 @@
-pub mod Puts
-pub mod IoDigits
 pub mod Pairs
+pub mod Lengths

@@ -1,9 +1,7 @@
 -- What is printed of a clip run, as bytes. Assumes nothing.
-use mathlib.Core.Path.{_≡_}
 use mathlib.Core.List.{List, [], _∷_, _++_}
-use Prim.Native.Nat.{ℕ, suc, _+_, _*_, _≤_}
+use Prim.Native.Nat.{ℕ, suc, _*_, _≤_}
 use lib.ListN.{length, take}
-use lib.Seq.{sets}
 use lib.IntN.{ℤ}
 use Rattle.lists.specs.Sums.{tally}
 use Rattle.geom.specs.declared.Point.{Point}
@@ -12,7 +10,7 @@ use Rattle.string_clip.specs.declared.Clipped.{Clipped}
 use Rattle.string_clip.specs.declared.Clipped.the-variants.{Done, Refused}
 use Rattle.string_clip.specs.Run.{Outcome, output}
 use Rattle.decimal.specs.Decimal.{decimal, signed}
-use Rattle.text.specs.Writing.{lineOf}
+use Rattle.writing.specs.Lines.{lineOf}
 
 -- path, point, x, y
 unfoldable pub pointLine : (path point : ℕ) → Point → List ℕ
@@ -54,11 +52,6 @@ unfoldable pub printed : Outcome → List ℕ
 printed o = linesOf (o .answer) (output o)
 
 -- ---- on the way
--- bytes were put into a list from place `at` on, and `next` is the place after them
-pub record Put (old : List ℕ) (at : ℕ) (s : List ℕ) (next : ℕ) (new : List ℕ) : Type 0 where
-  pub list : new ≡ sets old at s
-  pub place : next ≡ at + length s
-
 -- the lengths of so many paths stand in one list, their points in the other
 pub record Held (paths : ℕ) (points : List ℤ) (lengths : List ℕ) : Type 0 where
   pub few-paths : paths ≤ length lengths

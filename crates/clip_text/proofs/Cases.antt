@@ -26,7 +26,7 @@ use Rattle.contour.specs.Points.{coordinates, pairUp, cut}
 use Rattle.string_clip.specs.Run.{totals, clipOutcome, output}
 use Rattle.decimal.specs.Decimal.{isDigit, worth, positive, fieldOf, digits, decimal, signed}
 use Rattle.text.specs.Grammar.{pieces, row, fieldsIn, rowsFrom, choicesOf, parsed}
-use Rattle.text.specs.Writing.{joined, lineOf}
+use Rattle.writing.specs.Lines.{joined, lineOf}
 use Rattle.decimal.proofs.Spelled.{bytes}
 use Rattle.clip_print.specs.Printed.{pointLine, pathLines, pathsLines, totalLine, refusedLine, printed}
 use Rattle.clip_text.specs.Answer.{textOutcome, answerTo}

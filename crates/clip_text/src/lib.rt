@@ -7,13 +7,14 @@ use string_clip::Clipped;
 use text::Choices;
 use text::Reading;
 ghost use mathlib.Core.Path.{_≡_};
-ghost use Prim.Native.Nat.{_+_, _*_, _≤_, _<_, min};
+ghost use Prim.Native.Nat.{_*_, _≤_, _<_, min};
 ghost use lib.ListN.{length, take};
 ghost use Rattle.io.specs.Counts.{Counts};
 ghost use Rattle.lists.specs.Written.{written};
 ghost use Rattle.segm.specs.Segments.{width};
 ghost use Rattle.string_clip.specs.Run.{outcome, clipOutcome};
 ghost use Rattle.clip_print.specs.Printed.{printed};
+ghost use Rattle.clip_print.specs.Lengths.{longest};
 ghost use Rattle.clip_text.specs.Answer.{textOutcome, answerTo};
 
 // One number more than the largest drawing has: a text with too many is seen to have too many.
@@ -68,7 +69,7 @@ pub fn clip_text(text: &[u8], points: &mut [i32], lengths: &mut [u32]) -> Clippe
 
 // What is printed for a text. The lists `points` and `lengths` are working memory.
 fn answer_with(text: &[u8], points: &mut [i32], lengths: &mut [u32], out: &mut [u8]) -> usize
-    requires { ⌜ 43 * length (now points) + 90 ≤ length (now out) ⌝ }
+    requires { ⌜ longest (length (now points)) ≤ length (now out) ⌝ }
     ensures { λ r. ⌜ r ≤ length (now (out .entry)) ⌝ }
     ensures { λ r. ⌜ (r ≡ length (printed (textOutcome (now (text .entry)) (now (points .entry)) (now (lengths .entry)))))
         × (now (out .exit) ≡ written (printed (textOutcome (now (text .entry)) (now (points .entry)) (now (lengths .entry)))) (now (out .entry))) ⌝ }

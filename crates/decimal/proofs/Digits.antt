@@ -129,11 +129,11 @@ below-reads (next {v} {b} {m} {s} lo hi r) =
     let step : suc (v * 10 + (b - 48)) ≤ suc v * 10 = omega arith in
     rw (pow-suc 10 (length s)) (omega (arith, below-reads r, mul-le-mul-right (10 ^ length s) step))
 
-digits-one : (k n : ℕ) (s : List ℕ) → n < 10 → digits (suc k) n s ≡ (48 + n) ∷ s
+pub digits-one : (k n : ℕ) (s : List ℕ) → n < 10 → digits (suc k) n s ≡ (48 + n) ∷ s
 unfolding digits
 digits-one k n s h = rw (lt-ltb n 10 h)
 
-digits-more : (k n : ℕ) (s : List ℕ) → 10 ≤ n → digits (suc k) n s ≡ digits k (n / 10) ((48 + n % 10) ∷ s)
+pub digits-more : (k n : ℕ) (s : List ℕ) → 10 ≤ n → digits (suc k) n s ≡ digits k (n / 10) ((48 + n % 10) ∷ s)
 unfolding digits
 digits-more k n s h = rw (le-ltb n 10 h)
 
@@ -208,9 +208,9 @@ signed-field (b ∷ s) z e = go (eqb b 45) (eqb b 48) refl refl e
     go false false p q k = positive-field false (b ∷ s) (positive (b ∷ s)) z (nine-positive (b ∷ s)) k
 
 -- ---- how long numbers are, and of which bytes
-pub length-decimal : (n : ℕ) → length (decimal n) ≤ 20
+pub decimal-short : (n : ℕ) → length (decimal n) ≤ 20
 unfolding decimal
-length-decimal n = length-wrote (wrote 20 n [])
+decimal-short n = length-wrote (wrote 20 n [])
 
 -- a number of j + 1 digits
 pub signed-short : (j : ℕ) (z : ℤ) → natAbs z < 10 ^ suc j → length (signed z) ≤ suc (suc j)

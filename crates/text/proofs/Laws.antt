@@ -1,27 +1,32 @@
 -- The comma text: what is written is read back, and one text alone holds given choices and numbers. Assumes nothing.
 use mathlib.Core.Path.{_≡_, refl, sym, _∙_, ap, ap₂, subst}
 use mathlib.Core.Bool.{Bool, true, false, cond}
-use mathlib.Core.List.{List, [], _∷_, _++_, map, flatten, append-assoc}
+use mathlib.Core.List.{List, [], _∷_, _++_, map, flatten}
 use mathlib.Core.Logic.{inl, inr}
 use mathlib.Core.Option.{Option, none, some}
 use Prim.Native.Nat.{ℕ, zero, suc, _*_, _%_, _<_, _≤_}
 use native.Mathlib.Omega.{arith}
 use borrow.Author.Tests.{eq-eqb, le-ltb}
 use lib.Dec.{eqb, ltb}
-use lib.ListN.{length, getD, length-append, length-map}
+use lib.ListN.{length, getD, length-map}
 use lib.IntN.{ℤ, pos, natAbs}
 use Rattle.lists.specs.Members.{_∈_}
 use Rattle.segm.specs.Segments.{Drawing, width, front, segments, whole, numbersOf, laid}
 use Rattle.lists.proofs.Members.{in-map}
+use Rattle.lists.proofs.Sums.{tally-bound}
 use Rattle.segm.proofs.Laid.{length-laid, segments-laid}
 use Rattle.text.specs.declared.Choices.{Choices}
 use Rattle.decimal.specs.declared.Field.{Field}
 use Rattle.decimal.specs.declared.Field.the-variants.{Number, Malformed}
 use Rattle.decimal.specs.Decimal.{NineDigits, fieldOf, signed}
 use Rattle.text.specs.Grammar.{pieces, andRest, row, fieldsIn, Found, Bad, Rows, andLines, rowsFrom, BadLine, Drawn, choicesOf, drawn, most, parsed}
-use Rattle.text.specs.Writing.{joined, lineOf, textOf, choiceNumbers, writing, AllNineDigits}
-use Rattle.decimal.proofs.Digits.{field-signed, signed-field, signed-short, signed-bytes}
-use Rattle.text.proofs.Pieces.{joined-pieces, pieces-cut, pieces-joined, joined-bytes, joined-short}
+use Rattle.writing.specs.Lines.{joined, textOf}
+use Rattle.writing.specs.Lengths.{signedLength, rowLength, textLength}
+use Rattle.text.specs.Writing.{choiceNumbers, writing, AllNineDigits}
+use Rattle.decimal.proofs.Digits.{field-signed, signed-field, signed-short}
+use Rattle.writing.proofs.Lines.{field-bytes, line-bytes, text-cons}
+use Rattle.writing.proofs.Lengths.{length-signed, length-text, line-short}
+use Rattle.text.proofs.Pieces.{joined-pieces, pieces-cut, pieces-joined}
 use Rattle.text.proofs.Rows.{differ, row-length, lines-next, fields-later}
 
 -- ---- a line
@@ -43,13 +48,7 @@ row-read (suc k) (f ∷ fs) r e = go (fieldOf f) (row k fs) refl e (row-read k f
     go (Number z) none p t rest = absurd (differ (cc))
     go (Number z) (some q) p t rest = let is : r ≡ z ∷ q = cc in rw is (ap₂ _∷_ (signed-field f z p .is) (rest q refl))
 
--- the bytes of a written line
-field-bytes : (r : List ℤ) (p : List ℕ) → p ∈ map signed r → (x : ℕ) → x ∈ p → 45 ≤ x
-field-bytes r p m x i = let f = in-map signed p r m in signed-bytes (f .0) x (subst (λ (s : List ℕ). x ∈ s) (f .2) i)
-
-line-bytes : (r : List ℤ) (x : ℕ) → x ∈ joined 44 (map signed r) → 44 ≤ x
-line-bytes r = joined-bytes 44 (λ x. 44 ≤ x) (omega arith) (map signed r) (λ p m x i. omega (arith, field-bytes r p m x i))
-
+-- the fields of a written line
 fields-line : (r : List ℤ) → 0 < length r → pieces 44 (joined 44 (map signed r)) ≡ map signed r
 fields-line [] h = absurd (omega arith)
 fields-line (z ∷ r) h = pieces-joined 44 (map signed (z ∷ r)) tt (λ p m i. let bad = field-bytes (z ∷ r) p m 44 i in omega arith)
@@ -67,10 +66,6 @@ some-fields w line h = go (eqb line 1)
     go : (b : Bool) → 0 < cond b 3 w
     go true = omega arith
     go false = h
-
-text-cons : (r : List ℤ) (rows : List (List ℤ)) → textOf (r ∷ rows) ≡ joined 44 (map signed r) ++ 10 ∷ textOf rows
-unfolding textOf lineOf flatten
-text-cons r rows = append-assoc (joined 44 (map signed r)) (10 ∷ []) (textOf rows)
 
 pub rows-of-text : (w line : ℕ) (rows : List (List ℤ)) → 0 < w → Fitting w line rows → AllNineDigits rows → rowsFrom w line (pieces 10 (textOf rows)) ≡ Rows rows
 unfolding rowsFrom pieces textOf flatten
@@ -206,19 +201,20 @@ one-text s t c numbers p q = only-writing s c numbers p ∙ sym (only-writing t 
 abbrev pub AllSmall : List (List ℤ) → Type 0
 AllSmall rows = (r : List ℤ) → r ∈ rows → (z : ℤ) → z ∈ r → natAbs z ≤ 16777216
 
-short-field : (r : List ℤ) → ((z : ℤ) → z ∈ r → natAbs z ≤ 16777216) → (p : List ℕ) → p ∈ map signed r → length p ≤ 9
-short-field r h p m = let f = in-map signed p r m in omega (arith, ap length (f .2), signed-short 7 (f .0) (omega (arith, h (f .0) (f .1))))
+short-row : (r : List ℤ) → length r ≤ width → ((z : ℤ) → z ∈ r → natAbs z ≤ 16777216) → rowLength r ≤ 61
+unfolding rowLength
+short-row r k h = omega (arith, line-short 9 (map signedLength r) short, length-map r signedLength)
+  where
+    short : (n : ℕ) → n ∈ map signedLength r → n ≤ 9
+    short n m = let f = in-map signedLength n r m in omega (arith, f .2, length-signed (f .0), signed-short 7 (f .0) (omega (arith, h (f .0) (f .1))))
 
-short-rows : (rows : List (List ℤ)) → ((r : List ℤ) → r ∈ rows → length r ≤ width) → AllSmall rows → length (textOf rows) ≤ length rows * 61
-unfolding textOf flatten
-short-rows [] k h = omega arith
-short-rows (r ∷ rows) k h =
-    let line : List ℕ = joined 44 (map signed r) in
-    omega (arith, ap length (text-cons r rows), length-append line (10 ∷ textOf rows), joined-short 44 9 (map signed r) (short-field r (h r (inl refl))), length-map r signed, k r (inl refl), short-rows rows (λ q m. k q (inr m)) (λ q m. h q (inr m)))
+short-rows : (rows : List (List ℤ)) → ((r : List ℤ) → r ∈ rows → length r ≤ width) → AllSmall rows → textLength rows ≤ length rows * 61
+unfolding textLength
+short-rows rows k h = tally-bound rowLength 61 rows (λ r m. short-row r (k r m) (h r m))
 
 pub fits : (c : Choices) (d : Drawing) → length d ≤ 1024 → AllSmall (choiceNumbers c ∷ map numbersOf d) → length (writing c d) ≤ most
 unfolding writing
-fits c d n h = omega (arith, short-rows (choiceNumbers c ∷ map numbersOf d) narrow h, length-map d numbersOf)
+fits c d n h = omega (arith, length-text (choiceNumbers c ∷ map numbersOf d), short-rows (choiceNumbers c ∷ map numbersOf d) narrow h, length-map d numbersOf)
   where
     narrow : (r : List ℤ) → r ∈ (choiceNumbers c ∷ map numbersOf d) → length r ≤ width
     narrow r (inl e) = unfold choiceNumbers in omega (arith, ap length e)

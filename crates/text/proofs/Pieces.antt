@@ -2,16 +2,13 @@
 use mathlib.Core.Path.{_≡_, refl, sym, _∙_, ap}
 use mathlib.Core.Bool.{Bool, true, false, cond}
 use mathlib.Core.List.{List, [], _∷_, _++_}
-use mathlib.Core.Logic.{_⊎_, inl, inr}
-use Prim.Native.Nat.{ℕ, suc, _*_, _≤_}
-use native.Mathlib.Omega.{arith}
+use mathlib.Core.Logic.{inl, inr}
+use Prim.Native.Nat.{ℕ}
 use borrow.Author.Tests.{eqb-true, eq-eqb, ne-eqb}
 use lib.Dec.{eqb}
-use lib.ListN.{length, length-append}
 use Rattle.lists.specs.Members.{_∈_}
-use Rattle.lists.proofs.Members.{in-++}
 use Rattle.text.specs.Grammar.{onto, pieces}
-use Rattle.text.specs.Writing.{joined}
+use Rattle.writing.specs.Lines.{joined}
 
 -- not empty
 abbrev pub Some : {A : Type 0} → List A → Type 0
@@ -76,22 +73,3 @@ module _ (b : ℕ) where
   pieces-joined [] n h = absurd n
   pieces-joined (p ∷ []) n h = pieces-whole p (h p (inl refl))
   pieces-joined (p ∷ q ∷ ps) n h = pieces-cut p (joined b (q ∷ ps)) (h p (inl refl)) ∙ ap (λ (r : List (List ℕ)). p ∷ r) (pieces-joined (q ∷ ps) tt (λ r m. h r (inr m)))
-
-  -- ---- the bytes of what is joined
-  pub joined-bytes : (P : ℕ → Type 0) → P b → (ps : List (List ℕ)) → ((p : List ℕ) → p ∈ ps → (x : ℕ) → x ∈ p → P x) → (x : ℕ) → x ∈ joined b ps → P x
-  unfolding joined
-  joined-bytes P pb [] h x m = absurd m
-  joined-bytes P pb (p ∷ []) h x m = h p (inl refl) x m
-  joined-bytes P pb (p ∷ q ∷ ps) h x m = go (in-++ x p (b ∷ joined b (q ∷ ps)) m) (λ i. joined-bytes P pb (q ∷ ps) (λ r j. h r (inr j)) x i)
-    where
-      go : (x ∈ p) ⊎ (x ∈ (b ∷ joined b (q ∷ ps))) → (x ∈ joined b (q ∷ ps) → P x) → P x
-      go (inl i) k = h p (inl refl) x i
-      go (inr (inl e)) k = rw e pb
-      go (inr (inr i)) k = k i
-
-  -- pieces of at most k bytes
-  pub joined-short : (k : ℕ) (ps : List (List ℕ)) → ((p : List ℕ) → p ∈ ps → length p ≤ k) → length (joined b ps) ≤ length ps * suc k
-  unfolding joined
-  joined-short k [] h = omega arith
-  joined-short k (p ∷ []) h = omega (arith, h p (inl refl))
-  joined-short k (p ∷ q ∷ ps) h = omega (arith, length-append p (b ∷ joined b (q ∷ ps)), h p (inl refl), joined-short k (q ∷ ps) (λ r m. h r (inr m)))

@@ -1,23 +1,23 @@
 -- The lines of the paths passed are put. Assumes nothing.
 use borrow.Author.Needs.{needs}
-use mathlib.Core.Path.{_≡_, refl, _∙_}
+use mathlib.Core.Path.{_≡_, refl}
 use mathlib.Core.List.{List}
 use native.Mathlib.Omega.{arith}
 use Prim.Native.Nat.{ℕ, _+_, _*_, _-_, _≤_}
-use lib.ListN.{length, getD, take, drop, length-take}
+use lib.ListN.{length, getD, take, drop}
 use lib.IntN.{ℤ}
 use Rattle.lists.specs.Sums.{tally}
 use Rattle.lists.proofs.Sums.{tally-take, tally-part}
+use Rattle.contour.specs.Points.{pairUp}
+use Rattle.clip_print.specs.Printed.{pathLines}
 use Rattle.clip_print.proofs.Pairs.{linesFrom, paths-more, paths-none}
-use Rattle.clip_print.proofs.Puts.{Left, left-all, left-less, left-none}
+use Rattle.writing.proofs.Puts.{put-length, Left, left-all, left-less, left-none, left-fits}
 use Rattle.clip_print.proofs.put_paths.Statement.{statement}
 use Rattle.clip_print.proofs.put_paths.Tie as tie
 
 record Passed (points : List ℤ) (lengths old new : List ℕ) (next from k : ℕ) : Type 0 where
   put : Left (linesFrom 0 0 points lengths) old 0 (linesFrom k from points lengths) next new
   place : from ≡ 2 * tally (λ n. n) (take k lengths)
-  short : next ≤ 43 * from
-  room : length new ≡ length old
 
 abbrev Inv-loop : tie.InvT-loop
 Inv-loop points lengths out₀ next₀ from₀ k₀ out next from k = Passed points lengths out₀ out next from k
@@ -38,7 +38,7 @@ loop-holds : tie.Need-loop-holds Inv-loop μ-loop
 unfolding tally
 loop-holds c =
     let s = c .before .before in
-    record { put = left-all (linesFrom 0 0 (s .args .points .now) (s .args .lengths .now)) (s .args .out .now) 0; place = refl; short = omega arith; room = refl }
+    record { put = left-all (linesFrom 0 0 (s .args .points .now) (s .args .lengths .now)) (s .args .out .now) 0; place = refl }
 
 mul-to : tie.Need-mul-to Inv-loop μ-loop
 mul-to c = search needs
@@ -72,8 +72,12 @@ put-path-requires c κs =
     let i = c .before .before .before in
     let l = i .before in
     let s = l .before .before .before in
+    let k = l .loop .k in
     let from = l .loop .from in
-    omega (arith, path-fits i, length-take (from + 2 * getD (s .args .lengths .now) (l .loop .k) 0 - from) (drop from (s .args .points .now)), l .loop .inv .short, l .loop .inv .room, s .pre .1)
+    let points = s .args .points .now in
+    let lengths = s .args .lengths .now in
+    let to = from + 2 * getD lengths k 0 in
+    left-fits (l .loop .inv .put) (pathLines k 0 (pairUp (take (to - from) (drop from points)))) (linesFrom (k + 1) to points lengths) (paths-more k from points lengths (i .loop-test .taken)) (omega (arith, s .pre .1))
 
 add-k : tie.Need-add-k Inv-loop μ-loop
 add-k c = search needs
@@ -89,29 +93,20 @@ loop-again c =
     let s = l .before .before .before in
     let v = l .loop .inv in
     let k = l .loop .k in
-    let from = l .loop .from in
-    let points = s .args .points .now in
     let lengths = s .args .lengths .now in
-    let n = getD lengths k 0 in
     record {
-      put = left-less (v .put) (paths-more k from points lengths (i .loop-test .taken)) (w .put-path .ensures .0);
+      put = left-less (v .put) (paths-more k (l .loop .from) (s .args .points .now) lengths (i .loop-test .taken)) (w .put-path .ensures);
       place = omega (arith, v .place, tally-take (λ n. n) lengths 0 k (i .loop-test .taken));
-      short = omega (arith, w .put-path .ensures .1, v .short, length-take (from + 2 * n - from) (drop from points));
-      room = w .put-path .kept .1 .1 .0 ∙ v .room;
     }
 
 same-length : tie.Need-same-length Inv-loop μ-loop
-same-length c = c .before .loop .inv .room
+same-length c = put-length (c .before .loop .inv .put .put)
 
 returns : tie.Need-returns Inv-loop μ-loop
 returns c =
     let l = c .before in
     let s = l .before .before .before in
-    let v = l .loop .inv in
-    let k = l .loop .k in
-    let lengths = s .args .lengths .now in
-    let none = paths-none k (l .loop .from) (s .args .points .now) lengths (c .loop-test .left) in
-    (left-none (v .put) none, omega (arith, v .short, v .place, tally-part (λ n. n) lengths k, s .pre .0))
+    left-none (l .loop .inv .put) (paths-none (l .loop .k) (l .loop .from) (s .args .points .now) (s .args .lengths .now) (c .loop-test .left))
 
 pub put-paths-spec : {M : Type 1} → statement M
 put-paths-spec =

@@ -10,10 +10,12 @@ use Rattle.lists.specs.Written.{written}
 use Rattle.string_clip.specs.declared.Clipped.{Clipped}
 use Rattle.contour.specs.Points.{pairUp, cut}
 use Rattle.string_clip.specs.Run.{Outcome, outcome, told, output}
-use Rattle.clip_print.specs.Printed.{Put, Held, linesOf, printed}
+use Rattle.writing.specs.Puts.{Put}
+use Rattle.clip_print.specs.Printed.{Held, linesOf, printed}
 use Rattle.clip_text.specs.Answer.{textOutcome}
 use Rattle.clip_text.proofs.Held.{text-held}
-use Rattle.clip_print.proofs.Puts.{put-whole}
+use Rattle.clip_print.proofs.Lengths.{length-printed, printed-short}
+use Rattle.writing.proofs.Puts.{put-whole}
 use Rattle.clip_text.proofs.answer_with.Statement.{statement}
 use Rattle.clip_text.proofs.answer_with.Tie as tie
 
@@ -40,11 +42,21 @@ module _ (c : tie.After-clip-text) where
   held : {r : Clipped} → c .clip-text .result ≡ r → Held (told r .paths) points lengths
   held e = subst (λ (o : Outcome). Held (told (o .answer) .paths) (o .points) (o .lengths)) (sym (is e)) (text-held (s .args .points .now) (s .args .lengths .now) (s .args .text .now))
 
-  -- its lines stand at the front
-  whole : {r : Clipped} {k : ℕ} {old new : List ℕ} → c .clip-text .result ≡ r → Put old 0 (linesOf r (cut (told r .paths) lengths (pairUp points))) k new → k ≤ length old
-      → (k ≡ length (printed run)) × (new ≡ written (printed run) old)
+  abbrev out : List ℕ
+  out = s .args .out .now
+
+  -- there is room for its lines
+  room : {r : Clipped} → c .clip-text .result ≡ r → length (linesOf r (cut (told r .paths) lengths (pairUp points))) ≤ length out
   unfolding printed output
-  whole {r = r} {k = k} {old = old} {new = new} e p h = subst (λ (l : List ℕ). (k ≡ length l) × (new ≡ written l old)) (ap printed (is e)) (put-whole p h)
+  room {r} e = let o = outcome r points lengths in omega (arith, length-printed o, printed-short o, s .pre, c .clip-text .kept .1 .0)
+
+  -- and they stand at the front
+  whole : {r : Clipped} {k : ℕ} {new : List ℕ} → c .clip-text .result ≡ r → Put out 0 (linesOf r (cut (told r .paths) lengths (pairUp points))) k new
+      → (k ≤ length out) × ((k ≡ length (printed run)) × (new ≡ written (printed run) out))
+  unfolding printed output
+  whole {r = r} {k = k} {new = new} e p =
+      let w = put-whole p (room e) in
+      (omega (arith, w .0, room e), subst (λ (l : List ℕ). (k ≡ length l) × (new ≡ written l out)) (ap printed (is e)) w)
 
 enum-known-t : tie.Need-enum-known-t
 enum-known-t c = search needs
@@ -53,13 +65,13 @@ put-run-requires : tie.Need-put-run-requires
 put-run-requires c κs =
     let t = c .before .before .before .before in
     let v = t .before .before .before .before .before in
-    (held v (t .t .given .1), omega (arith, s v .pre, v .clip-text .kept .1 .0))
+    (held v (t .t .given .1), room v (t .t .given .1))
 
 enum-known-number : tie.Need-enum-known-number
 enum-known-number c = search needs
 
 put-refused-requires : tie.Need-put-refused-requires
-put-refused-requires c κs = search needs
+put-refused-requires c κs = let t = c .before .before in room (t .before .before .before .before .before) (t .number .given .1)
 
 same-length : tie.Need-same-length
 same-length c = search needs
@@ -74,7 +86,7 @@ returns : tie.Need-returns
 returns c =
     let p = c .before .before in
     let t = p .before .before .before .before .before in
-    (p .put-run .ensures .1, whole (t .before .before .before .before .before) (t .t .given .1) (p .put-run .ensures .0) (p .put-run .ensures .1))
+    whole (t .before .before .before .before .before) (t .t .given .1) (p .put-run .ensures)
 
 same-length-4 : tie.Need-same-length-4
 same-length-4 c = search needs
@@ -89,9 +101,7 @@ returns-2 : tie.Need-returns-2
 returns-2 c =
     let p = c .before .before in
     let t = p .before .before .before in
-    let v = t .before .before .before .before .before in
-    let few : p .put-refused .result ≤ length (s v .args .out .now) = omega (arith, s v .pre, p .put-refused .ensures .1) in
-    (few, whole v (t .number .given .1) (p .put-refused .ensures .0) few)
+    whole (t .before .before .before .before .before) (t .number .given .1) (p .put-refused .ensures)
 
 pub answer-with-spec : {M : Type 1} → statement M
 answer-with-spec =

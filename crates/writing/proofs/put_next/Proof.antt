@@ -1,9 +1,8 @@
 -- A comma, then the number. Assumes nothing.
 use borrow.Author.Needs.{needs}
-use native.Mathlib.Omega.{arith}
-use Rattle.clip_print.proofs.Puts.{put-then}
-use Rattle.clip_print.proofs.put_next.Statement.{statement}
-use Rattle.clip_print.proofs.put_next.Tie as tie
+use Rattle.writing.proofs.Puts.{put-then}
+use Rattle.writing.proofs.put_next.Statement.{statement}
+use Rattle.writing.proofs.put_next.Tie as tie
 
 put-byte-requires : tie.Need-put-byte-requires
 put-byte-requires c κs = search needs
@@ -15,9 +14,7 @@ same-length : tie.Need-same-length
 same-length c = search needs
 
 returns : tie.Need-returns
-returns c =
-    let b = c .before .before in
-    (put-then (b .before .before .before .before .put-byte .ensures) (b .put-decimal .ensures .0), omega arith)
+returns c = let b = c .before .before in put-then (b .before .before .before .before .put-byte .ensures) (b .put-decimal .ensures)
 
 pub put-next-spec : {M : Type 1} → statement M
 put-next-spec = tie.close (tie.spec put-byte-requires put-decimal-requires same-length returns)

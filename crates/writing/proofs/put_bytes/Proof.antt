@@ -8,9 +8,9 @@ use native.Mathlib.Omega.{arith}
 use Prim.Native.Nat.{ℕ, _+_, _-_, _≤_}
 use lib.ListN.{length, getD, drop, length-set, drop-of-length-le}
 use lib.Seq.{drop-cons}
-use Rattle.clip_print.proofs.Puts.{Left, left-all, left-less, left-none}
-use Rattle.clip_print.proofs.put_bytes.Statement.{statement}
-use Rattle.clip_print.proofs.put_bytes.Tie as tie
+use Rattle.writing.proofs.Puts.{Left, left-all, left-less, left-none}
+use Rattle.writing.proofs.put_bytes.Statement.{statement}
+use Rattle.writing.proofs.put_bytes.Tie as tie
 
 record Passed (s old : List ℕ) (at : ℕ) (new : List ℕ) (i : ℕ) : Type 0 where
   put : Left s old at (drop i s) (at + i) new
