@@ -1,6 +1,2 @@
-pub mod LinkValue
-pub mod Moves
-pub mod Unroll
+pub mod Walk
 pub mod Flat
-pub mod FlatIsWalk
-pub mod Begins

@@ -116,6 +116,9 @@ ltP-trans p q r h k = before {p = p} {q = r} (before-trans {p = p} {q = q} {r = 
 pub ltP-irrefl : (p : Point) → ltP p p ≡ false
 ltP-irrefl p = not-before before-irrefl
 
+pub ltP-asym : (p q : Point) → ltP p q ≡ true → ltP q p ≡ false
+ltP-asym p q h = is-false (ltP q p) (λ k. clash (ltP-trans p q p h k) (ltP-irrefl p))
+
 pub ltP-antisym : {p q : Point} → ltP p q ≡ false → ltP q p ≡ false → p ≡ q
 ltP-antisym {p} {q} h k = go (compare p q)
   where

@@ -10,12 +10,12 @@ use lib.ListN.{length}
 use borrow.Author.Tests.{lt-ltb, le-ltb}
 use Rattle.geom.specs.declared.Point.{Point}
 use Rattle.geom.specs.Points.{eqP}
-use Rattle.geom.proofs.Points.{eqP-true}
+use Rattle.geom.proofs.Points.{eqP-true, eq-eqP}
 use Rattle.lists.specs.Members.{_∈_, keep}
 use Rattle.lists.specs.UpFrom.{upFrom}
 use Rattle.segm.specs.Segments.{Drawing, segmentAt}
-use Rattle.lists.proofs.Members.{cases, in-++, keep-in, keep-++, keep-cong, keep-map}
-use Rattle.lists.proofs.UpFrom.{in-upFrom, upFrom-++}
+use Rattle.lists.proofs.Members.{cases, in-++, in-left, in-right, keep-in, in-keep, keep-++, keep-cong, keep-map}
+use Rattle.lists.proofs.UpFrom.{in-upFrom, upFrom-in, upFrom-++}
 use Rattle.ends.specs.Ends.{endPoint}
 use Rattle.ends.proofs.Ends.{end-a, end-b}
 use Rattle.graph.specs.Nodes.{node, linkOf, otherEnd}
@@ -88,6 +88,15 @@ module _ (links : Drawing) (p : Point) where
       (λ j. let r = keep-in starts k (upFrom 0 m) j in (omega (arith, in-upFrom k 0 m (r .0)), inl (eqP-true (r .1))))
       (λ j. let r = keep-in stops k (upFrom 0 m) j in (omega (arith, in-upFrom k 0 m (r .0)), inr (eqP-true (r .1))))
       (in-++ k (keep starts (upFrom 0 m)) (keep stops (upFrom 0 m)) i)
+
+  pub node-in : (k : ℕ) → (k < length links) × ((segmentAt links k .a ≡ p) ⊎ (segmentAt links k .b ≡ p)) → k ∈ node links p
+  unfolding node
+  node-in k h =
+      let i = upFrom-in k 0 m (omega arith) (omega (arith, h .0)) in
+      cases
+      (λ e. in-left k (keep starts (upFrom 0 m)) (keep stops (upFrom 0 m)) (in-keep starts k (upFrom 0 m) i (eq-eqP e)))
+      (λ e. in-right k (keep starts (upFrom 0 m)) (keep stops (upFrom 0 m)) (in-keep stops k (upFrom 0 m) i (eq-eqP e)))
+      (h .1)
 
   abbrev here : ℕ → Bool
   here e = eqP (endPoint links e) p

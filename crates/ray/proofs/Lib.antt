@@ -10,4 +10,3 @@ pub mod Ends
 pub mod Ways
 pub mod Counts
 pub mod Fills
-pub mod Trail

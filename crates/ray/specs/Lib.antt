@@ -1,2 +1,1 @@
 pub mod Ray
-pub mod Trail

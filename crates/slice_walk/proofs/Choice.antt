@@ -26,12 +26,14 @@ use Rattle.ends.specs.Ends.{endPoint}
 use Rattle.ends.proofs.Ends.{end-a, end-b}
 use Rattle.graph.specs.Nodes.{node, linkOf, otherEnd, part, Nodes}
 use Rattle.graph.proofs.Node.{link-low, link-high, other-low, other-high}
-use Rattle.clip_walk.specs.declared.Next.{Next}
-use Rattle.clip_walk.specs.declared.Next.the-variants.{Stop, Leave}
-use Rattle.clip_walk.specs.Walk.{Move, isLeft, other}
-use Rattle.clip_walk.specs.Flat.{moveOf}
-use Rattle.clip_walk.proofs.FlatIsWalk.{at-place, fits}
-use Rattle.slice_walk.specs.Walk.{isNearer, moveFrom, nearest, ifLeft, orElse, findNearest}
+use Rattle.moves.specs.declared.NextEnd.{NextEnd}
+use Rattle.moves.specs.declared.NextEnd.the-variants.{Stop, Leave}
+use Rattle.moves.specs.Steps.{other}
+use Rattle.moves.specs.Moves.{Move, remains}
+use Rattle.moves.specs.ByEnd.{moveOf}
+use Rattle.moves.proofs.Steps.{at-place}
+use Rattle.moves.proofs.ByEnd.{fits}
+use Rattle.slice_walk.specs.Walk.{isNearer, moveFrom, nearest, ifRemains, orElse, findNearest}
 use Rattle.slice_walk.specs.Ends.{farPoint, addEnd, isOther, nearestEnd, Leaving}
 use Rattle.slice_walk.specs.Writing.{ProperLinks, NextIs}
 
@@ -49,12 +51,12 @@ lt-turned z =
     (λ t. lt-ltZ {a = pos 0} {b = z} (omega (ints, of-neg z, of-pos 0)))
 
 -- ---- what is found
--- a link, if there is one, has P
-abbrev Found : (ℕ → Type 0) → Option ℕ → Type 0
-Found P none = Unit {0}
-Found P (some k) = P k
+-- what there is, if anything, has P
+abbrev pub IfSome : {A : Type 0} → (A → Type 0) → Option A → Type 0
+IfSome P none = Unit {0}
+IfSome P (some x) = P x
 
-nearest-found : (links : Drawing) (direction : Bool) (p back : Point) (P : ℕ → Type 0) (l : List ℕ) (best : Option ℕ) → Found P best → ((k : ℕ) → k ∈ l → P k) → Found P (nearest links direction p back best l)
+pub nearest-found : (links : Drawing) (direction : Bool) (p back : Point) (P : ℕ → Type 0) (l : List ℕ) (best : Option ℕ) → IfSome P best → ((k : ℕ) → k ∈ l → P k) → IfSome P (nearest links direction p back best l)
 unfolding nearest
 nearest-found links direction p back P [] best b h = b
 nearest-found links direction p back P (k ∷ l) none b h = nearest-found links direction p back P l (some k) (h k (inl refl)) (λ j i. h j (inr i))
@@ -65,31 +67,31 @@ nearest-found links direction p back P (k ∷ l) (some j) b h =
     go true = h k (inl refl)
     go false = b
 
--- the side bit of a move is left
+-- the side bit of a move remains
 module _ (links : Drawing) (direction : Bool) (k : ℕ) (p : Point) (bits : List ℕ) (m : Move) (e : findNearest links direction k p bits ≡ some m) where
-  pub nearest-left : isLeft bits m ≡ true
+  pub nearest-remains : remains bits m ≡ true
   unfolding findNearest moveFrom
-  nearest-left = go (nearest links direction p (other (segmentAt links k) p) none others) (nearest-found links direction p _ (λ j. j ∈ others) others none tt (λ j i. i)) e
+  nearest-remains = go (nearest links direction p (other (segmentAt links k) p) none others) (nearest-found links direction p _ (λ j. j ∈ others) others none tt (λ j i. i)) e
     where
       from : ℕ → Move
       from = moveFrom links direction p
 
       isTaken : ℕ → Bool
-      isTaken j = not (eqb j k) && isLeft bits (from j)
+      isTaken j = not (eqb j k) && remains bits (from j)
 
       others : List ℕ
       others = keep isTaken (node links p)
 
-      current : (b : Bool) → isLeft bits (from k) ≡ b → cond b (some (from k)) none ≡ some m → isLeft bits m ≡ true
-      current true l q = let r : from k ≡ m = cc in subst (λ n. isLeft bits n ≡ true) r l
+      current : (b : Bool) → remains bits (from k) ≡ b → cond b (some (from k)) none ≡ some m → remains bits m ≡ true
+      current true l q = let r : from k ≡ m = cc in subst (λ n. remains bits n ≡ true) r l
       current false l q = let z : _≡_ {A = ℕ} 0 1 = cc in absurd (omega arith)
 
-      go : (o : Option ℕ) → Found (λ j. j ∈ others) o → orElse from o (ifLeft bits (from k)) ≡ some m → isLeft bits m ≡ true
-      go none i q = current (isLeft bits (from k)) refl q
+      go : (o : Option ℕ) → IfSome (λ j. j ∈ others) o → orElse from o (ifRemains bits (from k)) ≡ some m → remains bits m ≡ true
+      go none i q = current (remains bits (from k)) refl q
       go (some j) i q =
           let r : from j ≡ m = cc in
           let h = keep-in isTaken j (node links p) i in
-          subst (λ (n : Move). isLeft bits n ≡ true) r (both-r (not (eqb j k)) (isLeft bits (from j)) (h .1))
+          subst (λ (n : Move). remains bits n ≡ true) r (both-r (not (eqb j k)) (remains bits (from j)) (h .1))
 
 -- ---- ends of proper links
 module _ (links : Drawing) (proper : ProperLinks links) where
@@ -148,7 +150,7 @@ module _ (links : Drawing) (proper : ProperLinks links) where
 -- ---- the nearest end
 module _ (links : Drawing) (direction : Bool) (f : ℕ) where
   -- what the best end and another have, the nearer one has
-  add-has : (P : ℕ → Type 0) (e : ℕ) (best : Next) → Leaving P best → P e → Leaving P (addEnd links direction f best e)
+  add-has : (P : ℕ → Type 0) (e : ℕ) (best : NextEnd) → Leaving P best → P e → Leaving P (addEnd links direction f best e)
   unfolding addEnd
   add-has P e Stop b q = q
   add-has P e (Leave g) b q = go (isNearer direction (endPoint links f) (farPoint links f) (farPoint links g) (farPoint links e))
@@ -158,7 +160,7 @@ module _ (links : Drawing) (direction : Bool) (f : ℕ) where
       go false = b
 
   -- the same of all ends that can be left
-  pub nearest-has : (P : ℕ → Type 0) (bits es : List ℕ) (best : Next) → Leaving P best → ((e : ℕ) → e ∈ es → isLeft bits (moveOf (length links) direction e) ≡ true → P e)
+  pub nearest-has : (P : ℕ → Type 0) (bits es : List ℕ) (best : NextEnd) → Leaving P best → ((e : ℕ) → e ∈ es → remains bits (moveOf (length links) direction e) ≡ true → P e)
       → Leaving P (nearestEnd links direction f bits best es)
   unfolding nearestEnd isOther
   nearest-has P bits [] best b h = b
@@ -183,9 +185,9 @@ module _ (links : Drawing) (proper : ProperLinks links) (direction : Bool) (f : 
   At e = (e < 2 * length links) × (endPoint links e ≡ p)
 
   abbrev isTaken : ℕ → Bool
-  isTaken k = not (eqb k (link f)) && isLeft bits (moveFrom links direction p k)
+  isTaken k = not (eqb k (link f)) && remains bits (moveFrom links direction p k)
 
-  abbrev asLink : Next → Option ℕ
+  abbrev asLink : NextEnd → Option ℕ
   asLink Stop = none
   asLink (Leave e) = some (link e)
 
@@ -195,12 +197,12 @@ module _ (links : Drawing) (proper : ProperLinks links) (direction : Bool) (f : 
 
   taken-is : (e : ℕ) → At e → isTaken (link e) ≡ isOther links direction f bits e
   unfolding isOther
-  taken-is e h = ap₂ (λ (b : Bool) (n : Move). not b && isLeft bits n) (one-end links proper e f (h .0) below (h .1)) (move-is e h)
+  taken-is e h = ap₂ (λ (b : Bool) (n : Move). not b && remains bits n) (one-end links proper e f (h .0) below (h .1)) (move-is e h)
 
   leads : (e : ℕ) → At e → other (segmentAt links (link e)) p ≡ farPoint links e
   leads e h = subst (λ q. other (segmentAt links (link e)) q ≡ farPoint links e) (h .1) (other-is links proper e (h .0))
 
-  add-is : (e : ℕ) → At e → (best : Next) → Leaving At best → (l : List ℕ)
+  add-is : (e : ℕ) → At e → (best : NextEnd) → Leaving At best → (l : List ℕ)
       → nearest links direction p back (asLink best) (link e ∷ l) ≡ nearest links direction p back (asLink (addEnd links direction f best e)) l
   unfolding nearest addEnd
   add-is e h Stop b l = refl
@@ -211,7 +213,7 @@ module _ (links : Drawing) (proper : ProperLinks links) (direction : Bool) (f : 
       go true = refl
       go false = refl
 
-  nearest-is : (es : List ℕ) (best : Next) → Leaving At best → ((e : ℕ) → e ∈ es → At e)
+  nearest-is : (es : List ℕ) (best : NextEnd) → Leaving At best → ((e : ℕ) → e ∈ es → At e)
       → nearest links direction p back (asLink best) (keep isTaken (map link es)) ≡ asLink (nearestEnd links direction f bits best es)
   unfolding nearest keep nearestEnd
   nearest-is [] best b h = refl
@@ -222,7 +224,7 @@ module _ (links : Drawing) (proper : ProperLinks links) (direction : Bool) (f : 
       rest : List ℕ
       rest = keep isTaken (map link es)
 
-      go : (t : Bool) → ((next : Next) → Leaving At next → nearest links direction p back (asLink next) rest ≡ asLink (nearestEnd links direction f bits next es))
+      go : (t : Bool) → ((next : NextEnd) → Leaving At next → nearest links direction p back (asLink next) rest ≡ asLink (nearestEnd links direction f bits next es))
           → nearest links direction p back (asLink best) (cond t (link e ∷ rest) rest) ≡ asLink (nearestEnd links direction f bits (cond t (addEnd links direction f best e) best) es)
       go true ih = add-is e (h e (inl refl)) best b rest ∙ ih (addEnd links direction f best e) (add-has links direction f At e best b (h e (inl refl)))
       go false ih = ih best b
@@ -231,32 +233,32 @@ module _ (links : Drawing) (proper : ProperLinks links) (direction : Bool) (f : 
     abbrev es : List ℕ
     es = part flat starts (getD nodes f 0)
 
-    abbrev nearestOther : Next
+    abbrev nearestOther : NextEnd
     nearestOther = nearestEnd links direction f bits Stop es
 
-    find-is : findNearest links direction (link f) p bits ≡ orElse (moveFrom links direction p) (asLink nearestOther) (ifLeft bits (moveOf (length links) direction f))
+    find-is : findNearest links direction (link f) p bits ≡ orElse (moveFrom links direction p) (asLink nearestOther) (ifRemains bits (moveOf (length links) direction f))
     unfolding findNearest
     find-is =
-        ap₂ (λ (o : Option ℕ) (k : Move). orElse (moveFrom links direction p) o (ifLeft bits k))
+        ap₂ (λ (o : Option ℕ) (k : Move). orElse (moveFrom links direction p) o (ifRemains bits k))
         (ap (λ (l : List ℕ). nearest links direction p back none (keep isTaken l)) (sym (n .list f below)) ∙ nearest-is es Stop tt (λ e i. n .ends f e below i))
         (move-is f (below, refl))
 
     -- what is answered, by the nearest other end
     pub next-other : (e : ℕ) → nearestOther ≡ Leave e → NextIs links direction bits f (Leave e)
     next-other e q =
-        let h : At e × (isLeft bits (moveOf (length links) direction e) ≡ true) =
-        subst (Leaving (λ g. At g × (isLeft bits (moveOf (length links) direction g) ≡ true))) q (nearest-has links direction f _ bits es Stop tt (λ g i l. (n .ends f g below i, l))) in (
-          find-is ∙ ap (λ (r : Next). orElse (moveFrom links direction p) (asLink r) (ifLeft bits (moveOf (length links) direction f))) q ∙ ap some (move-is e (h .0)),
+        let h : At e × (remains bits (moveOf (length links) direction e) ≡ true) =
+        subst (Leaving (λ g. At g × (remains bits (moveOf (length links) direction g) ≡ true))) q (nearest-has links direction f _ bits es Stop tt (λ g i l. (n .ends f g below i, l))) in (
+          find-is ∙ ap (λ (r : NextEnd). orElse (moveFrom links direction p) (asLink r) (ifRemains bits (moveOf (length links) direction f))) q ∙ ap some (move-is e (h .0)),
           h .0 .0,
           h .1,
         )
 
     module _ (q : nearestOther ≡ Stop) where
-      alone : findNearest links direction (link f) p bits ≡ ifLeft bits (moveOf (length links) direction f)
-      alone = find-is ∙ ap (λ (r : Next). orElse (moveFrom links direction p) (asLink r) (ifLeft bits (moveOf (length links) direction f))) q
+      alone : findNearest links direction (link f) p bits ≡ ifRemains bits (moveOf (length links) direction f)
+      alone = find-is ∙ ap (λ (r : NextEnd). orElse (moveFrom links direction p) (asLink r) (ifRemains bits (moveOf (length links) direction f))) q
 
-      pub next-current : isLeft bits (moveOf (length links) direction f) ≡ true → NextIs links direction bits f (Leave f)
+      pub next-current : remains bits (moveOf (length links) direction f) ≡ true → NextIs links direction bits f (Leave f)
       next-current l = (alone ∙ rw l, below, l)
 
-      pub next-none : isLeft bits (moveOf (length links) direction f) ≡ false → NextIs links direction bits f Stop
+      pub next-none : remains bits (moveOf (length links) direction f) ≡ false → NextIs links direction bits f Stop
       next-none l = alone ∙ rw l

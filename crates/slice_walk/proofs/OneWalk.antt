@@ -17,18 +17,19 @@ use Rattle.contour.proofs.Coordinates.{written-point}
 use Rattle.ends.specs.Ends.{endPoint}
 use Rattle.graph.specs.Nodes.{linkOf, otherEnd}
 use Rattle.graph.proofs.Node.{link-other}
-use Rattle.clip_walk.specs.declared.Next.{Next}
-use Rattle.clip_walk.specs.declared.Next.the-variants.{Stop, Leave}
-use Rattle.clip_walk.specs.Walk.{has, Move, move, isLeft, taken, takenAll, bitsLeft, over}
-use Rattle.clip_walk.specs.Flat.{moveOf}
-use Rattle.clip_walk.proofs.Unroll.{left-taken}
-use Rattle.clip_walk.proofs.Flat.{length-taken}
-use Rattle.clip_walk.proofs.FlatIsWalk.{first-move, move-start, move-end}
-use Rattle.clip_walk.proofs.Begins.{first-left}
+use Rattle.moves.specs.declared.NextEnd.{NextEnd}
+use Rattle.moves.specs.declared.NextEnd.the-variants.{Stop, Leave}
+use Rattle.moves.specs.Bits.{has}
+use Rattle.moves.specs.Moves.{Move, move, remains, taken, takenAll, bitsRemaining, over}
+use Rattle.moves.specs.ByEnd.{moveOf}
+use Rattle.moves.proofs.Moves.{takes-one, length-taken}
+use Rattle.moves.proofs.Begins.{first-remains}
+use Rattle.moves.proofs.ByEnd.{first-move, move-start, move-end}
 use Rattle.slice_walk.specs.declared.Walked.the-variants.{Closed, Stuck}
 use Rattle.slice_walk.specs.Walk.{findNearest, onto, bind, till, walkFrom, directionOf, walkPoints}
 use Rattle.slice_walk.specs.Writing.{NextIs, walkAt, WalkIs}
-use Rattle.slice_walk.proofs.Till.{Holds, after, after-nothing, after-more, till-home, till-on, Begun, walk-begun}
+use Rattle.slice_walk.proofs.Choice.{IfSome}
+use Rattle.slice_walk.proofs.Till.{after, after-nothing, after-more, till-home, till-on, Begun, walk-begun}
 
 -- one point more
 points-more : (ps : List Point) (p : Point) (old : List ℤ) (n : ℕ) → n ≡ length ps → 2 * suc n ≤ length old
@@ -59,14 +60,14 @@ module _ (links : Drawing) (direction : Bool) where
 
   -- the moves on, having left end e, its bit taken
   abbrev farFrom : Point → List ℕ → ℕ → Option (List Move)
-  farFrom home bits e = till (bitsLeft bits) links direction home (linkOf m e) (endPoint links (otherEnd m e)) bits
+  farFrom home bits e = till (bitsRemaining bits) links direction home (linkOf m e) (endPoint links (otherEnd m e)) bits
 
   -- the next move and those after it
-  abbrev onFrom : Point → List ℕ → Next → Option (List Move)
+  abbrev onFrom : Point → List ℕ → NextEnd → Option (List Move)
   onFrom home bits Stop = none
   onFrom home bits (Leave e) = onto (moveAt e) (farFrom home (taken bits (moveAt e)) e)
 
-  far-next : (home : Point) (bits : List ℕ) (e : ℕ) (next : Next) → e < 2 * m → eqP (endPoint links (otherEnd m e)) home ≡ false → NextIs links direction bits (otherEnd m e) next
+  far-next : (home : Point) (bits : List ℕ) (e : ℕ) (next : NextEnd) → e < 2 * m → eqP (endPoint links (otherEnd m e)) home ≡ false → NextIs links direction bits (otherEnd m e) next
       → farFrom home bits e ≡ onFrom home bits next
   unfolding moveOf
   far-next home bits e next b n h =
@@ -75,29 +76,29 @@ module _ (links : Drawing) (direction : Bool) where
       ∙ go next h
     where
       onward : Move → Option (List Move)
-      onward x = onto x (till (bitsLeft (taken bits x)) links direction home (x .place) (over links direction x .end) (taken bits x))
+      onward x = onto x (till (bitsRemaining (taken bits x)) links direction home (x .place) (over links direction x .end) (taken bits x))
 
-      go : (next : Next) → NextIs links direction bits (otherEnd m e) next
+      go : (next : NextEnd) → NextIs links direction bits (otherEnd m e) next
           → bind (findNearest links direction (linkOf m (otherEnd m e)) (endPoint links (otherEnd m e)) bits) onward ≡ onFrom home bits next
       go Stop h = ap (λ (o : Option Move). bind o onward) h
       go (Leave g) h =
           ap (λ (o : Option Move). bind o onward) (h .0)
-          ∙ ap (λ (p : Point). onto (moveAt g) (till (bitsLeft (taken bits (moveAt g))) links direction home (linkOf m g) p (taken bits (moveAt g)))) (move-end links direction g (h .1))
+          ∙ ap (λ (p : Point). onto (moveAt g) (till (bitsRemaining (taken bits (moveAt g))) links direction home (linkOf m g) p (taken bits (moveAt g)))) (move-end links direction g (h .1))
 
   -- an end that can be left
   abbrev Ready : List ℕ → ℕ → Type 0
-  Ready bits e = (e < 2 * m) × (isLeft bits (moveAt e) ≡ true)
+  Ready bits e = (e < 2 * m) × (remains bits (moveAt e) ≡ true)
 
-  next-ready : (bits : List ℕ) (f : ℕ) (next : Next) → NextIs links direction bits f next → (e : ℕ) → next ≡ Leave e → Ready bits e
+  next-ready : (bits : List ℕ) (f : ℕ) (next : NextEnd) → NextIs links direction bits f next → (e : ℕ) → next ≡ Leave e → Ready bits e
   next-ready bits f next h e q = let r : NextIs links direction bits f (Leave e) = subst (NextIs links direction bits f) q h in (r .1, r .2)
 
-  pub record Following (k : ℕ) (bits₀ : List ℕ) (points₀ : List ℤ) (bits : List ℕ) (points : List ℤ) (n : ℕ) (next : Next) : Type 0 where
+  pub record Following (k : ℕ) (bits₀ : List ℕ) (points₀ : List ℤ) (bits : List ℕ) (points : List ℤ) (n : ℕ) (next : NextEnd) : Type 0 where
     pub done : List Move
     pub number : n ≡ length done
     pub points-are : points ≡ written (coordinates (map leaves done)) points₀
     pub as-many : length bits ≡ m
     pub bits-are : bits ≡ takenAll bits₀ done
-    pub spent : n + bitsLeft bits ≡ bitsLeft bits₀
+    pub spent : n + bitsRemaining bits ≡ bitsRemaining bits₀
     pub all : after done (onFrom (endPoint links k) bits next) ≡ walkAt links bits₀ k
     pub ready : (e : ℕ) → next ≡ Leave e → Ready bits e
 
@@ -127,21 +128,21 @@ module _ (links : Drawing) (direction : Bool) where
       bits-are = refl;
       spent = omega arith;
       all = after-nothing (onFrom (endPoint links k) bits₀ (Leave k)) ∙ walk-is;
-      ready = λ e q. let f : k ≡ e = cc in subst (Ready bits₀) f (omega (arith, o .inside), ap (isLeft bits₀) first ∙ first-left bits₀ k (o .has-bits));
+      ready = λ e q. let f : k ≡ e = cc in subst (Ready bits₀) f (omega (arith, o .inside), ap (remains bits₀) first ∙ first-remains bits₀ k (o .has-bits));
     }
       where
         walk-is : onFrom (endPoint links k) bits₀ (Leave k) ≡ walkAt links bits₀ k
         walk-is =
             let b = taken bits₀ (moveAt k) in
-            ap₂ (λ (p q : Point). onto (moveAt k) (till (bitsLeft b) links direction p (linkOf m k) q b)) (sym (move-start links direction k)) (sym (move-end links direction k (omega (arith, o .inside))))
-            ∙ ap (λ w. onto (moveAt k) (till (bitsLeft b) links w (over links w (moveAt k) .start) (linkOf m k) (over links w (moveAt k) .end) b)) (sym (ap (λ (x : Move). x .forth) (first-move m direction k (o .inside))))
+            ap₂ (λ (p q : Point). onto (moveAt k) (till (bitsRemaining b) links direction p (linkOf m k) q b)) (sym (move-start links direction k)) (sym (move-end links direction k (omega (arith, o .inside))))
+            ∙ ap (λ w. onto (moveAt k) (till (bitsRemaining b) links w (over links w (moveAt k) .start) (linkOf m k) (over links w (moveAt k) .end) b)) (sym (ap (λ (x : Move). x .forth) (first-move m direction k (o .inside))))
             ∙ ap (walkFrom links bits₀) first
 
     -- a walk's first move takes the bit that it begins with
     whole-way : (walk : List Move) → walkAt links bits₀ k ≡ some walk → directionOf walk ≡ direction
     whole-way walk e =
         let mv = move k (has true (getD bits₀ k 0)) in
-        let b = subst (Holds (Begun bits₀ mv)) e (walk-begun links bits₀ mv (first-left bits₀ k (o .has-bits))) in
+        let b = subst (IfSome (Begun bits₀ mv)) e (walk-begun links bits₀ mv (first-remains bits₀ k (o .has-bits))) in
         b .direction ∙ sym (o .way)
 
   -- one turn, which leaves end e
@@ -158,8 +159,8 @@ module _ (links : Drawing) (direction : Bool) where
     abbrev done₁ : List Move
     done₁ = w .done ++ (moveAt e ∷ [])
 
-    pub few : n < bitsLeft bits₀
-    few = omega (arith, w .spent, left-taken bits (moveAt e) (now .1))
+    pub few : n < bitsRemaining bits₀
+    few = omega (arith, w .spent, takes-one bits (moveAt e) (now .1))
 
     number₁ : n + 1 ≡ length done₁
     number₁ = omega (arith, w .number, length-append (w .done) (moveAt e ∷ []))
@@ -167,7 +168,7 @@ module _ (links : Drawing) (direction : Bool) where
     bits-are₁ : bits₁ ≡ takenAll bits₀ done₁
     bits-are₁ = ap (λ (b : List ℕ). taken b (moveAt e)) (w .bits-are) ∙ sym (taken-more bits₀ (w .done) (moveAt e))
 
-    module _ (room : 2 * bitsLeft bits₀ ≤ length points₀) where
+    module _ (room : 2 * bitsRemaining bits₀ ≤ length points₀) where
       points-are₁ : points₁ ≡ written (coordinates (map leaves done₁)) points₀
       points-are₁ =
           ap₂ (λ (l : List ℤ) (p : Point). set (set l (2 * n) (p .x)) (2 * n + 1) (p .y)) (w .points-are) (sym (move-start links direction e))
@@ -186,14 +187,14 @@ module _ (links : Drawing) (direction : Bool) where
           )
 
       -- not home
-      pub onward : eqP (endPoint links (otherEnd m e)) (endPoint links k) ≡ false → {next : Next} → NextIs links direction bits₁ (otherEnd m e) next → Following k bits₀ points₀ bits₁ points₁ (n + 1) next
+      pub onward : eqP (endPoint links (otherEnd m e)) (endPoint links k) ≡ false → {next : NextEnd} → NextIs links direction bits₁ (otherEnd m e) next → Following k bits₀ points₀ bits₁ points₁ (n + 1) next
       onward h {next} is = record {
         done = done₁;
         number = number₁;
         points-are = points-are₁;
         as-many = length-taken bits (moveAt e) ∙ w .as-many;
         bits-are = bits-are₁;
-        spent = omega (arith, w .spent, left-taken bits (moveAt e) (now .1));
+        spent = omega (arith, w .spent, takes-one bits (moveAt e) (now .1));
         all =
             after-more (w .done) (moveAt e) (onFrom (endPoint links k) bits₁ next)
             ∙ sym (ap (λ (r : Option (List Move)). after (w .done) (onto (moveAt e) r)) (far-next (endPoint links k) bits₁ e next (now .0) h is)) ∙ w .all;

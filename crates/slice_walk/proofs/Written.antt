@@ -2,12 +2,10 @@
 use mathlib.Core.Path.{_≡_, refl, sym, _∙_, ap, ap₂, subst}
 use mathlib.Core.List.{List, [], _∷_, _++_, map-append, flatten, append-nil}
 use mathlib.Core.Option.{Option, none, some}
-use mathlib.Core.Bool.{Bool, true, false}
+use mathlib.Core.Bool.{true}
 use Prim.Native.Nat.{ℕ, _+_, _*_, _-_, _%_, _<_, _≤_}
 use native.Mathlib.Omega.{arith}
 use native.Mathlib.Decide.{decLe}
-use borrow.Author.Tests.{eqb-true, eqb-false}
-use lib.Dec.{eqb}
 use lib.ListN.{length, getD, take, drop, set, length-append, length-map}
 use lib.IntN.{ℤ}
 use Rattle.geom.specs.declared.Point.{Point}
@@ -18,37 +16,30 @@ use Rattle.lists.proofs.Written.{written-more}
 use Rattle.lists.proofs.Entries.{flatten-one}
 use Rattle.contour.specs.Points.{coordinates, Writes}
 use Rattle.contour.proofs.Written.{writes-one}
-use Rattle.clip_walk.specs.Walk.{has, Move, move, isLeft, taken, takenAll, bitsLeft}
-use Rattle.clip_walk.proofs.Unroll.{left-taken, taken-other}
-use Rattle.clip_walk.proofs.Flat.{length-taken}
-use Rattle.clip_walk.proofs.Begins.{first-left, begins-at, begins-nowhere}
+use Rattle.moves.specs.Bits.{has}
+use Rattle.moves.specs.Moves.{Move, move, remains, taken, takenAll, bitsRemaining}
+use Rattle.moves.proofs.Bits.{bit-one}
+use Rattle.moves.proofs.Moves.{takes-one, taken-other, length-taken, takes-keep, takes-spent}
+use Rattle.moves.proofs.Begins.{first-remains, begins-at, begins-nowhere}
 use Rattle.slice_walk.specs.declared.Walked.the-variants.{Closed, Stuck}
 use Rattle.slice_walk.specs.declared.Walks.the-variants as walks-are
 use Rattle.slice_walk.specs.Walk.{onto, bind, walkFrom, begun, walks, directionOf, walkPoints}
 use Rattle.slice_walk.specs.Writing.{walkAt, WalkIs, allPoints, directions, WalksAre}
-use Rattle.slice_walk.proofs.Till.{Holds, after, after-nothing, after-more, Begun, walk-begun, takes-keep, takes-spent}
+use Rattle.slice_walk.proofs.Choice.{IfSome}
+use Rattle.slice_walk.proofs.Till.{after, after-nothing, after-more, Begun, walk-begun}
 use Rattle.slice_walk.proofs.AllWalks.{length-points, length-all, walks-on}
-
--- bit 1 as a byte
-bit-one : (b : ℕ) → b % 2 ≡ one (has true b)
-unfolding has
-bit-one b = go (eqb (b % 2) 1) refl
-  where
-    go : (c : Bool) → eqb (b % 2) 1 ≡ c → b % 2 ≡ one c
-    go true e = eqb-true (b % 2) 1 e
-    go false e = omega (arith, eqb-false (b % 2) 1 e)
 
 -- ---- what a call of `walk` answers
 module _ (links : Drawing) (bits₀ : List ℕ) (points₀ : List ℤ) (bits : List ℕ) (points : List ℤ) where
   -- a walk of n moves was found and written
-  pub record Found (o : Option (List Move)) (n : ℕ) : Type 0 where
+  pub record WalkFound (o : Option (List Move)) (n : ℕ) : Type 0 where
     pub walk : List Move
     pub is : o ≡ some walk
     pub number : n ≡ length walk
     pub points-are : points ≡ written (coordinates (walkPoints links walk)) points₀
     pub bits-are : bits ≡ takenAll bits₀ walk
 
-  pub found : (o : Option (List Move)) (n : ℕ) → WalkIs links o bits₀ points₀ (Closed n) bits points → Found o n
+  pub found : (o : Option (List Move)) (n : ℕ) → WalkIs links o bits₀ points₀ (Closed n) bits points → WalkFound o n
   found none n w = let z : _≡_ {A = ℕ} 0 1 = cc in absurd (omega arith)
   found (some walk) n w = record { walk = walk; is = refl; number = cc; points-are = w .1; bits-are = w .2 }
 
@@ -66,7 +57,7 @@ module _ (links : Drawing) where
     pub all : after done (walks links bits) ≡ walks links bits₀
     pub passed : (j : ℕ) → j < k → getD bits j 0 % 4 ≡ 0
     pub as-many : length bits ≡ length links
-    pub spent : at + bitsLeft bits ≡ bitsLeft bits₀
+    pub spent : at + bitsRemaining bits ≡ bitsRemaining bits₀
     pub no-more : n ≤ at
 
   pub none-yet : (bits₀ : List ℕ) (points₀ : List ℤ) (lengths₀ dirs₀ : List ℕ) → length bits₀ ≡ length links → Written bits₀ points₀ lengths₀ dirs₀ bits₀ points₀ lengths₀ dirs₀ 0 0 0
@@ -116,15 +107,15 @@ module _ (links : Drawing) where
       abbrev first : Move
       first = move k (has true (getD bits k 0))
 
-      can-begin : isLeft bits first ≡ true
-      can-begin = first-left bits k line
+      can-begin : remains bits first ≡ true
+      can-begin = first-remains bits k line
 
       next : walks links bits ≡ bind (walkAt links bits k) (λ walk. onto walk (walks links (takenAll bits walk)))
       next = walks-on links bits ∙ ap (λ (o : Option Move). begun o (λ m. bind (walkFrom links bits m) (λ walk. onto walk (walks links (takenAll bits walk))))) (begins-at bits links k inside (w .passed) line)
 
       -- there is room for one more
-      pub fits : n < bitsLeft bits₀
-      fits = omega (arith, left-taken bits first can-begin, w .spent, w .no-more)
+      pub fits : n < bitsRemaining bits₀
+      fits = omega (arith, takes-one bits first can-begin, w .spent, w .no-more)
 
       -- it finds no move
       pub stuck : walkAt links bits k ≡ none → (points₁ : List ℤ) (lengths₁ dirs₁ : List ℕ) → WalksAre links (walks links bits₀) points₀ lengths₀ dirs₀ walks-are.Stuck points₁ lengths₁ dirs₁
@@ -136,21 +127,21 @@ module _ (links : Drawing) where
       abbrev past : List ℤ
       past = take (length points - 2 * at) (drop (2 * at) points)
 
-      module _ {rest : List ℕ} {part : List ℤ} {v : ℕ} (f : Found links bits past rest part (walkAt links bits k) v) where
+      module _ {rest : List ℕ} {part : List ℤ} {v : ℕ} (f : WalkFound links bits past rest part (walkAt links bits k) v) where
         begun-is : Begun bits first (f .walk)
-        begun-is = subst (Holds (Begun bits first)) (f .is) (walk-begun links bits first can-begin)
+        begun-is = subst (IfSome (Begun bits first)) (f .is) (walk-begun links bits first can-begin)
 
-        spends : v + bitsLeft rest ≡ bitsLeft bits
-        spends = omega (arith, takes-spent bits (f .walk) (begun-is .takes), f .number, ap bitsLeft (f .bits-are))
+        spends : v + bitsRemaining rest ≡ bitsRemaining bits
+        spends = omega (arith, takes-spent bits (f .walk) (begun-is .takes), f .number, ap bitsRemaining (f .bits-are))
 
-        pub fewer : bitsLeft rest < bitsLeft bits
+        pub fewer : bitsRemaining rest < bitsRemaining bits
         fewer = omega (arith, spends, begun-is .not-empty, f .number)
 
-        pub room : at + v ≤ bitsLeft bits₀
+        pub room : at + v ≤ bitsRemaining bits₀
         room = omega (arith, spends, w .spent)
 
         -- what each of its moves keeps true of the bits
-        keeps : (P : List ℕ → Type 0) → ((b : List ℕ) (m : Move) → isLeft b m ≡ true → P b → P (taken b m)) → P bits → P rest
+        keeps : (P : List ℕ → Type 0) → ((b : List ℕ) (m : Move) → remains b m ≡ true → P b → P (taken b m)) → P bits → P rest
         keeps P kept h = subst P (sym (f .bits-are)) (takes-keep P kept bits (f .walk) (begun-is .takes) h)
 
         pub more : n < length lengths₀ → n < length dirs₀
@@ -171,7 +162,7 @@ module _ (links : Drawing) where
                   (length-points links walk ∙ sym (f .number))
                   (writes-one (w .writes) last part (w .at-is ∙ sym (length-all links (w .done))) (w .number ∙ sym (length-map (w .done) (walkPoints links))) l (f .points-are)));
               dirs-are =
-                  ap₂ (λ (r : List ℕ) x. set r n x) (w .dirs-are) (bit-one (getD bits k 0) ∙ ap one (sym (begun-is .direction)))
+                  ap₂ (λ (r : List ℕ) x. set r n x) (w .dirs-are) (sym (bit-one (getD bits k 0)) ∙ ap one (sym (begun-is .direction)))
                   ∙ written-more (directions (w .done)) dirs₀ n (one (directionOf walk)) (w .number ∙ sym (length-map (w .done) (λ x. one (directionOf x)))) d
                   ∙ ap (λ (r : List ℕ). written r dirs₀) (sym (map-append (λ x. one (directionOf x)) (w .done) (walk ∷ [])));
               all =

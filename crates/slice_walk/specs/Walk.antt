@@ -1,5 +1,4 @@
--- The slice walk: by its moves, each of which takes one side bit of one link. A side bit is named as a line bit is: true is the top, bit 1, and false the
--- bottom, bit 2. Assumes nothing.
+-- The slice walk: by its moves, each of which takes one side bit of one link: true is the top, bit 1, and false the bottom, bit 2. Assumes nothing.
 use mathlib.Core.List.{List, [], _∷_, map}
 use mathlib.Core.Option.{Option, none, some}
 use mathlib.Core.Bool.{Bool, true, false, not, _&&_, cond, Bool·beq}
@@ -12,7 +11,9 @@ use Rattle.geom.specs.Points.{eqP, cross}
 use Rattle.lists.specs.Members.{keep}
 use Rattle.segm.specs.Segments.{Drawing, segmentAt}
 use Rattle.graph.specs.Nodes.{node}
-use Rattle.clip_walk.specs.Walk.{Move, move, isLeft, taken, takenAll, bitsLeft, begins, over, other, fitting}
+use Rattle.moves.specs.Steps.{other, fitting}
+use Rattle.moves.specs.Moves.{Move, move, remains, taken, takenAll, bitsRemaining, over}
+use Rattle.moves.specs.Begins.{begins}
 
 -- ---- `NearestVector`: of the ways on from c, the nearest to that back to a, by the rotation sense
 -- clockwise as it is, counter-clockwise turned round
@@ -31,7 +32,7 @@ isNearer clockwise c a b p =
 
 -- ---- the next move
 -- the move from p over link k, by the side bit that it takes (`visit_fill`): with direction true the top to a greater point and the bottom to a lesser, with
--- false the other. It can be made while that bit is left (`is_move_possible`)
+-- false the other. It can be made while that bit remains (`is_move_possible`)
 unfoldable pub moveFrom : Drawing → Bool → Point → ℕ → Move
 moveFrom links direction p k = move k (fitting direction p (segmentAt links k))
 
@@ -42,9 +43,9 @@ nearest links direction p back none (k ∷ l) = nearest links direction p back (
 nearest links direction p back (some b) (k ∷ l) =
     nearest links direction p back (some (cond (isNearer direction p back (other (segmentAt links b) p) (other (segmentAt links k) p)) k b)) l
 
--- a move, if its side bit is left
-abbrev pub ifLeft : List ℕ → Move → Option Move
-ifLeft bits m = cond (isLeft bits m) (some m) none
+-- a move, if its side bit remains
+abbrev pub ifRemains : List ℕ → Move → Option Move
+ifRemains bits m = cond (remains bits m) (some m) none
 
 -- the move over a link, or else another
 abbrev pub orElse : (ℕ → Move) → Option ℕ → Option Move → Option Move
@@ -55,8 +56,8 @@ orElse f (some k) o = some (f k)
 unfoldable pub findNearest : Drawing → Bool → ℕ → Point → List ℕ → Option Move
 findNearest links direction k p bits =
     let from = moveFrom links direction p in
-    let others = keep (λ j. not (eqb j k) && isLeft bits (from j)) (node links p) in
-    orElse from (nearest links direction p (other (segmentAt links k) p) none others) (ifLeft bits (from k))
+    let others = keep (λ j. not (eqb j k) && remains bits (from j)) (node links p) in
+    orElse from (nearest links direction p (other (segmentAt links k) p) none others) (ifRemains bits (from k))
 
 -- ---- walks; none where one finds no move
 -- x before the list, where there is one
@@ -69,7 +70,7 @@ abbrev pub bind : {A B : Type 0} → Option A → (A → Option B) → Option B
 bind none f = none
 bind (some x) f = f x
 
--- the moves from p, having come over link k, till home. (Each takes a side bit, so as many turns as bits are left are enough)
+-- the moves from p, having come over link k, till home. (Each takes a side bit, so as many turns as bits remain are enough)
 unfoldable pub till : ℕ → Drawing → Bool → (home : Point) → ℕ → Point → List ℕ → Option (List Move)
 till zero links direction home k p bits = cond (eqP p home) (some []) none
 till (suc turns) links direction home k p bits =
@@ -81,14 +82,14 @@ unfoldable pub walkFrom : Drawing → List ℕ → Move → Option (List Move)
 walkFrom links bits m =
     let rest = taken bits m in
     let first = over links (m .forth) m in
-    onto m (till (bitsLeft rest) links (m .forth) (first .start) (m .place) (first .end) rest)
+    onto m (till (bitsRemaining rest) links (m .forth) (first .start) (m .place) (first .end) rest)
 
 -- walks from a first move on, if there is one
 abbrev pub begun : {A : Type 0} → Option Move → (Move → Option (List A)) → Option (List A)
 begun none f = some []
 begun (some m) f = f m
 
--- each walk begins at the lowest link that still has bits: with its top if that is left, otherwise with its bottom
+-- each walk begins at the lowest link of which a bit remains: with its top if that does, otherwise with its bottom
 unfoldable pub walksFrom : ℕ → Drawing → List ℕ → Option (List (List Move))
 walksFrom zero links bits = some []
 walksFrom (suc turns) links bits =
@@ -96,7 +97,7 @@ walksFrom (suc turns) links bits =
 
 -- all walks over links with these side bits
 unfoldable pub walks : Drawing → List ℕ → Option (List (List Move))
-walks links bits = walksFrom (bitsLeft bits) links bits
+walks links bits = walksFrom (bitsRemaining bits) links bits
 
 -- ---- what a walk comes through
 -- true if its first move takes the top

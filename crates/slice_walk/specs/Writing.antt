@@ -16,10 +16,11 @@ use Rattle.segm.specs.Segments.{Drawing}
 use Rattle.contour.specs.Points.{coordinates, Writes}
 use Rattle.ends.specs.Ends.{endPoint}
 use Rattle.graph.specs.Nodes.{linkOf, Nodes}
-use Rattle.clip_walk.specs.declared.Next.{Next}
-use Rattle.clip_walk.specs.declared.Next.the-variants.{Stop, Leave}
-use Rattle.clip_walk.specs.Walk.{has, Move, move, isLeft, takenAll}
-use Rattle.clip_walk.specs.Flat.{moveOf}
+use Rattle.moves.specs.declared.NextEnd.{NextEnd}
+use Rattle.moves.specs.declared.NextEnd.the-variants.{Stop, Leave}
+use Rattle.moves.specs.Bits.{has}
+use Rattle.moves.specs.Moves.{Move, move, remains, takenAll}
+use Rattle.moves.specs.ByEnd.{moveOf}
 use Rattle.slice_walk.specs.declared.Walked.{Walked}
 use Rattle.slice_walk.specs.declared.Walked.the-variants.{Closed, Stuck}
 use Rattle.slice_walk.specs.declared.Walks.{Walks}
@@ -32,19 +33,19 @@ pub record ProperLinks (links : Drawing) : Type 0 where
   pub near : (s : Segment) → s ∈ links → (inRange (s .a) ≡ true) × (inRange (s .b) ≡ true)
   pub rises : (s : Segment) → s ∈ links → ltP (s .a) (s .b) ≡ true
 
--- what a walk over links needs of its lists
-pub record Walking (links : Drawing) (flat starts nodes bits : List ℕ) : Type 0 where
+-- what a slice walk over links needs of its lists
+pub record SliceLists (links : Drawing) (flat starts nodes bits : List ℕ) : Type 0 where
   pub proper : ProperLinks links
   pub nodes-are : Nodes links flat starts nodes
   pub as-many : length bits ≡ length links
 
 -- what a call answers at end f, which the current link has there: the end that the next move leaves, or that there is none
-abbrev pub NextIs : Drawing → Bool → List ℕ → ℕ → Next → Type 0
+abbrev pub NextIs : Drawing → Bool → List ℕ → ℕ → NextEnd → Type 0
 NextIs links direction bits f Stop = findNearest links direction (linkOf (length links) f) (endPoint links f) bits ≡ none
 NextIs links direction bits f (Leave e) =
     (findNearest links direction (linkOf (length links) f) (endPoint links f) bits ≡ some (moveOf (length links) direction e))
     × (e < 2 * length links)
-    × (isLeft bits (moveOf (length links) direction e) ≡ true)
+    × (remains bits (moveOf (length links) direction e) ≡ true)
 
 -- the walk that begins with link k
 abbrev pub walkAt : Drawing → List ℕ → ℕ → Option (List Move)

@@ -2,15 +2,15 @@
 // assumes nothing of its own.
 mod nearest;
 
-use clip_walk::Next;
+use moves::NextEnd;
 use nearest::find_nearest;
 ghost use mathlib.Core.Path.{_≡_};
 ghost use Prim.Native.Nat.{_*_, _%_, _≤_, _<_};
 ghost use lib.ListN.{length, getD};
 ghost use Rattle.segm.specs.Segments.{segments};
-ghost use Rattle.clip_walk.specs.Walk.{bitsLeft};
+ghost use Rattle.moves.specs.Moves.{bitsRemaining};
 ghost use Rattle.slice_walk.specs.Walk.{walks};
-ghost use Rattle.slice_walk.specs.Writing.{Walking, walkAt, WalkIs, WalksAre};
+ghost use Rattle.slice_walk.specs.Writing.{SliceLists, walkAt, WalkIs, WalksAre};
 
 // How a walk ends: back where it began, after so many moves, or where it finds no move.
 pub enum Walked {
@@ -34,22 +34,22 @@ fn walk(
     k: usize,
     points: &mut [i32],
 ) -> Walked
-    requires { ⌜ Walking (segments (now links)) (now flat) (now starts) (now nodes) (now bits)
+    requires { ⌜ SliceLists (segments (now links)) (now flat) (now starts) (now nodes) (now bits)
         × (k < length (now bits))
         × (getD (now bits) k 0 % 4 ≡ 0 → ⊥)
-        × (2 * bitsLeft (now bits) ≤ length (now points)) ⌝ }
+        × (2 * bitsRemaining (now bits) ≤ length (now points)) ⌝ }
     ensures { λ r. ⌜ WalkIs (segments (now (links .entry))) (walkAt (segments (now (links .entry))) (now (bits .entry)) k) (now (bits .entry)) (now (points .entry)) r (now (bits .exit)) (now (points .exit)) ⌝ }
 {
     let m = bits.len();
-    let direction = clip_walk::has(bits[k], true);
+    let direction = moves::has(bits[k], true);
     let home = ends::end_point(links, k);
     let mut n: usize = 0;
-    let mut next = Next::Leave(k);
+    let mut next = NextEnd::Leave(k);
     loop {
-        let Next::Leave(e) = next else {
+        let NextEnd::Leave(e) = next else {
             return Walked::Stuck;
         };
-        clip_walk::take(nodes, bits, e, direction);
+        moves::take(nodes, bits, e, direction);
         contour::put_point(points, n, ends::end_point(links, e));
         n += 1;
         let f = graph::other_end(m, e);
@@ -71,7 +71,7 @@ pub fn write_walks(
     lengths: &mut [u16],
     directions: &mut [u8],
 ) -> Walks
-    requires { ⌜ Walking (segments (now links)) (now flat) (now starts) (now nodes) (now bits)
+    requires { ⌜ SliceLists (segments (now links)) (now flat) (now starts) (now nodes) (now bits)
         × (4 * length (now bits) ≤ length (now points))
         × (2 * length (now bits) ≤ length (now lengths))
         × (2 * length (now bits) ≤ length (now directions)) ⌝ }

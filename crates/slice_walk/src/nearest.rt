@@ -1,7 +1,7 @@
 // The choice of the next move (`find_nearest_link_to`): of the links that can be taken (`is_move_possible`), the nearest to the current one by the rotation
 // sense (`NearestVector`).
-use clip_walk::Next;
 use geom::Point;
+use moves::NextEnd;
 ghost use mathlib.Core.Path.{_≡_};
 ghost use mathlib.Core.Bool.{true};
 ghost use Prim.Native.Nat.{_*_, _<_, _≤_};
@@ -9,11 +9,11 @@ ghost use lib.ListN.{length};
 ghost use Rattle.geom.specs.Points.{inRange};
 ghost use Rattle.segm.specs.Segments.{segments};
 ghost use Rattle.graph.specs.Nodes.{part};
-ghost use Rattle.clip_walk.specs.declared.Next.the-variants.{Stop};
-ghost use Rattle.clip_walk.specs.Flat.{NodeAt};
+ghost use Rattle.moves.specs.declared.NextEnd.the-variants.{Stop};
+ghost use Rattle.moves.specs.ByEnd.{NodeAt};
 ghost use Rattle.slice_walk.specs.Walk.{isWide, isNearer};
 ghost use Rattle.slice_walk.specs.Ends.{farPoint, addEnd, nearestEnd, Leaving};
-ghost use Rattle.slice_walk.specs.Writing.{ProperLinks, Walking, NextIs};
+ghost use Rattle.slice_walk.specs.Writing.{ProperLinks, SliceLists, NextIs};
 
 // Whether the angle from a to p about c is 180 degrees or more, or none.
 fn is_wide(clockwise: bool, c: Point, a: Point, p: Point) -> bool
@@ -47,20 +47,20 @@ fn far_point(links: &[i32], e: usize) -> Point
 }
 
 // The nearer of the best end so far and e, of the ends at the point of f, whose link is the current one.
-fn add(links: &[i32], direction: bool, f: usize, best: Next, e: usize) -> Next
+fn add(links: &[i32], direction: bool, f: usize, best: NextEnd, e: usize) -> NextEnd
     requires { ⌜ ProperLinks (segments (now links))
         × (f < 2 * length (segments (now links)))
         × Leaving (λ b. b < 2 * length (segments (now links))) best
         × (e < 2 * length (segments (now links))) ⌝ }
     ensures { λ r. ⌜ r ≡ addEnd (segments (now (links .entry))) direction f best e ⌝ }
 {
-    let Next::Leave(b) = best else {
-        return Next::Leave(e);
+    let NextEnd::Leave(b) = best else {
+        return NextEnd::Leave(e);
     };
     let c = ends::end_point(links, f);
     let a = far_point(links, f);
     if is_nearer(direction, c, a, far_point(links, b), far_point(links, e)) {
-        return Next::Leave(e);
+        return NextEnd::Leave(e);
     }
     best
 }
@@ -74,7 +74,7 @@ fn find_other(
     v: usize,
     f: usize,
     direction: bool,
-) -> Next
+) -> NextEnd
     requires { ⌜ ProperLinks (segments (now links))
         × (length (now bits) ≡ length (segments (now links)))
         × NodeAt (length (now bits)) (now flat) (now starts) v
@@ -83,10 +83,10 @@ fn find_other(
 {
     let end = starts[v + 1] as usize;
     let mut j = starts[v] as usize;
-    let mut best = Next::Stop;
+    let mut best = NextEnd::Stop;
     while j < end {
         let e = flat[j] as usize;
-        if (e != f) & clip_walk::is_left(bits, e, direction) {
+        if (e != f) & moves::remains(bits, e, direction) {
             best = add(links, direction, f, best, e);
         }
         j += 1;
@@ -103,17 +103,17 @@ pub fn find_nearest(
     bits: &[u8],
     f: usize,
     direction: bool,
-) -> Next
-    requires { ⌜ Walking (segments (now links)) (now flat) (now starts) (now nodes) (now bits) × (f < 2 * length (now bits)) ⌝ }
+) -> NextEnd
+    requires { ⌜ SliceLists (segments (now links)) (now flat) (now starts) (now nodes) (now bits) × (f < 2 * length (now bits)) ⌝ }
     ensures { λ r. ⌜ NextIs (segments (now (links .entry))) direction (now (bits .entry)) f r ⌝ }
 {
     let v = nodes[f] as usize;
     let next = find_other(links, flat, starts, bits, v, f, direction);
-    let Next::Stop = next else {
+    let NextEnd::Stop = next else {
         return next;
     };
-    if clip_walk::is_left(bits, f, direction) {
-        return Next::Leave(f);
+    if moves::remains(bits, f, direction) {
+        return NextEnd::Leave(f);
     }
-    Next::Stop
+    NextEnd::Stop
 }

@@ -15,12 +15,15 @@ use Rattle.segm.specs.Segments.{Drawing}
 use Rattle.lists.proofs.Entries.{flatten-++, flatten-one}
 use Rattle.contour.specs.Points.{coordinates, Writes}
 use Rattle.contour.proofs.Written.{writes-one}
-use Rattle.clip_walk.specs.Walk.{has, Move, move, takenAll, bitsLeft, begins, andThen, pathFrom, walkFrom}
+use Rattle.moves.specs.Bits.{has}
+use Rattle.moves.specs.Moves.{Move, move, takenAll, bitsRemaining}
+use Rattle.moves.specs.Begins.{begins}
+use Rattle.moves.proofs.Moves.{taken-other, length-taken}
+use Rattle.moves.proofs.Begins.{first-remains, begins-at, begins-nowhere}
+use Rattle.clip_walk.specs.Walk.{andThen, pathFrom, walkFrom}
 use Rattle.string_clip.specs.Paths.{pathPoints}
 use Rattle.string_clip.specs.Writing.{pathAt, bitsPaths}
-use Rattle.clip_walk.proofs.Unroll.{taken-other, path-keeps, path-fewer, walk-on}
-use Rattle.clip_walk.proofs.Flat.{length-taken}
-use Rattle.clip_walk.proofs.Begins.{first-left, begins-at, begins-nowhere}
+use Rattle.clip_walk.proofs.Walk.{path-keeps, path-fewer, walk-on}
 
 module _ (links : Drawing) (bits₀ : List ℕ) where
   -- ---- the loop
@@ -80,10 +83,10 @@ module _ (links : Drawing) (bits₀ : List ℕ) where
       next =
           ap (map (pathPoints links)) (
           walk-on links bits
-          ∙ ap (λ (o : Option Move). andThen o (λ m. pathFrom links bits m ∷ walkFrom (bitsLeft (takenAll bits (pathFrom links bits m))) links (takenAll bits (pathFrom links bits m)))) begin
+          ∙ ap (λ (o : Option Move). andThen o (λ m. pathFrom links bits m ∷ walkFrom (bitsRemaining (takenAll bits (pathFrom links bits m))) links (takenAll bits (pathFrom links bits m)))) begin
           )
 
-      pub fewer : bitsLeft after < bitsLeft bits
+      pub fewer : bitsRemaining after < bitsRemaining bits
       fewer = path-fewer links bits (move k (has true (getD bits k 0))) begin
 
       all-is : bitsPaths links bits₀ ≡ w .done ++ (found ∷ bitsPaths links after)
@@ -113,16 +116,16 @@ module _ (links : Drawing) (bits₀ : List ℕ) where
             at-is = omega (arith, w .at-is, ap length (flatten-one (w .done) found), length-append (flatten (w .done)) found);
             writes = writes-one (w .writes) found part (w .at-is) (w .paths-are) room e;
             all = append-snoc (w .done) found (bitsPaths links after) ∙ sym all-is;
-            passed = λ j h. path-keeps links (λ (b : List ℕ). getD b j 0 % 4 ≡ 0) (λ b m e. taken-other b m j e) bits (move k (has true (getD bits k 0))) (first-left bits k line) (w .passed j h);
-            as-many = path-keeps links (λ (b : List ℕ). length b ≡ length links) (λ b m e h. length-taken b m ∙ h) bits (move k (has true (getD bits k 0))) (first-left bits k line) (w .as-many);
+            passed = λ j h. path-keeps links (λ (b : List ℕ). getD b j 0 % 4 ≡ 0) (λ b m e. taken-other b m j e) bits (move k (has true (getD bits k 0))) (first-remains bits k line) (w .passed j h);
+            as-many = path-keeps links (λ (b : List ℕ). length b ≡ length links) (λ b m e h. length-taken b m ∙ h) bits (move k (has true (getD bits k 0))) (first-remains bits k line) (w .as-many);
           }
 
     -- past the last link every path is written
     pub whole : length links ≤ k → w .done ≡ bitsPaths links bits₀
     whole h =
-        let none-left : bitsPaths links bits ≡ [] =
+        let none-more : bitsPaths links bits ≡ [] =
         ap (map (pathPoints links)) (
         walk-on links bits
-        ∙ ap (λ (o : Option Move). andThen o (λ m. pathFrom links bits m ∷ walkFrom (bitsLeft (takenAll bits (pathFrom links bits m))) links (takenAll bits (pathFrom links bits m)))) (begins-nowhere bits links (λ j l. w .passed j (omega arith)))
+        ∙ ap (λ (o : Option Move). andThen o (λ m. pathFrom links bits m ∷ walkFrom (bitsRemaining (takenAll bits (pathFrom links bits m))) links (takenAll bits (pathFrom links bits m)))) (begins-nowhere bits links (λ j l. w .passed j (omega arith)))
         ) in
-        sym (append-nil (w .done)) ∙ ap (w .done ++_) (sym none-left) ∙ w .all
+        sym (append-nil (w .done)) ∙ ap (w .done ++_) (sym none-more) ∙ w .all

@@ -20,12 +20,15 @@ use Rattle.fill_rule.specs.declared.Rule.{Rule}
 use Rattle.build.specs.declared.links.Filter.{Filter}
 use Rattle.ray.specs.Ray.{fill}
 use Rattle.build.specs.Links.{keeps, keptLinks}
-use Rattle.clip_walk.specs.Walk.{has, lineBits, asDrawn, linesIn, walk}
+use Rattle.moves.specs.Bits.{has, bitsSet}
+use Rattle.moves.specs.Steps.{asDrawn, AllRise}
+use Rattle.moves.specs.Worth.{value, worth, ones}
+use Rattle.moves.proofs.Moves.{bits-few}
+use Rattle.moves.proofs.Worth.{worth-ones}
+use Rattle.clip_walk.specs.Walk.{lineBits, walk}
 use Rattle.string_clip.specs.Paths.{clipPaths, stepsFrom, stepsOfPath, stepsOf, travelOf}
 use Rattle.string_clip.specs.Writing.{bitsPaths, travelOver}
-use Rattle.clip_walk.proofs.Moves.{Proper, value, worth, ones}
-use Rattle.clip_walk.proofs.Flat.{bits-few}
-use Rattle.string_clip.proofs.Steps.{Long, few-worth, paths-long, bits-steps}
+use Rattle.string_clip.proofs.Steps.{Long, paths-long, bits-steps}
 use Rattle.string_clip.proofs.Own.{kept-proper}
 
 -- ---- the travel of a segment, either way
@@ -38,7 +41,7 @@ travel-either true s = refl
 travel-either false s = ap₂ _+_ (abs-either (s .a .x) (s .b .x)) (abs-either (s .a .y) (s .b .y))
 
 -- ---- steps and travel by line bits
-value-travel : (s : Segment) (b : ℕ) → value travelOf s b ≡ linesIn b * travelOf (asDrawn true s)
+value-travel : (s : Segment) (b : ℕ) → value travelOf s b ≡ bitsSet b * travelOf (asDrawn true s)
 value-travel s b = go (has true b) (has false b)
   where
     go : (p q : Bool) → cond p (travelOf (asDrawn true s)) 0 + cond q (travelOf (asDrawn false s)) 0 ≡ (one p + one q) * travelOf (asDrawn true s)
@@ -82,15 +85,15 @@ pub record Found (links : Drawing) (bits : List ℕ) (paths : List (List Point))
   pub few-paths : length paths ≤ length (stepsOf paths)
   pub few-steps : length (stepsOf paths) ≤ 2 * length bits
 
-pub bits-found : (links : Drawing) → Proper links → (bits : List ℕ) → Found links bits (bitsPaths links bits)
-bits-found links proper bits =
+pub bits-found : (links : Drawing) → AllRise links → (bits : List ℕ) → length bits ≡ length links → Found links bits (bitsPaths links bits)
+bits-found links rise bits e =
     let paths = bitsPaths links bits in
     let l = paths-length paths (paths-long links bits) in
     record {
-      travel = bits-steps links proper bits travelOf ∙ worth-travel links bits;
+      travel = bits-steps links rise bits e travelOf ∙ worth-travel links bits;
       points = l .0;
       few-paths = l .1;
-      few-steps = omega (arith, tally-one (stepsOf paths), bits-steps links proper bits ones, few-worth links bits, bits-few bits);
+      few-steps = omega (arith, tally-one (stepsOf paths), bits-steps links rise bits e ones, worth-ones links bits e, bits-few bits);
     }
 
 -- paths by n bytes of line bits or fewer fit in lists of 8n and 2n entries
@@ -101,7 +104,7 @@ found-fit f n h = (omega (arith, f .points, f .few-paths, f .few-steps), omega (
 module _ (d : Drawing) (g : Good d) (rule : Rule) (filter : Filter) where
   pub clip-found : Found (keptLinks rule filter d) (lineBits (keptLinks rule filter d)) (clipPaths rule filter d)
   unfolding clipPaths walk
-  clip-found = bits-found (keptLinks rule filter d) (kept-proper rule filter d (g .faultless .proper)) (lineBits (keptLinks rule filter d))
+  clip-found = bits-found (keptLinks rule filter d) (kept-proper rule filter d (g .faultless .proper)) (lineBits (keptLinks rule filter d)) (length-map (keptLinks rule filter d) (λ s. natAbs (s .bits)))
 
   pub clip-fits : (2 * length (flatten (clipPaths rule filter d)) ≤ 8 * length d) × (length (clipPaths rule filter d) ≤ 2 * length d)
   unfolding keptLinks

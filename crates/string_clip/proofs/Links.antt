@@ -1,13 +1,12 @@
--- Links: how many line bits are set, and the travel over one and over all.
-use mathlib.Core.Path.{_≡_, refl, ap₂}
+-- Links: the travel over one and over all.
+use mathlib.Core.Path.{_≡_, refl}
 use mathlib.Core.List.{List, [], _∷_}
 use mathlib.Core.Logic.{inl, inr}
-use mathlib.Core.Bool.{true, false}
-use Prim.Native.Nat.{ℕ, zero, suc, _+_, _*_, _/_, _%_, _<_, _≤_}
+use mathlib.Core.Bool.{true}
+use Prim.Native.Nat.{ℕ, _+_, _*_, _<_, _≤_}
 use native.Mathlib.Nat as N
 use native.Mathlib.Numerals.{add-one}
 use native.Mathlib.Omega.{arith}
-use lib.Dec.{eqb}
 use lib.ListN.{length, getD, drop}
 use lib.Seq.{drop-cons}
 use Rattle.integers.proofs.Booleans.{both-l, both-r}
@@ -16,22 +15,13 @@ use Rattle.geom.specs.Points.{inRange}
 use Rattle.geom.proofs.Points.{near-x, near-y}
 use Rattle.segm.specs.declared.Segment.{Segment}
 use Rattle.lists.specs.Members.{_∈_}
-use Rattle.lists.specs.Sums.{one}
 use Rattle.segm.specs.Segments.{Drawing, nowhere, segmentAt}
 use Rattle.faults.specs.Faults.{endsInRange}
-use Rattle.clip_walk.specs.Walk.{has, asDrawn, linesIn}
+use Rattle.moves.specs.Bits.{bitsSet}
+use Rattle.moves.specs.Steps.{asDrawn}
+use Rattle.moves.proofs.Bits.{set-are}
 use Rattle.string_clip.specs.Paths.{travelOf}
 use Rattle.string_clip.specs.Writing.{travelOver}
-
--- ---- line bits that are set
-one-is : (m : ℕ) → m < 2 → one (eqb m 1) ≡ m
-one-is zero h = refl
-one-is (suc zero) h = refl
-one-is (suc (suc m)) h = absurd (omega arith)
-
-pub lines-are : (bits : ℕ) → one (has true bits) + one (has false bits) ≡ bits % 2 + bits / 2 % 2
-unfolding has
-lines-are bits = ap₂ _+_ (one-is (bits % 2) (omega arith)) (one-is (bits / 2 % 2) (omega arith))
 
 -- ---- travel, of a link with both ends in range
 module _ (s : Segment) (e : endsInRange s ≡ true) where
@@ -42,8 +32,8 @@ module _ (s : Segment) (e : endsInRange s ≡ true) where
       let b = both-r (inRange (s .a)) (inRange (s .b)) e in
       omega (arith, abs-- (s .b .x) (s .a .x), abs-- (s .b .y) (s .a .y), near-x (s .a) a, near-x (s .b) b, near-y (s .a) a, near-y (s .b) b)
 
-  pub link-bound : (bits : ℕ) → linesIn bits * travelOf (asDrawn true s) ≤ 134217728
-  link-bound bits = N.mul-le-mul {n₂ = 2} {m₂ = 67108864} (omega (arith, lines-are bits)) step-bound
+  pub link-bound : (bits : ℕ) → bitsSet bits * travelOf (asDrawn true s) ≤ 134217728
+  link-bound bits = N.mul-le-mul {n₂ = 2} {m₂ = 67108864} (omega (arith, set-are bits)) step-bound
 
 -- of all links
 pub travel-bound : (links : Drawing) (bits : List ℕ) → ((s : Segment) → s ∈ links → endsInRange s ≡ true) → travelOver links bits ≤ length links * 134217728
@@ -54,6 +44,6 @@ travel-bound (s ∷ links) (b ∷ bits) h = omega (arith, link-bound s (h s (inl
 
 -- from one link on
 pub travel-next : (links : Drawing) (bits : List ℕ) (i : ℕ) → i < length links → i < length bits
-    → travelOver (drop i links) (drop i bits) ≡ linesIn (getD bits i 0) * travelOf (asDrawn true (segmentAt links i)) + travelOver (drop (i + 1) links) (drop (i + 1) bits)
+    → travelOver (drop i links) (drop i bits) ≡ bitsSet (getD bits i 0) * travelOf (asDrawn true (segmentAt links i)) + travelOver (drop (i + 1) links) (drop (i + 1) bits)
 unfolding travelOver segmentAt
 travel-next links bits i h k = rw (add-one, drop-cons links i nowhere h, drop-cons bits i 0 k)

@@ -1,4 +1,4 @@
--- The segments that a run does not keep, without their line bits: a walk over the drawing by the line bits that are left finds the run's paths.
+-- The segments that a run does not keep, without their line bits: a walk over the drawing by the line bits that remain finds the run's paths.
 use mathlib.Core.Path.{_≡_, refl, sym, _∙_, ap, subst}
 use mathlib.Core.List.{[], _∷_, map}
 use mathlib.Core.Bool.{Bool, true, false, not, _&&_, cond}

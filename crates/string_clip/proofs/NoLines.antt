@@ -19,10 +19,14 @@ use Rattle.lists.specs.UpFrom.{upFrom}
 use Rattle.segm.specs.Segments.{Drawing, nowhere, segmentAt}
 use Rattle.lists.proofs.Members.{keep-map}
 use Rattle.graph.specs.Nodes.{node}
-use Rattle.clip_walk.specs.Walk.{has, clear, lineBits, Step, asDrawn, Move, move, isLeft, taken, takenAll, bitsLeft, firstLeft, bothMoves, begins, way, over, fitting, goesOn, andThen, follow, pathFrom, walkFrom, walk}
+use Rattle.moves.specs.Bits.{has, clear}
+use Rattle.moves.specs.Steps.{Step, asDrawn, way, fitting}
+use Rattle.moves.specs.Moves.{Move, move, remains, taken, takenAll, bitsRemaining, over}
+use Rattle.moves.specs.Begins.{firstRemaining, bothMoves, begins}
+use Rattle.moves.proofs.Bits.{none-set}
+use Rattle.clip_walk.specs.Walk.{lineBits, goesOn, andThen, follow, pathFrom, walkFrom, walk}
 use Rattle.string_clip.specs.Paths.{through, finished, pathPoints}
-use Rattle.clip_walk.proofs.Moves.{none-set}
-use Rattle.clip_walk.proofs.Unroll.{turn}
+use Rattle.clip_walk.proofs.Walk.{turn}
 
 -- all paths of links, by their own line bits
 abbrev pub linksPaths : Drawing → List (List Point)
@@ -98,20 +102,20 @@ abbrev orElse : Option Move → Option Move → Option Move
 orElse none o = o
 orElse (some m) o = some m
 
--- the first that is left of two lists
-first-++ : (bits : List ℕ) (k l : List Move) → firstLeft bits (k ++ l) ≡ orElse (firstLeft bits k) (firstLeft bits l)
-unfolding firstLeft
+-- the first that remains, of two lists
+first-++ : (bits : List ℕ) (k l : List Move) → firstRemaining bits (k ++ l) ≡ orElse (firstRemaining bits k) (firstRemaining bits l)
+unfolding firstRemaining
 first-++ bits [] l = refl
-first-++ bits (m ∷ k) l = go (isLeft bits m) (first-++ bits k l)
+first-++ bits (m ∷ k) l = go (remains bits m) (first-++ bits k l)
   where
-    go : (b : Bool) → firstLeft bits (k ++ l) ≡ orElse (firstLeft bits k) (firstLeft bits l)
-        → cond b (some m) (firstLeft bits (k ++ l)) ≡ orElse (cond b (some m) (firstLeft bits k)) (firstLeft bits l)
+    go : (b : Bool) → firstRemaining bits (k ++ l) ≡ orElse (firstRemaining bits k) (firstRemaining bits l)
+        → cond b (some m) (firstRemaining bits (k ++ l)) ≡ orElse (cond b (some m) (firstRemaining bits k)) (firstRemaining bits l)
     go true e = refl
     go false e = e
 
--- a link without line bits adds none to those left
-bits-more : (n : ℕ) (bits : List ℕ) → bitsLeft (putIn n 0 bits) ≡ bitsLeft bits
-unfolding bitsLeft tally
+-- a link without line bits adds none to those that remain
+bits-more : (n : ℕ) (bits : List ℕ) → bitsRemaining (putIn n 0 bits) ≡ bitsRemaining bits
+unfolding bitsRemaining tally
 bits-more zero bits = rw (none-set 0 true refl, none-set 0 false refl) (omega arith)
 bits-more (suc n) [] = refl
 bits-more (suc n) (b ∷ bits) = omega (arith, bits-more n bits)
@@ -126,46 +130,46 @@ module _ (n : ℕ) where
     abbrev more : List ℕ
     more = putIn n 0 bits
 
-    -- no move over the new link is left
-    new-not-left : (forth : Bool) → isLeft more (move n forth) ≡ false
-    unfolding isLeft
-    new-not-left forth = none-set (getD more n 0) forth (ap (_% 4) (get-in 0 n bits))
+    -- no bit of the new link remains
+    none-of-new : (forth : Bool) → remains more (move n forth) ≡ false
+    unfolding remains
+    none-of-new forth = none-set (getD more n 0) forth (ap (_% 4) (get-in 0 n bits))
 
-    -- a move over another link is left as before
-    left-renamed : (m : Move) → isLeft more (renamed m) ≡ isLeft bits m
-    unfolding isLeft
-    left-renamed m = ap (has (m .forth)) (get-moved 0 n bits (m .place) 0)
+    -- the bit of a move over another link remains as before
+    remains-renamed : (m : Move) → remains more (renamed m) ≡ remains bits m
+    unfolding remains
+    remains-renamed m = ap (has (m .forth)) (get-moved 0 n bits (m .place) 0)
 
     -- and takes the same bit
     taken-renamed : (m : Move) → taken more (renamed m) ≡ putIn n 0 (taken bits m)
     unfolding taken
     taken-renamed m = ap (λ b. set more (moved n (m .place)) (clear (m .forth) b)) (get-moved 0 n bits (m .place) 0) ∙ set-moved 0 n bits (m .place) (clear (m .forth) (getD bits (m .place) 0))
 
-    -- so the same move is the first that is left
-    first-renamed : (l : List Move) → firstLeft more (map renamed l) ≡ Option·map renamed (firstLeft bits l)
-    unfolding firstLeft
+    -- so the same move is the first whose bit remains
+    first-renamed : (l : List Move) → firstRemaining more (map renamed l) ≡ Option·map renamed (firstRemaining bits l)
+    unfolding firstRemaining
     first-renamed [] = refl
-    first-renamed (m ∷ l) = rw (left-renamed m) (go (isLeft bits m) (first-renamed l))
+    first-renamed (m ∷ l) = rw (remains-renamed m) (go (remains bits m) (first-renamed l))
       where
-        go : (b : Bool) → firstLeft more (map renamed l) ≡ Option·map renamed (firstLeft bits l)
-            → cond b (some (renamed m)) (firstLeft more (map renamed l)) ≡ Option·map renamed (cond b (some m) (firstLeft bits l))
+        go : (b : Bool) → firstRemaining more (map renamed l) ≡ Option·map renamed (firstRemaining bits l)
+            → cond b (some (renamed m)) (firstRemaining more (map renamed l)) ≡ Option·map renamed (cond b (some m) (firstRemaining bits l))
         go true e = refl
         go false e = e
 
-    -- a choice among the moves of places: the new place adds none that is left
-    choice : (G H : List ℕ → List Move) → ((l : List ℕ) → G (map (moved n) l) ≡ map renamed (H l)) → ((i : ℕ) (l : List ℕ) → firstLeft more (G (putIn i n l)) ≡ firstLeft more (G l))
-        → (s : Segment) (d : Drawing) → firstLeft more (G (upFrom 0 (length (putIn n s d)))) ≡ Option·map renamed (firstLeft bits (H (upFrom 0 (length d))))
+    -- a choice among the moves of places: the new place adds none whose bit remains
+    choice : (G H : List ℕ → List Move) → ((l : List ℕ) → G (map (moved n) l) ≡ map renamed (H l)) → ((i : ℕ) (l : List ℕ) → firstRemaining more (G (putIn i n l)) ≡ firstRemaining more (G l))
+        → (s : Segment) (d : Drawing) → firstRemaining more (G (upFrom 0 (length (putIn n s d)))) ≡ Option·map renamed (firstRemaining bits (H (upFrom 0 (length d))))
     choice G H same passed s d =
         let all = upFrom 0 (length d) in
-        ap (λ (l : List ℕ). firstLeft more (G l)) (places s n d) ∙ passed n (map (moved n) all) ∙ ap (firstLeft more) (same all) ∙ first-renamed (H all)
+        ap (λ (l : List ℕ). firstRemaining more (G l)) (places s n d) ∙ passed n (map (moved n) all) ∙ ap (firstRemaining more) (same all) ∙ first-renamed (H all)
 
     -- ---- where a path begins
     -- the two moves over the new link are passed over
-    passed-both : (i : ℕ) (l : List ℕ) → firstLeft more (bothMoves (putIn i n l)) ≡ firstLeft more (bothMoves l)
-    unfolding firstLeft bothMoves
-    passed-both zero l = rw (new-not-left true, new-not-left false)
+    passed-both : (i : ℕ) (l : List ℕ) → firstRemaining more (bothMoves (putIn i n l)) ≡ firstRemaining more (bothMoves l)
+    unfolding firstRemaining bothMoves
+    passed-both zero l = rw (none-of-new true, none-of-new false)
     passed-both (suc i) [] = refl
-    passed-both (suc i) (k ∷ l) = ap (λ (o : Option Move). cond (isLeft more (move k true)) (some (move k true)) (cond (isLeft more (move k false)) (some (move k false)) o)) (passed-both i l)
+    passed-both (suc i) (k ∷ l) = ap (λ (o : Option Move). cond (remains more (move k true)) (some (move k true)) (cond (remains more (move k false)) (some (move k false)) o)) (passed-both i l)
 
   -- the others are those there were
   both-renamed : (l : List ℕ) → bothMoves (map (moved n) l) ≡ map renamed (bothMoves l)
@@ -200,33 +204,33 @@ module _ (n : ℕ) where
         ∙ map-map (fitted at) (moved n) both ∙ sym (map-map renamed (fitted at′) both)
 
     module _ (bits : List ℕ) (at : ℕ → Segment) where
-      -- the first that is left, of the places that pass a test
+      -- the first whose bit remains, of the places that pass a test
       abbrev chosen : (ℕ → Bool) → List ℕ → Option Move
-      chosen q l = firstLeft (more bits) (map (fitted at) (keep q l))
+      chosen q l = firstRemaining (more bits) (map (fitted at) (keep q l))
 
       -- one place more
-      chosen-cons : (q : ℕ → Bool) (k : ℕ) (l : List ℕ) → chosen q (k ∷ l) ≡ cond (q k && isLeft (more bits) (fitted at k)) (some (fitted at k)) (chosen q l)
-      unfolding firstLeft keep
+      chosen-cons : (q : ℕ → Bool) (k : ℕ) (l : List ℕ) → chosen q (k ∷ l) ≡ cond (q k && remains (more bits) (fitted at k)) (some (fitted at k)) (chosen q l)
+      unfolding firstRemaining keep
       chosen-cons q k l = go (q k)
         where
-          go : (b : Bool) → firstLeft (more bits) (map (fitted at) (cond b (k ∷ keep q l) (keep q l))) ≡ cond (b && isLeft (more bits) (fitted at k)) (some (fitted at k)) (chosen q l)
+          go : (b : Bool) → firstRemaining (more bits) (map (fitted at) (cond b (k ∷ keep q l) (keep q l))) ≡ cond (b && remains (more bits) (fitted at k)) (some (fitted at k)) (chosen q l)
           go true = refl
           go false = refl
 
       -- the new place is passed over
       passed-kept : (q : ℕ → Bool) (i : ℕ) (l : List ℕ) → chosen q (putIn i n l) ≡ chosen q l
-      unfolding firstLeft keep
-      passed-kept q zero l = chosen-cons q n l ∙ ap (λ (b : Bool). cond b (some (fitted at n)) (chosen q l)) (not-r (q n) (new-not-left bits (fitting out p (at n))))
+      unfolding firstRemaining keep
+      passed-kept q zero l = chosen-cons q n l ∙ ap (λ (b : Bool). cond b (some (fitted at n)) (chosen q l)) (not-r (q n) (none-of-new bits (fitting out p (at n))))
       passed-kept q (suc i) [] = refl
       passed-kept q (suc i) (k ∷ l) =
-          chosen-cons q k (putIn i n l) ∙ ap (λ (o : Option Move). cond (q k && isLeft (more bits) (fitted at k)) (some (fitted at k)) o) (passed-kept q i l) ∙ sym (chosen-cons q k l)
+          chosen-cons q k (putIn i n l) ∙ ap (λ (o : Option Move). cond (q k && remains (more bits) (fitted at k)) (some (fitted at k)) o) (passed-kept q i l) ∙ sym (chosen-cons q k l)
 
-      -- the first that is left starts at p, or else ends there
-      chosen-fits : (l : List ℕ) → firstLeft (more bits) (fits at l) ≡ orElse (chosen (starts at) l) (chosen (stops at) l)
-      chosen-fits l = ap (firstLeft (more bits)) (map-append (fitted at) (keep (starts at) l) (keep (stops at) l)) ∙ first-++ (more bits) (map (fitted at) (keep (starts at) l)) (map (fitted at) (keep (stops at) l))
+      -- the first whose bit remains starts at p, or else ends there
+      chosen-fits : (l : List ℕ) → firstRemaining (more bits) (fits at l) ≡ orElse (chosen (starts at) l) (chosen (stops at) l)
+      chosen-fits l = ap (firstRemaining (more bits)) (map-append (fitted at) (keep (starts at) l) (keep (stops at) l)) ∙ first-++ (more bits) (map (fitted at) (keep (starts at) l)) (map (fitted at) (keep (stops at) l))
 
       -- so the new place is passed over
-      passed-fits : (i : ℕ) (l : List ℕ) → firstLeft (more bits) (fits at (putIn i n l)) ≡ firstLeft (more bits) (fits at l)
+      passed-fits : (i : ℕ) (l : List ℕ) → firstRemaining (more bits) (fits at (putIn i n l)) ≡ firstRemaining (more bits) (fits at l)
       passed-fits i l = chosen-fits (putIn i n l) ∙ ap₂ orElse (passed-kept (starts at) i l) (passed-kept (stops at) i l) ∙ sym (chosen-fits l)
 
   -- ---- what is done with the move chosen, if there is one
@@ -287,9 +291,9 @@ module _ (n : ℕ) (s : Segment) (d : Drawing) where
       let rest = taken bits m in
       let out = m .forth in
       ap (renamed n m ∷_) (
-      ap₂ (λ (p : Point) (b : List ℕ). follow (bitsLeft b) longer out p b) (same-end out m) (taken-renamed n bits m)
+      ap₂ (λ (p : Point) (b : List ℕ). follow (bitsRemaining b) longer out p b) (same-end out m) (taken-renamed n bits m)
       ∙ ap (λ turns. follow turns longer out (over d out m .end) (more n rest)) (bits-more n rest)
-      ∙ follow-same (bitsLeft rest) out (over d out m .end) rest
+      ∙ follow-same (bitsRemaining rest) out (over d out m .end) rest
       )
 
   -- which leaves the same bits
@@ -318,7 +322,7 @@ module _ (n : ℕ) (s : Segment) (d : Drawing) where
     walk-same =
         let bits = lineBits d in
         let as-many : lineBits longer ≡ more n bits = map-putIn (λ (t : Segment). natAbs (t .bits)) s n d ∙ ap (λ b. putIn n b bits) none-on in
-        ap (λ (b : List ℕ). walkFrom (bitsLeft b) longer b) as-many ∙ ap (λ turns. walkFrom turns longer (more n bits)) (bits-more n bits) ∙ walkFrom-same (bitsLeft bits) bits
+        ap (λ (b : List ℕ). walkFrom (bitsRemaining b) longer b) as-many ∙ ap (λ turns. walkFrom turns longer (more n bits)) (bits-more n bits) ∙ walkFrom-same (bitsRemaining bits) bits
 
     -- its paths come through the same points
     points-same : (l : List Move) → pathPoints longer (map (renamed n) l) ≡ pathPoints d l

@@ -11,14 +11,17 @@ use Rattle.segm.specs.Segments.{Drawing}
 use Rattle.lists.proofs.Members.{cases}
 use Rattle.ends.specs.Ends.{endPoint}
 use Rattle.graph.specs.Nodes.{otherEnd}
-use Rattle.clip_walk.specs.Walk.{has, Move, move, isLeft, taken, takenAll, bitsLeft, over, pathFrom}
+use Rattle.moves.specs.Bits.{has}
+use Rattle.moves.specs.Moves.{Move, move, remains, taken, takenAll, bitsRemaining, over}
+use Rattle.moves.specs.ByEnd.{moveOf}
+use Rattle.moves.proofs.Moves.{takes-one, length-taken, bits-few}
+use Rattle.moves.proofs.Begins.{first-remains}
+use Rattle.moves.proofs.ByEnd.{first-move, move-start, move-end}
+use Rattle.clip_walk.specs.Walk.{pathFrom}
 use Rattle.string_clip.specs.Paths.{finished, through, pathPoints}
-use Rattle.clip_walk.specs.Flat.{moveOf, Graph, graph, followEnds, Sound}
-use Rattle.string_clip.specs.Writing.{throughEnds, endsPoints, pathAt, Walking}
-use Rattle.clip_walk.proofs.Unroll.{left-taken}
-use Rattle.clip_walk.proofs.Flat.{length-taken, bits-few, follow-below}
-use Rattle.clip_walk.proofs.FlatIsWalk.{first-move, move-start, move-end, nodes-sound, path-is}
-use Rattle.clip_walk.proofs.Begins.{first-left}
+use Rattle.clip_walk.specs.Flat.{Graph, graph, followEnds, NodesKnown}
+use Rattle.string_clip.specs.Writing.{throughEnds, endsPoints, pathAt, ClipLists}
+use Rattle.clip_walk.proofs.Flat.{follow-below, nodes-known, path-is}
 
 map-on : {A : Type 0} (f g : ℕ → A) (l : List ℕ) → ((k : ℕ) → k ∈ l → f k ≡ g k) → map f l ≡ map g l
 map-on f g [] h = refl
@@ -41,7 +44,7 @@ module _ (links : Drawing) (out : Bool) where
       let forth : moveOf (length links) out k .forth ≡ out = ap (λ (m : Move). m .forth) (first-move (length links) out k h) in
       ap (finished out) (through-is k es (λ f. cases (λ q. omega arith) (b f))) ∙ ap (λ (o : Bool). finished o (through links o moves)) (sym forth)
 
-module _ {links : Drawing} {flat starts nodes bits : List ℕ} (w : Walking links flat starts nodes bits) {k : ℕ} (inside : k < length bits) where
+module _ {links : Drawing} {flat starts nodes bits : List ℕ} (w : ClipLists links flat starts nodes bits) {k : ℕ} (inside : k < length bits) where
   abbrev g : Graph
   g = graph flat starts nodes
 
@@ -52,22 +55,22 @@ module _ {links : Drawing} {flat starts nodes bits : List ℕ} (w : Walking link
   first out = first-move (length bits) out k inside
 
   -- its first move can be made
-  pub can-begin : {out : Bool} → out ≡ has true (getD bits k 0) → (getD bits k 0 % 4 ≡ 0 → ⊥) → isLeft bits (moveOf (length bits) out k) ≡ true
-  unfolding isLeft
-  can-begin {out} e h = ap (isLeft bits) (first out ∙ ap (move k) e) ∙ first-left bits k h
+  pub can-begin : {out : Bool} → out ≡ has true (getD bits k 0) → (getD bits k 0 % 4 ≡ 0 → ⊥) → remains bits (moveOf (length bits) out k) ≡ true
+  unfolding remains
+  can-begin {out} e h = ap (remains bits) (first out ∙ ap (move k) e) ∙ first-remains bits k h
 
   module _ (out : Bool) {rest : List ℕ} (r : rest ≡ taken bits (moveOf (length bits) out k)) where
     abbrev ends : List ℕ
-    ends = followEnds (bitsLeft rest) g out k rest
+    ends = followEnds (bitsRemaining rest) g out k rest
 
     pub as-many-rest : length rest ≡ length bits
     as-many-rest = ap length r ∙ length-taken bits (moveOf (length bits) out k)
 
-    pub sound-rest : Sound (length rest) g
-    sound-rest = subst (λ m. Sound m g) (sym (as-many-rest ∙ w .as-many)) (nodes-sound links (w .good .faultless .proper) flat starts nodes (w .nodes-are) (w .good .faultless .few))
+    pub known-rest : NodesKnown (length rest) g
+    known-rest = subst (λ m. NodesKnown m g) (sym (as-many-rest ∙ w .as-many)) (nodes-known (w .nodes-are) (w .good .faultless .few))
 
-    pub fewer-rest : isLeft bits (moveOf (length bits) out k) ≡ true → bitsLeft rest < 2 * length bits
-    fewer-rest h = omega (arith, ap bitsLeft r, left-taken bits (moveOf (length bits) out k) h, bits-few bits)
+    pub fewer-rest : remains bits (moveOf (length bits) out k) ≡ true → bitsRemaining rest < 2 * length bits
+    fewer-rest h = omega (arith, ap bitsRemaining r, takes-one bits (moveOf (length bits) out k) h, bits-few bits)
 
     moves : out ≡ has true (getD bits k 0) → map (moveOf (length links) out) (k ∷ ends) ≡ pathAt links bits k
     moves e =
@@ -76,7 +79,7 @@ module _ {links : Drawing} {flat starts nodes bits : List ℕ} (w : Walking link
 
     pub points-of : out ≡ has true (getD bits k 0) → endsPoints links out (k ∷ ends) ≡ pathPoints links (pathAt links bits k)
     points-of e =
-        let below : (f : ℕ) → f ∈ ends → f < 2 * length links = λ f i. omega (arith, as-many-rest, w .as-many, follow-below g out (bitsLeft rest) k rest sound-rest (omega (arith, as-many-rest)) f i) in
+        let below : (f : ℕ) → f ∈ ends → f < 2 * length links = λ f i. omega (arith, as-many-rest, w .as-many, follow-below g out (bitsRemaining rest) k rest known-rest (omega (arith, as-many-rest)) f i) in
         points-are links out k ends place below ∙ ap (pathPoints links) (moves e)
 
     pub bits-of : out ≡ has true (getD bits k 0) → takenAll rest (map (moveOf (length rest) out) ends) ≡ takenAll bits (pathAt links bits k)

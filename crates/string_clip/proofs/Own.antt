@@ -10,7 +10,7 @@ use lib.IntN.{ℤ, pos, natAbs}
 use borrow.Author.Tests.{ne-eqb}
 use Rattle.integers.proofs.Booleans.{both, both-l, both-r, clash, is-false}
 use Rattle.geom.specs.Points.{eqZ, ltP, eqP}
-use Rattle.geom.proofs.Points.{eqP-true, eq-eqP}
+use Rattle.geom.proofs.Points.{eqP-true, eq-eqP, ltP-asym}
 use Rattle.segm.specs.declared.Segment.{Segment}
 use Rattle.lists.specs.Members.{_∈_, Pairs, keep}
 use Rattle.lists.specs.Sums.{tally, one}
@@ -25,10 +25,13 @@ use Rattle.fill_rule.specs.FillRule.{filled}
 use Rattle.ray.specs.Ray.{bottom, top, fill}
 use Rattle.build.specs.Links.{sidesSet, keepsSides, keeps, filterOf, keptLinks}
 use Rattle.ray.proofs.Fills.{fill-top, fill-bottom, fill-lines}
-use Rattle.clip_walk.specs.Walk.{has, lineBits, Step, asDrawn}
+use Rattle.moves.specs.Bits.{has}
+use Rattle.moves.specs.Steps.{Step, asDrawn, AllRise}
+use Rattle.moves.specs.Worth.{worth}
+use Rattle.moves.proofs.Bits.{none-set}
+use Rattle.clip_walk.specs.Walk.{lineBits}
 use Rattle.string_clip.specs.Paths.{clipPaths, stepsOf}
 use Rattle.string_clip.specs.Claim.{Direction, along, putIf, drawn, travelled, same, enough, rayKeeps}
-use Rattle.clip_walk.proofs.Moves.{Proper, none-set, worth, not-both}
 use Rattle.string_clip.proofs.Steps.{walk-steps}
 
 -- ---- the test `same`
@@ -59,7 +62,7 @@ module _ {A : Type 0} where
 -- ---- no two directions are the same step
 -- two with the same step go the same way over the same ends
 opposite : (s t : Segment) → ltP (s .a) (s .b) ≡ true → ltP (t .a) (t .b) ≡ true → s .a ≡ t .b → s .b ≡ t .a → ⊥
-opposite s t h k e f = not-both (s .a) (s .b) h (subst (λ p. ltP p (s .a) ≡ true) (sym f) (subst (λ p. ltP (t .a) p ≡ true) (sym e) k))
+opposite s t h k e f = clash (subst (λ p. ltP p (s .a) ≡ true) (sym f) (subst (λ p. ltP (t .a) p ≡ true) (sym e) k)) (ltP-asym (s .a) (s .b) h)
 
 steps-differ : (u v : Bool) (s t : Segment) → ltP (s .a) (s .b) ≡ true → ltP (t .a) (t .b) ≡ true → (u ≡ v → sameEnds s t ≡ false) → asDrawn u s ≡ asDrawn v t → ⊥
 unfolding asDrawn sameEnds
@@ -88,7 +91,7 @@ Distinct d = Pairs (λ s t. sameEnds s t ≡ false) d
 abbrev pub Apart : List Direction → Type 0
 Apart l = Pairs (λ δ ε. travelled δ ≡ travelled ε → ⊥) l
 
-pub drawn-apart : (d : Drawing) → Proper d → Distinct d → Apart (drawn d)
+pub drawn-apart : (d : Drawing) → AllRise d → Distinct d → Apart (drawn d)
 unfolding drawn travelled
 drawn-apart [] proper distinct = tt
 drawn-apart (s ∷ d) proper distinct =
@@ -147,12 +150,12 @@ drawn-keep g P (s ∷ d) = go (P s) (drawn-keep g P d) ∙ sym (omega (arith, ta
     go true e = omega (arith, tally-drawn g s (keep P d))
     go false e = omega arith
 
-pub kept-proper : (rule : Rule) (filter : Filter) (d : Drawing) → Proper d → Proper (keptLinks rule filter d)
+pub kept-proper : (rule : Rule) (filter : Filter) (d : Drawing) → AllRise d → AllRise (keptLinks rule filter d)
 unfolding keptLinks
 kept-proper rule filter d proper s m = proper s (keep-in (λ t. keeps filter (fill rule d t)) s d m .0)
 
 -- what the steps of a run come to, for any worth of a step
-pub run-tally : (rule : Rule) (filter : Filter) (d : Drawing) → Proper d → (f : Step → ℕ)
+pub run-tally : (rule : Rule) (filter : Filter) (d : Drawing) → AllRise d → (f : Step → ℕ)
     → tally f (stepsOf (clipPaths rule filter d)) ≡ tally (λ δ. cond (keeps filter (fill rule d (δ .segment))) (f (travelled δ)) 0) (drawn d)
 unfolding clipPaths keptLinks
 run-tally rule filter d proper f =

@@ -11,7 +11,10 @@ use Rattle.lists.specs.Members.{keep}
 use Rattle.lists.specs.UpFrom.{upFrom}
 use Rattle.segm.specs.Segments.{Drawing, segmentAt}
 use Rattle.graph.specs.Nodes.{node}
-use Rattle.clip_walk.specs.Walk.{Step, step, asDrawn, Move, move, taken, takenAll, bitsLeft, firstLeft, bothMoves, begins, way, over, other, fitting, goesOn, andThen, follow, pathFrom, walkFrom}
+use Rattle.moves.specs.Steps.{Step, step, asDrawn, way, other, fitting}
+use Rattle.moves.specs.Moves.{Move, move, taken, takenAll, bitsRemaining, over}
+use Rattle.moves.specs.Begins.{firstRemaining, bothMoves, begins}
+use Rattle.clip_walk.specs.Walk.{goesOn, andThen, follow, pathFrom, walkFrom}
 use Rattle.string_clip.specs.Paths.{through, finished, pathPoints}
 use Rattle.string_clip.specs.Writing.{bitsPaths}
 
@@ -41,11 +44,11 @@ module _ (d e : Drawing) (n : length e ≡ length d) (a : (k : ℕ) → segmentA
 
   goesOn-same : (out : Bool) (p : Point) (bits : List ℕ) → goesOn e out p bits ≡ goesOn d out p bits
   unfolding goesOn
-  goesOn-same out p bits = ap₂ (λ (f : ℕ → Bool) (l : List ℕ). firstLeft bits (map (λ k. move k (f k)) l)) (fun-ext (fitting-same out p)) (node-same p)
+  goesOn-same out p bits = ap₂ (λ (f : ℕ → Bool) (l : List ℕ). firstRemaining bits (map (λ k. move k (f k)) l)) (fun-ext (fitting-same out p)) (node-same p)
 
   begins-same : (bits : List ℕ) → begins e bits ≡ begins d bits
   unfolding begins
-  begins-same bits = ap (λ m. firstLeft bits (bothMoves (upFrom 0 m))) n
+  begins-same bits = ap (λ m. firstRemaining bits (bothMoves (upFrom 0 m))) n
 
   -- ---- paths
   follow-same : (turns : ℕ) (out : Bool) (p : Point) (bits : List ℕ) → follow turns e out p bits ≡ follow turns d out p bits
@@ -59,7 +62,7 @@ module _ (d e : Drawing) (n : length e ≡ length d) (a : (k : ℕ) → segmentA
   unfolding pathFrom
   path-same bits m =
       let rest = taken bits m in
-      ap (m ∷_) (ap (λ (σ : Step). follow (bitsLeft rest) e (m .forth) (σ .end) rest) (over-same (m .forth) m) ∙ follow-same (bitsLeft rest) (m .forth) (over d (m .forth) m .end) rest)
+      ap (m ∷_) (ap (λ (σ : Step). follow (bitsRemaining rest) e (m .forth) (σ .end) rest) (over-same (m .forth) m) ∙ follow-same (bitsRemaining rest) (m .forth) (over d (m .forth) m .end) rest)
 
   walk-same : (turns : ℕ) (bits : List ℕ) → walkFrom turns e bits ≡ walkFrom turns d bits
   unfolding walkFrom
@@ -75,4 +78,4 @@ module _ (d e : Drawing) (n : length e ≡ length d) (a : (k : ℕ) → segmentA
   points-same (m ∷ l) = ap (λ (f : Move → Step). finished (m .forth) (f m .start ∷ map (λ k. f k .end) (m ∷ l))) (fun-ext (over-same (m .forth)))
 
   pub paths-same : (bits : List ℕ) → bitsPaths e bits ≡ bitsPaths d bits
-  paths-same bits = ap₂ (λ (f : List Move → List Point) (w : List (List Move)). map f w) (fun-ext points-same) (walk-same (bitsLeft bits) bits)
+  paths-same bits = ap₂ (λ (f : List Move → List Point) (w : List (List Move)). map f w) (fun-ext points-same) (walk-same (bitsRemaining bits) bits)

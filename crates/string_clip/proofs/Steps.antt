@@ -3,23 +3,29 @@ use mathlib.Core.Path.{_≡_, refl, sym, _∙_, ap, ap₂}
 use mathlib.Core.List.{List, [], _∷_, map, reverse, reverseAux}
 use mathlib.Core.Option.{Option, none, some}
 use mathlib.Core.Logic.{inl, inr}
-use mathlib.Core.Bool.{Bool, true, false, cond}
+use mathlib.Core.Bool.{Bool, true, false}
 use Prim.Native.Nat.{ℕ, zero, suc, _+_, _<_, _≤_}
 use native.Mathlib.Omega.{arith}
 use lib.ListN.{length, length-map, length-reverse}
+use lib.IntN.{natAbs}
 use Rattle.geom.specs.declared.Point.{Point}
 use Rattle.lists.specs.Members.{_∈_}
-use Rattle.lists.specs.Sums.{tally, one}
+use Rattle.lists.specs.Sums.{tally}
 use Rattle.segm.specs.Segments.{Drawing}
 use Rattle.lists.proofs.Sums.{tally-++}
-use Rattle.clip_walk.specs.Walk.{has, lineBits, Step, step, asDrawn, Move, takenAll, bitsLeft, begins, way, over, andThen, pathFrom, walkFrom, walk}
+use Rattle.clip_walk.specs.Walk.{lineBits, andThen, pathFrom, walkFrom, walk}
+use Rattle.moves.specs.Steps.{Step, step, way, AllRise}
+use Rattle.moves.specs.Moves.{Move, takenAll, bitsRemaining, over}
+use Rattle.moves.specs.Begins.{begins}
+use Rattle.moves.specs.Worth.{worth, ones, drawnBy}
+use Rattle.moves.proofs.Begins.{begins-some, begins-none}
+use Rattle.moves.proofs.Worth.{worth-ones, no-worth}
 use Rattle.string_clip.specs.Paths.{through, finished, pathPoints, stepsFrom, stepsOfPath, stepsOf}
 use Rattle.string_clip.specs.Writing.{bitsPaths}
-use Rattle.clip_walk.proofs.Moves.{Proper, worth, ones, begins-some, begins-none, Chain, drawnBy, path-does}
-use Rattle.clip_walk.proofs.Unroll.{turn}
+use Rattle.clip_walk.proofs.Walk.{LeadsOn, path-does, turn}
 
 -- ---- one path
-chain-steps : (f : Step → ℕ) (links : Drawing) (out : Bool) (p : Point) (ms : List Move) → Chain links out p ms
+chain-steps : (f : Step → ℕ) (links : Drawing) (out : Bool) (p : Point) (ms : List Move) → LeadsOn links out p ms
     → tally f (stepsFrom p (map (λ m. over links out m .end) ms)) ≡ tally (λ m. f (over links out m)) ms
 unfolding stepsFrom tally
 chain-steps f links out p [] h = refl
@@ -31,7 +37,7 @@ unfolding stepsFrom stepsOfPath tally way
 back-steps f [] acc p = omega arith
 back-steps f (q ∷ l) acc p = omega (arith, back-steps f l (p ∷ acc) q)
 
-finished-steps : (f : Step → ℕ) (links : Drawing) (out : Bool) (m : Move) (ms : List Move) → Chain links out (over links out m .start) (m ∷ ms)
+finished-steps : (f : Step → ℕ) (links : Drawing) (out : Bool) (m : Move) (ms : List Move) → LeadsOn links out (over links out m .start) (m ∷ ms)
     → tally f (stepsOfPath (finished out (through links out (m ∷ ms)))) ≡ tally (λ n. f (drawnBy links n)) (m ∷ ms)
 unfolding stepsFrom stepsOfPath finished through over way tally
 finished-steps f links true m ms h = chain-steps f links true (over links true m .start) (m ∷ ms) h
@@ -41,7 +47,7 @@ finished-steps f links false m ms h =
     let e : tally f (stepsOfPath (reverse (p ∷ r))) ≡ tally (λ σ. f (way false σ)) (stepsFrom p r) = omega (arith, back-steps f r [] p) in
     e ∙ chain-steps (λ σ. f (way false σ)) links false p (m ∷ ms) h
 
-path-steps : (f : Step → ℕ) (links : Drawing) (bits : List ℕ) (m : Move) → Chain links (m .forth) (over links (m .forth) m .start) (pathFrom links bits m)
+path-steps : (f : Step → ℕ) (links : Drawing) (bits : List ℕ) (m : Move) → LeadsOn links (m .forth) (over links (m .forth) m .start) (pathFrom links bits m)
     → tally f (stepsOfPath (pathPoints links (pathFrom links bits m))) ≡ tally (λ n. f (drawnBy links n)) (pathFrom links bits m)
 unfolding pathFrom pathPoints
 path-steps f links bits m h = finished-steps f links (m .forth) m _ h
@@ -72,27 +78,8 @@ path-long links bits m = long m _
     long n ms = omega (arith, path-length links n ms)
 
 -- ---- the walk
--- no bits, no worth
-no-worth : (f : Step → ℕ) (links : Drawing) (bits : List ℕ) → worth ones links bits ≡ 0 → worth f links bits ≡ 0
-unfolding worth
-no-worth f [] bits e = refl
-no-worth f (s ∷ links) [] e = refl
-no-worth f (s ∷ links) (b ∷ bits) e = go (has true b) (has false b) e (no-worth f links bits)
-  where
-    go : (p q : Bool) → (one p + one q) + worth ones links bits ≡ 0 → (worth ones links bits ≡ 0 → worth f links bits ≡ 0) → (cond p (f (asDrawn true s)) 0 + cond q (f (asDrawn false s)) 0) + worth f links bits ≡ 0
-    go true q h ih = absurd (omega arith)
-    go false true h ih = absurd (omega arith)
-    go false false h ih = omega (arith, ih (omega arith))
-
--- the bits that are left, of those that have a link
-pub few-worth : (links : Drawing) (bits : List ℕ) → worth ones links bits ≤ bitsLeft bits
-unfolding worth bitsLeft tally
-few-worth [] bits = omega arith
-few-worth (s ∷ links) [] = omega arith
-few-worth (s ∷ links) (b ∷ bits) = omega (arith, few-worth links bits)
-
 module _ (links : Drawing) where
-  -- from the bits that are left on
+  -- from the bits that remain on
   abbrev pathsFrom : ℕ → List ℕ → List (List Point)
   pathsFrom turns bits = map (pathPoints links) (walkFrom turns links bits)
 
@@ -107,10 +94,10 @@ module _ (links : Drawing) where
       go (some m) (inr i) ih = ih (takenAll bits (pathFrom links bits m)) path i
 
   pub paths-long : (bits : List ℕ) (path : List Point) → path ∈ bitsPaths links bits → Long path
-  paths-long bits path i = from-long (bitsLeft bits) bits path i
+  paths-long bits path i = from-long (bitsRemaining bits) bits path i
 
-  module _ (proper : Proper links) where
-    -- with turns enough for the bits that are left, the walk takes them all
+  module _ (rise : AllRise links) where
+    -- with turns enough for the bits that remain, the walk takes them all
     from-steps : (turns : ℕ) (bits : List ℕ) → worth ones links bits ≤ turns → (f : Step → ℕ) → tally f (stepsOf (pathsFrom turns bits)) ≡ worth f links bits
     unfolding walkFrom stepsOf tally
     from-steps zero bits h f = sym (no-worth f links bits (omega arith))
@@ -123,15 +110,15 @@ module _ (links : Drawing) where
         go (some m) e ih =
             let path = pathFrom links bits m in
             let after = takenAll bits path in
-            let does = path-does links proper bits m (begins-some links bits m e) in
+            let does = path-does links rise bits m (begins-some links bits m e) in
             let fewer : worth ones links after ≤ turns = omega (arith, does .0 ones, path-some links bits m) in
             omega (arith, tally-++ f (stepsOfPath (pathPoints links path)) (stepsOf (pathsFrom turns after)), path-steps f links bits m (does .1), ih after fewer f, does .0 f)
 
     -- what the steps of a walk come to, for any worth of a step
-    pub bits-steps : (bits : List ℕ) (f : Step → ℕ) → tally f (stepsOf (bitsPaths links bits)) ≡ worth f links bits
-    bits-steps bits f = from-steps (bitsLeft bits) bits (few-worth links bits) f
+    pub bits-steps : (bits : List ℕ) → length bits ≡ length links → (f : Step → ℕ) → tally f (stepsOf (bitsPaths links bits)) ≡ worth f links bits
+    bits-steps bits e f = from-steps (bitsRemaining bits) bits (omega (arith, worth-ones links bits e)) f
 
     -- and those of all line bits of the links
     pub walk-steps : (f : Step → ℕ) → tally f (stepsOf (map (pathPoints links) (walk links))) ≡ worth f links (lineBits links)
     unfolding walk
-    walk-steps f = bits-steps (lineBits links) f
+    walk-steps f = bits-steps (lineBits links) (length-map links (λ s. natAbs (s .bits))) f

@@ -28,7 +28,7 @@ use Rattle.build.specs.declared.links.Filter.{Filter}
 use Rattle.fill_rule.specs.FillRule.{ruleOf}
 use Rattle.ray.specs.Ray.{fill}
 use Rattle.build.specs.Links.{keeps, filterOf}
-use Rattle.clip_walk.specs.Walk.{Step}
+use Rattle.moves.specs.Steps.{Step}
 use Rattle.string_clip.specs.Paths.{clipPaths, stepsOf, travelOf}
 use Rattle.contour.specs.Points.{coordinates}
 use Rattle.contour.proofs.Coordinates.{length-coordinates}

@@ -15,7 +15,8 @@ use Rattle.checks.specs.Accepted.{accepts}
 use Rattle.fill_rule.specs.declared.Rule.{Rule}
 use Rattle.fill_rule.specs.FillRule.{filled, ruleOf}
 use Rattle.ray.specs.Ray.{bottom, top}
-use Rattle.clip_walk.specs.Walk.{has, Step, asDrawn}
+use Rattle.moves.specs.Bits.{has}
+use Rattle.moves.specs.Steps.{Step, asDrawn}
 use Rattle.string_clip.specs.Paths.{stepsOf, travelOf}
 use Rattle.string_clip.specs.Run.{Outcome, clipOutcome, told, output}
 

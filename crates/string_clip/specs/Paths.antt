@@ -8,7 +8,9 @@ use Rattle.segm.specs.Segments.{Drawing}
 use Rattle.fill_rule.specs.declared.Rule.{Rule}
 use Rattle.build.specs.declared.links.Filter.{Filter}
 use Rattle.build.specs.Links.{keptLinks}
-use Rattle.clip_walk.specs.Walk.{Step, step, Move, over, walk}
+use Rattle.moves.specs.Steps.{Step, step}
+use Rattle.moves.specs.Moves.{Move, over}
+use Rattle.clip_walk.specs.Walk.{walk}
 
 -- the points that moves come through, the first included
 unfoldable pub through : Drawing → Bool → List Move → List Point

@@ -9,7 +9,10 @@ use Rattle.segm.specs.Segments.{Drawing}
 use Rattle.ends.specs.Ends.{endPoint}
 use Rattle.graph.specs.Nodes.{otherEnd, Nodes}
 use Rattle.checks.specs.Accepted.{Good}
-use Rattle.clip_walk.specs.Walk.{has, asDrawn, Move, move, linesIn, bitsLeft, pathFrom, walkFrom}
+use Rattle.moves.specs.Bits.{has, bitsSet}
+use Rattle.moves.specs.Steps.{asDrawn}
+use Rattle.moves.specs.Moves.{Move, move, bitsRemaining}
+use Rattle.clip_walk.specs.Walk.{pathFrom, walkFrom}
 use Rattle.string_clip.specs.declared.run.Written.{Written}
 use Rattle.string_clip.specs.Paths.{finished, pathPoints, travelOf}
 
@@ -28,8 +31,8 @@ endsPoints links out es = finished out (throughEnds links es)
 abbrev pub pathAt : Drawing → List ℕ → ℕ → List Move
 pathAt links bits k = pathFrom links bits (move k (has true (getD bits k 0)))
 
--- what a walk over links needs of its lists. The links are all segments of a drawing, and only their ends count: their line bits are those of the list
-pub record Walking (links : Drawing) (flat starts nodes bits : List ℕ) : Type 0 where
+-- what a clip walk over links needs of its lists. The links are all segments of a drawing, and only their ends count: their line bits are those of the list
+pub record ClipLists (links : Drawing) (flat starts nodes bits : List ℕ) : Type 0 where
   pub good : Good links
   pub nodes-are : Nodes links flat starts nodes
   pub as-many : length bits ≡ length links
@@ -37,7 +40,7 @@ pub record Walking (links : Drawing) (flat starts nodes bits : List ℕ) : Type 
 -- ---- all paths
 -- those of the line bits of a list
 abbrev pub bitsPaths : Drawing → List ℕ → List (List Point)
-bitsPaths links bits = map (pathPoints links) (walkFrom (bitsLeft bits) links bits)
+bitsPaths links bits = map (pathPoints links) (walkFrom (bitsRemaining bits) links bits)
 
 -- how many paths and points these are
 abbrev pub writtenOf : List (List Point) → Written
@@ -47,4 +50,4 @@ writtenOf paths = record { paths = length paths; points = length (flatten paths)
 unfoldable pub travelOver : Drawing → List ℕ → ℕ
 travelOver [] bits = 0
 travelOver (s ∷ links) [] = 0
-travelOver (s ∷ links) (b ∷ bits) = linesIn b * travelOf (asDrawn true s) + travelOver links bits
+travelOver (s ∷ links) (b ∷ bits) = bitsSet b * travelOf (asDrawn true s) + travelOver links bits

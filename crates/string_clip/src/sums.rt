@@ -7,13 +7,14 @@ ghost use lib.ListN.{length};
 ghost use Rattle.segm.specs.Segments.{segments};
 ghost use Rattle.faults.specs.Faults.{endsInRange};
 ghost use Rattle.checks.specs.Accepted.{Good};
-ghost use Rattle.clip_walk.specs.Walk.{linesIn, asDrawn};
+ghost use Rattle.moves.specs.Bits.{bitsSet};
+ghost use Rattle.moves.specs.Steps.{asDrawn};
 ghost use Rattle.string_clip.specs.Paths.{travelOf};
 ghost use Rattle.string_clip.specs.Writing.{travelOver};
 
 // How many line bits are set.
 fn lines(bits: u8) -> u64
-    ensures { λ r. ⌜ r ≡ linesIn bits ⌝ }
+    ensures { λ r. ⌜ r ≡ bitsSet bits ⌝ }
 {
     (bits % 2 + bits / 2 % 2) as u64
 }
@@ -31,7 +32,7 @@ fn step_travel(s: Segment) -> u64
 // The travel of all steps over a link, one for each of these line bits.
 fn link_travel(s: Segment, bits: u8) -> u64
     requires { ⌜ endsInRange s ≡ true ⌝ }
-    ensures { λ r. ⌜ r ≡ linesIn bits * travelOf (asDrawn true s) ⌝ }
+    ensures { λ r. ⌜ r ≡ bitsSet bits * travelOf (asDrawn true s) ⌝ }
 {
     lines(bits) * step_travel(s)
 }

@@ -28,7 +28,10 @@ use Rattle.fill_rule.specs.FillRule.{filled, ruleOf, fillOf}
 use Rattle.strip.specs.Strip.{spans, above, clockwise}
 use Rattle.ray.specs.Ray.{met, bottom, top, fill, fills}
 use Rattle.graph.specs.Nodes.{node}
-use Rattle.clip_walk.specs.Walk.{has, clear, asDrawn, isLeft, taken, takenAll, bitsLeft, firstLeft, bothMoves, begins, way, over, other, fitting}
+use Rattle.moves.specs.Bits.{has, clear}
+use Rattle.moves.specs.Steps.{asDrawn, way, other, fitting}
+use Rattle.moves.specs.Moves.{remains, taken, takenAll, bitsRemaining, over}
+use Rattle.moves.specs.Begins.{firstRemaining, bothMoves, begins}
 use Rattle.bin_store.specs.Sightings.{isSighted, numberOf, sight}
 use Rattle.string_split.specs.Loops.{closed, bufferPoint, bufferPoints, rest, allLoops, splitLoops}
 use Rattle.slice_walk.specs.Walk.{rotated, isWide, isNearer, moveFrom, nearest, findNearest, till, walkFrom, walksFrom, walks, directionOf, walkPoints}
@@ -81,7 +84,7 @@ pub record Cases : Type 0 where
   pub all-dropped : sliceContours NonZero true 82 (segments holed) ≡ some []
 
 pub cases : Cases
-unfolding any sum tally keep written upFrom front segmentsOf count whole segments segmentAt total eqZ within ltP eqP coordinate inRange cross between endsInRange rises windingInRange bitsInRange fault faultAt meetingAt balance balances unbalancedAt meetsWrongly parts inside sameEnds side wrongLength unknownChoice tooShort firstFrom first asked askedFirst drawingVerdict faultsOf meetingsOf unbalancedOf verdict sliceRun spans above clockwise met bottom top filled ruleOf fillOf fill fills coordinates crossProduct around shoelace isClockwise isLarge node has clear asDrawn isLeft taken takenAll bitsLeft firstLeft bothMoves begins way over other fitting isSighted numberOf sight closed bufferPoint bufferPoints rest allLoops splitLoops rotated isWide isNearer moveFrom nearest findNearest till walkFrom walksFrom walks directionOf walkPoints sideBits contourOf walkContours allContours sliceContours sliceOutcome flatten
+unfolding any sum tally keep written upFrom front segmentsOf count whole segments segmentAt total eqZ within ltP eqP coordinate inRange cross between endsInRange rises windingInRange bitsInRange fault faultAt meetingAt balance balances unbalancedAt meetsWrongly parts inside sameEnds side wrongLength unknownChoice tooShort firstFrom first asked askedFirst drawingVerdict faultsOf meetingsOf unbalancedOf verdict sliceRun spans above clockwise met bottom top filled ruleOf fillOf fill fills coordinates crossProduct around shoelace isClockwise isLarge node has clear asDrawn remains taken takenAll bitsRemaining firstRemaining bothMoves begins way over other fitting isSighted numberOf sight closed bufferPoint bufferPoints rest allLoops splitLoops rotated isWide isNearer moveFrom nearest findNearest till walkFrom walksFrom walks directionOf walkPoints sideBits contourOf walkContours allContours sliceContours sliceOutcome flatten
 cases = record {
   case-A = refl;
   roles-short = refl;

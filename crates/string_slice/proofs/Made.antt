@@ -22,8 +22,8 @@ use Rattle.refusal.specs.declared.Verdict.{Verdict}
 use Rattle.refusal.specs.declared.Verdict.the-variants as verdict-is
 use Rattle.checks.specs.Accepted.{Good}
 use Rattle.fill_rule.specs.declared.Rule.{Rule}
-use Rattle.clip_walk.specs.Walk.{Move, bitsLeft}
-use Rattle.clip_walk.proofs.Flat.{bits-few}
+use Rattle.moves.specs.Moves.{Move, bitsRemaining}
+use Rattle.moves.proofs.Moves.{bits-few}
 use Rattle.slice_walk.specs.declared.Walks.{Walks}
 use Rattle.slice_walk.specs.declared.Walks.the-variants as walks-are
 use Rattle.slice_walk.specs.Walk.{walks, directionOf, walkPoints}
@@ -119,14 +119,14 @@ module _ (links : Drawing) (r : Walked) (points : List ℤ) (lengths dirs : List
 
 -- ---- the walks of an accepted drawing
 module _ (rule : Rule) (d : Drawing) (good : Good d) {n : ℕ} {points : List ℤ} {lengths dirs : List ℕ} (m : Made d (walks d (sideBits rule d)) n points lengths dirs) where
-  bits-left : bitsLeft (sideBits rule d) ≤ 2 * length d
-  bits-left = omega (arith, bits-few (sideBits rule d), length-sides rule d)
+  few-sides : bitsRemaining (sideBits rule d) ≤ 2 * length d
+  few-sides = omega (arith, bits-few (sideBits rule d), length-sides rule d)
 
   pub few-found : n ≤ 2 * length d
-  few-found = omega (arith, m .number, walks-few d (sideBits rule d) (m .found) (m .are), bits-left)
+  few-found = omega (arith, m .number, walks-few d (sideBits rule d) (m .found) (m .are), few-sides)
 
   pub few-points : length (flatten (pathsIn points (take n lengths))) ≤ 2 * length d
-  few-points = omega (arith, ap (λ (l : List (List Point)). length (flatten l)) (m .paths-are), length-all d (m .found), walks-few d (sideBits rule d) (m .found) (m .are), bits-left)
+  few-points = omega (arith, ap (λ (l : List (List Point)). length (flatten l)) (m .paths-are), length-all d (m .found), walks-few d (sideBits rule d) (m .found) (m .are), few-sides)
 
   pub stand : 4 * length d ≤ length points → Stand points (take n lengths)
   stand room =

@@ -26,7 +26,7 @@ use Rattle.checks.proofs.Accepted.{verdict-good}
 use Rattle.checks.proofs.Runs.{verdict-room}
 use Rattle.fill_rule.specs.FillRule.{ruleOf}
 use Rattle.fill_rule.proofs.Choices.{is, is-not}
-use Rattle.clip_walk.specs.Walk.{Move}
+use Rattle.moves.specs.Moves.{Move}
 use Rattle.slice_walk.specs.Walk.{walks}
 use Rattle.slice_cut.specs.declared.Contours.{Contours}
 use Rattle.slice_cut.specs.Cutting.{Holds, Stand, counts, pathsIn, cutWalks}

@@ -7,7 +7,7 @@ use Rattle.segm.specs.Segments.{Drawing}
 use Rattle.contour.specs.Contour.{Contour}
 use Rattle.fill_rule.specs.declared.Rule.{Rule}
 use Rattle.ray.specs.Ray.{fills}
-use Rattle.clip_walk.specs.Walk.{Move}
+use Rattle.moves.specs.Moves.{Move}
 use Rattle.slice_walk.specs.Walk.{walks, directionOf, walkPoints}
 use Rattle.slice_cut.specs.Cutting.{walkContours}
 

@@ -10,7 +10,7 @@ use Rattle.refusal.specs.declared.Verdict.{Verdict}
 use Rattle.refusal.specs.declared.Verdict.the-variants as verdict-is
 use Rattle.checks.specs.Runs.{verdict, sliceRun}
 use Rattle.fill_rule.specs.FillRule.{ruleOf}
-use Rattle.clip_walk.specs.Walk.{Move}
+use Rattle.moves.specs.Moves.{Move}
 use Rattle.slice_walk.specs.Walk.{walks}
 use Rattle.slice_walk.specs.Writing.{allPoints, directions}
 use Rattle.slice_cut.specs.Cutting.{pathsIn}

@@ -1,4 +1,4 @@
--- No line bit of an end passed is left: what is left of the part decides. Assumes nothing.
+-- No line bit of an end passed remains: the rest of the part decides. Assumes nothing.
 use borrow.Author.Needs.{needs}
 use mathlib.Core.Path.{_≡_, sym, ap, _∙_}
 use mathlib.Core.List.{List, _∷_}
@@ -7,9 +7,10 @@ use native.Mathlib.Numerals.{add-one}
 use Prim.Native.Nat.{ℕ, suc, _+_, _-_, _*_, _<_, _≤_}
 use lib.ListN.{length, getD}
 use Rattle.graph.specs.Nodes.{part}
-use Rattle.clip_walk.specs.declared.Next.{Next}
+use Rattle.moves.specs.declared.NextEnd.{NextEnd}
+use Rattle.moves.proofs.ByEnd.{partFrom, part-step, part-end, end-below}
 use Rattle.clip_walk.specs.Flat.{firstEnd}
-use Rattle.clip_walk.proofs.Flat.{partFrom, part-step, part-end, end-below, first-here, first-later}
+use Rattle.clip_walk.proofs.Flat.{first-here, first-later}
 use Rattle.clip_walk.proofs.find_next.Statement.{statement}
 use Rattle.clip_walk.proofs.find_next.Tie as tie
 
@@ -58,7 +59,7 @@ module _ (c : tie.In-loop Inv-loop μ-loop) where
   end = getD (s .args .starts .now) (s .args .v + 1) 0
 
   inside : end ≤ length (s .args .flat .now)
-  inside = omega (arith, l .loop .inv .1, s .pre .1 .inside)
+  inside = omega (arith, l .loop .inv .1, s .pre .1 .in-flat)
 
   here : partFrom (s .args .flat .now) end (l .loop .j) ≡ getD (s .args .flat .now) (l .loop .j) 0 ∷ partFrom (s .args .flat .now) end (l .loop .j + 1)
   here = part-step (s .args .flat .now) end (l .loop .j) (c .loop-test .taken) inside
@@ -67,8 +68,8 @@ module _ (c : tie.In-loop Inv-loop μ-loop) where
   below : getD (s .args .flat .now) (l .loop .j) 0 < 2 * length (s .args .bits .now)
   below = end-below (length (s .args .bits .now)) (s .args .flat .now) (s .args .starts .now) (s .args .v) (l .loop .j) end (s .pre .1) (l .loop .inv .0) (c .loop-test .taken) (l .loop .inv .1)
 
-  -- what is left, by the end looked at
-  abbrev first : List ℕ → Next
+  -- the rest, by the end looked at
+  abbrev first : List ℕ → NextEnd
   first = firstEnd (length (s .args .bits .now)) (s .args .out) (s .args .bits .now)
 
   step : first (part (s .args .flat .now) (s .args .starts .now) (s .args .v)) ≡ first (getD (s .args .flat .now) (l .loop .j) 0 ∷ partFrom (s .args .flat .now) end (l .loop .j + 1))
@@ -83,13 +84,13 @@ shared-slice-read-e c = omega (arith, inside (c .before), c .before .loop-test .
 cast-e : tie.Need-cast-e Inv-loop μ-loop
 cast-e c = omega (arith, c .shared-slice-known6 .given (c .before .before .loop .j))
 
-is-left-requires : tie.Need-is-left-requires Inv-loop μ-loop
-is-left-requires c κs = below (c .before)
+remains-requires : tie.Need-remains-requires Inv-loop μ-loop
+remains-requires c κs = below (c .before)
 
 returns : tie.Need-returns Inv-loop μ-loop
 returns c =
     let i = c .before .before .before in
-    sym (step i ∙ first-here (length (s i .args .bits .now)) (s i .args .out) (s i .args .bits .now) _ _ (sym (c .before .is-left .ensures) ∙ c .if1 .taken))
+    sym (step i ∙ first-here (length (s i .args .bits .now)) (s i .args .out) (s i .args .bits .now) _ _ (sym (c .before .remains .ensures) ∙ c .if1 .taken))
 
 add-j : tie.Need-add-j Inv-loop μ-loop
 add-j c = search needs
@@ -102,7 +103,7 @@ loop-again c =
     let i = c .before .before .before in (
       omega (arith, l i .loop .inv .0),
       l i .loop .inv .1,
-      step i ∙ first-later (length (s i .args .bits .now)) (s i .args .out) (s i .args .bits .now) _ _ (sym (c .before .is-left .ensures) ∙ c .if1 .left),
+      step i ∙ first-later (length (s i .args .bits .now)) (s i .args .out) (s i .args .bits .now) _ _ (sym (c .before .remains .ensures) ∙ c .if1 .left),
     )
 
 returns-2 : tie.Need-returns-2 Inv-loop μ-loop
@@ -129,7 +130,7 @@ find-next-spec =
     mul-e
     shared-slice-read-e
     cast-e
-    is-left-requires
+    remains-requires
     returns
     add-j
     loop-less

@@ -9,15 +9,17 @@ use lib.ListN.{length, set, length-set, length-append}
 use lib.Seq.{append-snoc}
 use Rattle.lists.specs.Written.{written}
 use Rattle.lists.proofs.Written.{written-more}
-use Rattle.clip_walk.specs.declared.Next.{Next}
-use Rattle.clip_walk.specs.declared.Next.the-variants.{Stop, Leave}
-use Rattle.clip_walk.specs.Walk.{bitsLeft}
-use Rattle.clip_walk.specs.Flat.{Graph, graph, nextEnd, takenBy, movesOn, bitsAfter, moveOf, Sound}
-use Rattle.clip_walk.proofs.Flat.{length-taken, bits-few, next-below, moves-on, bits-after, follow-few}
+use Rattle.moves.specs.declared.NextEnd.{NextEnd}
+use Rattle.moves.specs.declared.NextEnd.the-variants.{Stop, Leave}
+use Rattle.moves.specs.Moves.{bitsRemaining}
+use Rattle.moves.specs.ByEnd.{moveOf}
+use Rattle.moves.proofs.Moves.{length-taken, bits-few}
+use Rattle.clip_walk.specs.Flat.{Graph, graph, nextEnd, takenBy, movesOn, bitsAfter, NodesKnown}
+use Rattle.clip_walk.proofs.Flat.{next-below, moves-on, bits-after, follow-few}
 use Rattle.clip_walk.proofs.follow.Statement.{statement}
 use Rattle.clip_walk.proofs.follow.Tie as tie
 
-record Following (g : Graph) (out : Bool) (first : ℕ) (bits₀ moves₀ bits moves : List ℕ) (n : ℕ) (next : Next) : Type 0 where
+record Following (g : Graph) (out : Bool) (first : ℕ) (bits₀ moves₀ bits moves : List ℕ) (n : ℕ) (next : NextEnd) : Type 0 where
   done : List ℕ
   number : n ≡ length done
   room : length moves ≡ length moves₀
@@ -77,7 +79,7 @@ module _ (c : tie.After-known-told Inv-loop μ-loop) where
   here : movesOn g (s .args .out) (l .loop .bits) (l .loop .next) ≡ e ∷ movesOn g (s .args .out) (takenBy (s .args .out) (l .loop .bits) (nextEnd g (s .args .out) (l .loop .bits) e)) (nextEnd g (s .args .out) (l .loop .bits) e)
   here = ap (movesOn g (s .args .out) (l .loop .bits)) (c .before .next .given .1) ∙ moves-on g (s .args .out) e (l .loop .bits)
 
-  few : l .loop .n ≤ bitsLeft (s .args .bits .now)
+  few : l .loop .n ≤ bitsRemaining (s .args .bits .now)
   unfolding movesOn
   few = omega (
     arith,
@@ -85,7 +87,7 @@ module _ (c : tie.After-known-told Inv-loop μ-loop) where
     ap length (i .all),
     length-append (i .done) (movesOn g (s .args .out) (l .loop .bits) (l .loop .next)),
     ap length here,
-    follow-few g (s .args .out) (bitsLeft (s .args .bits .now)) (s .args .first) (s .args .bits .now),
+    follow-few g (s .args .out) (bitsRemaining (s .args .bits .now)) (s .args .first) (s .args .bits .now),
   )
 
   inside : l .loop .n < length (l .loop .moves)
@@ -95,10 +97,10 @@ module _ (c : tie.After-known-told Inv-loop μ-loop) where
   fits = omega (arith, few, bits-few (s .args .bits .now), s .pre .1 .few)
 
   -- what the walk does next
-  sound : Sound (length (l .loop .bits)) g
-  sound = subst (λ m. Sound m g) (sym (i .as-many)) (s .pre .1)
+  known : NodesKnown (length (l .loop .bits)) g
+  known = subst (λ m. NodesKnown m g) (sym (i .as-many)) (s .pre .1)
 
-length-takenBy : (out : Bool) (bits : List ℕ) (n : Next) → length (takenBy out bits n) ≡ length bits
+length-takenBy : (out : Bool) (bits : List ℕ) (n : NextEnd) → length (takenBy out bits n) ≡ length bits
 length-takenBy out bits Stop = refl
 length-takenBy out bits (Leave e) = length-taken bits (moveOf (length bits) out e)
 
@@ -115,7 +117,7 @@ add-n : tie.Need-add-n Inv-loop μ-loop
 add-n c = record { fits = omega (arith, fits c) }
 
 go-on-requires : tie.Need-go-on-requires Inv-loop μ-loop
-go-on-requires c κs = let k = c .before in (omega (arith, below k, i k .as-many), sound k)
+go-on-requires c κs = let k = c .before in (omega (arith, below k, i k .as-many), known k)
 
 module _ (c : tie.After-go-on Inv-loop μ-loop) where
   abbrev k : tie.After-known-told Inv-loop μ-loop
@@ -125,7 +127,7 @@ module _ (c : tie.After-go-on Inv-loop μ-loop) where
   after = takenBy (s k .args .out) (l k .loop .bits) (c .go-on .result)
 
   rest : movesOn (g k) (s k .args .out) (l k .loop .bits) (l k .loop .next) ≡ e k ∷ movesOn (g k) (s k .args .out) after (c .go-on .result)
-  rest = here k ∙ ap (λ (n : Next). e k ∷ movesOn (g k) (s k .args .out) (takenBy (s k .args .out) (l k .loop .bits) n) n) (sym (c .go-on .ensures .0))
+  rest = here k ∙ ap (λ (n : NextEnd). e k ∷ movesOn (g k) (s k .args .out) (takenBy (s k .args .out) (l k .loop .bits) n) n) (sym (c .go-on .ensures .0))
 
   taken-is : c .go-on .last .1 .1 .1 .0 ≡ after
   taken-is = c .go-on .ensures .1
@@ -150,9 +152,9 @@ loop-again c =
       as-many = length-takenBy out bits (o .go-on .result) ∙ f .as-many;
       all = append-snoc (f .done) (e (k o)) _ ∙ ap (f .done ++_) (sym (rest o)) ∙ f .all;
       after =
-          ap (λ (n : Next). bitsAfter (g (k o)) out (takenBy out bits n) n) (o .go-on .ensures .0)
+          ap (λ (n : NextEnd). bitsAfter (g (k o)) out (takenBy out bits n) n) (o .go-on .ensures .0)
           ∙ sym (ap (bitsAfter (g (k o)) out bits) (k o .before .next .given .1) ∙ bits-after (g (k o)) out (e (k o)) bits) ∙ f .after;
-      below = λ h q. omega (arith, next-below (g (k o)) out bits (e (k o)) h (sound (k o)) (omega (arith, below (k o), f .as-many)) (sym (o .go-on .ensures .0) ∙ q), f .as-many);
+      below = λ h q. omega (arith, next-below (g (k o)) out bits (e (k o)) h (known (k o)) (omega (arith, below (k o), f .as-many)) (sym (o .go-on .ensures .0) ∙ q), f .as-many);
     })
 
 same-length : tie.Need-same-length Inv-loop μ-loop
@@ -170,7 +172,7 @@ returns c =
     let f = l .loop .inv in
     let stop = c .enum-told .given .1 in
     let whole : f .done ≡ movesOn g (s .args .out) (s .args .bits .now) (Leave (s .args .first)) =
-    sym (append-nil (f .done)) ∙ ap (λ (n : Next). f .done ++ movesOn g (s .args .out) (l .loop .bits) n) (sym stop) ∙ f .all in (
+    sym (append-nil (f .done)) ∙ ap (λ (n : NextEnd). f .done ++ movesOn g (s .args .out) (l .loop .bits) n) (sym stop) ∙ f .all in (
       f .number ∙ ap length whole,
       f .list ∙ ap (λ (t : List ℕ). written t (s .args .moves .now)) whole,
       sym (ap (bitsAfter g (s .args .out) (l .loop .bits)) stop) ∙ f .after,

@@ -8,9 +8,10 @@ use Prim.Native.Nat.{ℕ, _*_, _<_}
 use lib.Dec.{ltb}
 use lib.ListN.{length, getD}
 use Rattle.graph.specs.Nodes.{otherEnd, part}
-use Rattle.clip_walk.specs.declared.Link.{Link}
-use Rattle.clip_walk.specs.Walk.{isLeft}
-use Rattle.clip_walk.specs.Flat.{moveOf, linkAt, farNode, firstEnd, Graph, graph, nextEnd, takenBy, NodeAt}
+use Rattle.moves.specs.declared.Link.{Link}
+use Rattle.moves.specs.Moves.{remains}
+use Rattle.moves.specs.ByEnd.{moveOf, linkAt, NodeAt}
+use Rattle.clip_walk.specs.Flat.{farNode, firstEnd, Graph, graph, nextEnd, takenBy}
 use Rattle.graph.proofs.Node.{link-of-end, other-end-below}
 use Rattle.clip_walk.proofs.Flat.{far-is, first-end}
 use Rattle.clip_walk.proofs.go_on.Statement.{statement}
@@ -83,7 +84,7 @@ module _ (c : tie.After-next) where
   abbrev a : tie.After-link-of
   a = o (f .before)
 
-  left : (c .next .given .0 .0 < 2 * length (bits a)) × (isLeft (bits a) (moveOf (length (bits a)) (s a .args .out) (c .next .given .0 .0)) ≡ true)
+  left : (c .next .given .0 .0 < 2 * length (bits a)) × (remains (bits a) (moveOf (length (bits a)) (s a .args .out) (c .next .given .0 .0)) ≡ true)
   left =
       let r = first-end (length (bits a)) (s a .args .out) (bits a) _ (c .next .given .0 .0) (sym (f .find-next .ensures) ∙ c .next .given .1) in
       (at-node (f .before) .ends (c .next .given .0 .0) (r .0), r .1)

@@ -13,19 +13,18 @@ use Rattle.segm.specs.Segments.{Drawing, segments}
 use Rattle.ends.specs.Ends.{endPoint}
 use Rattle.graph.specs.Nodes.{otherEnd}
 use Rattle.graph.proofs.Node.{other-end-below}
-use Rattle.clip_walk.specs.declared.Next.{Next}
-use Rattle.clip_walk.specs.declared.Next.the-variants.{Leave}
-use Rattle.clip_walk.specs.Walk.{isLeft, taken, bitsLeft}
-use Rattle.clip_walk.specs.Flat.{moveOf}
-use Rattle.clip_walk.proofs.Unroll.{left-taken}
-use Rattle.clip_walk.proofs.Flat.{length-taken, bits-few}
+use Rattle.moves.specs.declared.NextEnd.{NextEnd}
+use Rattle.moves.specs.declared.NextEnd.the-variants.{Leave}
+use Rattle.moves.specs.Moves.{remains, taken, bitsRemaining}
+use Rattle.moves.specs.ByEnd.{moveOf}
+use Rattle.moves.proofs.Moves.{takes-one, length-taken, bits-few}
 use Rattle.slice_walk.specs.Writing.{NextIs, walkAt, WalkIs}
 use Rattle.slice_walk.specs.declared.Walked.the-variants.{Closed}
 use Rattle.slice_walk.proofs.OneWalk.{Following, Opens, begin, stuck, now, few, closed, onward}
 use Rattle.slice_walk.proofs.walk.Statement.{statement}
 use Rattle.slice_walk.proofs.walk.Tie as tie
 
-record State (links : Drawing) (direction : Bool) (k : ℕ) (bits₀ : List ℕ) (points₀ : List ℤ) (bits : List ℕ) (points : List ℤ) (n : ℕ) (next : Next) : Type 0 where
+record State (links : Drawing) (direction : Bool) (k : ℕ) (bits₀ : List ℕ) (points₀ : List ℤ) (bits : List ℕ) (points : List ℤ) (n : ℕ) (next : NextEnd) : Type 0 where
   following : Following links direction k bits₀ points₀ bits points n next
   room : length points ≡ length points₀
 
@@ -33,7 +32,7 @@ abbrev Inv-loop : tie.InvT-loop
 Inv-loop links flat starts nodes bits₀ k points₀ m direction home n₀ next₀ bits points n next = State (segments links) direction k bits₀ points₀ bits points n next
 
 abbrev μ-loop : tie.MeasureT-loop
-μ-loop links flat starts nodes bits₀ k points₀ m direction home n₀ next₀ bits points n next = bitsLeft bits
+μ-loop links flat starts nodes bits₀ k points₀ m direction home n₀ next₀ bits points n next = bitsRemaining bits
 
 slice-read-has : tie.Need-slice-read-has Inv-loop μ-loop
 slice-read-has c = search needs
@@ -108,7 +107,7 @@ take-requires c κs =
       omega (arith, n .0, q),
       omega (arith, p .proper .few, q),
       omega (arith, p .nodes-are .each-end, q),
-      ap (λ m. isLeft (l k .loop .bits) (moveOf m (direction (h k)) (e k))) q ∙ n .1,
+      ap (λ m. remains (l k .loop .bits) (moveOf m (direction (h k)) (e k))) q ∙ n .1,
     )
 
 end-point-requires-2 : tie.Need-end-point-requires-2 Inv-loop μ-loop
@@ -190,8 +189,8 @@ loop-less c =
     let x = c .before .before .before in
     omega (
       arith,
-      ap bitsLeft (bits-is x),
-      left-taken (l (k x) .loop .bits) (moveOf (m x) (direction (h (k x))) (e (k x))) (now (links (h (k x))) (direction (h (k x))) (w (k x)) .1),
+      ap bitsRemaining (bits-is x),
+      takes-one (l (k x) .loop .bits) (moveOf (m x) (direction (h (k x))) (e (k x))) (now (links (h (k x))) (direction (h (k x))) (w (k x)) .1),
     )
 
 loop-again : tie.Need-loop-again Inv-loop μ-loop

@@ -7,11 +7,11 @@ use Prim.Native.Nat.{ℕ, _+_, _*_, _-_, _%_, _<_, _≤_}
 use lib.ListN.{length, getD, take, drop, set, length-set, length-take, length-drop}
 use lib.IntN.{ℤ}
 use Rattle.segm.specs.Segments.{Drawing, segments}
-use Rattle.clip_walk.specs.Walk.{bitsLeft}
-use Rattle.clip_walk.proofs.Flat.{bits-few}
+use Rattle.moves.specs.Moves.{bitsRemaining}
+use Rattle.moves.proofs.Moves.{bits-few}
 use Rattle.slice_walk.specs.Writing.{walkAt, WalkIs}
 use Rattle.slice_walk.specs.declared.Walked.{Walked}
-use Rattle.slice_walk.proofs.Written.{Found, found, not-found, Written, none-yet, pass, whole, fits, stuck, fewer, room, more}
+use Rattle.slice_walk.proofs.Written.{WalkFound, found, not-found, Written, none-yet, pass, whole, fits, stuck, fewer, room, more}
 use Rattle.slice_walk.proofs.write_walks.Statement.{statement}
 use Rattle.slice_walk.proofs.write_walks.Tie as tie
 
@@ -26,7 +26,7 @@ Inv-loop links flat starts nodes bits₀ points₀ lengths₀ directions₀ m wa
     State (segments links) bits₀ points₀ lengths₀ directions₀ bits points lengths directions walks at k
 
 abbrev μ-loop : tie.MeasureT-loop
-μ-loop links flat starts nodes bits₀ points₀ lengths₀ directions₀ m walks₀ at₀ k₀ bits points lengths directions walks at k = bitsLeft bits + (m - k)
+μ-loop links flat starts nodes bits₀ points₀ lengths₀ directions₀ m walks₀ at₀ k₀ bits points lengths directions walks at k = bitsRemaining bits + (m - k)
 
 loop-holds : tie.Need-loop-holds Inv-loop μ-loop
 loop-holds c =
@@ -74,13 +74,13 @@ module _ (e : tie.Else1 Inv-loop μ-loop) where
   line : getD (l .loop .bits) (l .loop .k) 0 % 4 ≡ 0 → ⊥
   line = e .if1 .left
 
-  few : bitsLeft (s l .args .bits .now) ≤ 2048
+  few : bitsRemaining (s l .args .bits .now) ≤ 2048
   few = omega (arith, bits-few (s l .args .bits .now), s l .pre .0 .as-many, s l .pre .0 .proper .few)
 
   walks-room : l .loop .walks < 2 * length (s l .args .bits .now)
   walks-room = omega (arith, fits (links l) (w l) inside line, bits-few (s l .args .bits .now))
 
-  points-room : 2 * (l .loop .at + bitsLeft (l .loop .bits)) ≤ length (l .loop .points)
+  points-room : 2 * (l .loop .at + bitsRemaining (l .loop .bits)) ≤ length (l .loop .points)
   points-room = omega (arith, w l .spent, bits-few (s l .args .bits .now), s l .pre .1, l .loop .inv .points-room)
 
 slice-read-directions : tie.Need-slice-read-directions Inv-loop μ-loop
@@ -175,7 +175,7 @@ module _ (c : tie.After-known-told Inv-loop μ-loop) where
   abbrev n : ℕ
   n = c .before .walked .given .0 .0
 
-  f : Found (links (l (e q))) (l (e q) .loop .bits) (past q) (rest q) (part q) (walkAt (links (l (e q))) (l (e q) .loop .bits) (l (e q) .loop .k)) n
+  f : WalkFound (links (l (e q))) (l (e q) .loop .bits) (past q) (rest q) (part q) (walkAt (links (l (e q))) (l (e q) .loop .bits) (l (e q) .loop .k)) n
   f = found (links (l (e q))) (l (e q) .loop .bits) (past q) (rest q) (part q) (walkAt (links (l (e q))) (l (e q) .loop .bits) (l (e q) .loop .k)) n (subst (Is q) (c .before .walked .given .1) (r q .walk .ensures))
 
   enough : l (e q) .loop .at + n ≤ 2048

@@ -16,7 +16,7 @@ use Rattle.build.specs.Links.{maskedBits}
 use Rattle.contour.specs.Points.{Writes}
 use Rattle.string_clip.specs.Paths.{clipPaths}
 use Rattle.string_clip.specs.Run.{totals}
-use Rattle.string_clip.specs.Writing.{Walking, bitsPaths}
+use Rattle.string_clip.specs.Writing.{ClipLists, bitsPaths}
 use Rattle.string_clip.proofs.Masked.{masked-paths}
 use Rattle.string_clip.proofs.clip_with.Statement.{statement}
 use Rattle.string_clip.proofs.clip_with.Tie as tie
@@ -79,8 +79,8 @@ module _ (i : tie.After-masked-bits) where
   bits-number : length (take (m k) bits-after) ≡ m k
   bits-number = prefix-length (m k) (s k .args .bits .now) written (bits-room k) (i .masked-bits .kept .1 .1 .1 .1 .0)
 
-  walking : Walking (d k) (take (2 * m k) (s k .args .flat .now)) (s k .args .starts .now) (take (2 * m k) (s k .args .nodes .now)) (take (m k) bits-after)
-  walking = record { good = s k .pre .0; nodes-are = nodes-are k; as-many = bits-number ∙ m-is k }
+  lists-are : ClipLists (d k) (take (2 * m k) (s k .args .flat .now)) (s k .args .starts .now) (take (2 * m k) (s k .args .nodes .now)) (take (m k) bits-after)
+  lists-are = record { good = s k .pre .0; nodes-are = nodes-are k; as-many = bits-number ∙ m-is k }
 
   paths-are : bitsPaths (d k) (take (m k) bits-after) ≡ clipPaths (s k .args .rule) (s k .args .filter) (d k)
   paths-are = ap (λ (b : List ℕ). bitsPaths (d k) b) bits-back ∙ masked-paths (s k .args .rule) (s k .args .filter) (d k)
@@ -102,7 +102,7 @@ clip-links-requires c κs =
     let i = c .before .before .before .before .before .before .before .before in
     let n = k i in
     let p = s n .pre in (
-      walking i,
+      lists-are i,
       omega (arith, bits-number i, m-is n, p .5),
       omega (arith, bits-number i, m-is n, p .6),
       omega (arith, bits-number i, m-is n, p .7),

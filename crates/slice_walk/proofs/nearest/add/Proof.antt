@@ -10,8 +10,8 @@ use Rattle.segm.specs.Segments.{Drawing, segments}
 use Rattle.ends.specs.Ends.{endPoint}
 use Rattle.graph.specs.Nodes.{otherEnd}
 use Rattle.graph.proofs.Node.{other-end-below}
-use Rattle.clip_walk.specs.declared.Next.{Next}
-use Rattle.clip_walk.specs.declared.Next.the-variants.{Leave}
+use Rattle.moves.specs.declared.NextEnd.{NextEnd}
+use Rattle.moves.specs.declared.NextEnd.the-variants.{Leave}
 use Rattle.slice_walk.specs.Walk.{isNearer}
 use Rattle.slice_walk.specs.Ends.{farPoint, addEnd, Leaving}
 use Rattle.slice_walk.proofs.Choice.{near-end}
@@ -28,7 +28,7 @@ returns : tie.Need-returns
 unfolding addEnd
 returns c =
     let a = c .before .before .args in
-    sym (ap (λ (n : Next). addEnd (segments (a .links .now)) (a .direction) (a .f) n (a .e)) (c .enum-told .given .1))
+    sym (ap (λ (n : NextEnd). addEnd (segments (a .links .now)) (a .direction) (a .f) n (a .e)) (c .enum-told .given .1))
 
 end-point-requires : tie.Need-end-point-requires
 end-point-requires c κs = search needs
@@ -86,7 +86,7 @@ module _ (c : tie.After-is-nearer) where
       c .is-nearer .ensures
       ∙ ap₂ (λ (p q : Point). isNearer (s d .args .direction) p q (d .before .far-point2 .result) (d .far-point3 .result)) (d .before .before .before .end-point .ensures) (d .before .before .far-point .ensures)
       ∙ ap₂ (isNearer (s d .args .direction) (endPoint (links d) (s d .args .f)) (farPoint (links d) (s d .args .f))) (d .before .far-point2 .ensures) (d .far-point3 .ensures) in
-      sym (ap (λ (n : Next). addEnd (links d) (s d .args .direction) (s d .args .f) n (s d .args .e)) (best-is d) ∙ ap (λ t. cond t (Leave (s d .args .e)) (Leave (b d))) (sym nearer ∙ q))
+      sym (ap (λ (n : NextEnd). addEnd (links d) (s d .args .direction) (s d .args .f) n (s d .args .e)) (best-is d) ∙ ap (λ t. cond t (Leave (s d .args .e)) (Leave (b d))) (sym nearer ∙ q))
 
 returns-2 : tie.Need-returns-2
 returns-2 c = added (c .before) true (c .if1 .taken)

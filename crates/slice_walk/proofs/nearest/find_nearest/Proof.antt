@@ -7,13 +7,13 @@ use Prim.Native.Nat.{_*_, _<_}
 use lib.ListN.{length, getD}
 use Rattle.segm.specs.Segments.{Drawing, segments}
 use Rattle.graph.specs.Nodes.{part}
-use Rattle.clip_walk.specs.declared.Next.{Next}
-use Rattle.clip_walk.specs.declared.Next.the-variants.{Stop}
-use Rattle.clip_walk.specs.Walk.{isLeft}
-use Rattle.clip_walk.specs.Flat.{moveOf, NodeAt}
-use Rattle.clip_walk.proofs.FlatIsWalk.{nodes-sound}
+use Rattle.moves.specs.declared.NextEnd.{NextEnd}
+use Rattle.moves.specs.declared.NextEnd.the-variants.{Stop}
+use Rattle.moves.specs.Moves.{remains}
+use Rattle.moves.specs.ByEnd.{moveOf, NodeAt}
+use Rattle.moves.proofs.ByEnd.{node-at}
 use Rattle.slice_walk.specs.Ends.{nearestEnd}
-use Rattle.slice_walk.specs.Writing.{Walking, NextIs}
+use Rattle.slice_walk.specs.Writing.{SliceLists, NextIs}
 use Rattle.slice_walk.proofs.Choice.{next-other, next-current, next-none}
 use Rattle.slice_walk.proofs.nearest.find_nearest.Statement.{statement}
 use Rattle.slice_walk.proofs.nearest.find_nearest.Tie as tie
@@ -34,7 +34,7 @@ module _ (c : tie.After-shared-slice-known5) where
   abbrev links : Drawing
   links = segments (s .args .links .now)
 
-  abbrev w : Walking links (s .args .flat .now) (s .args .starts .now) (s .args .nodes .now) (s .args .bits .now)
+  abbrev w : SliceLists links (s .args .flat .now) (s .args .starts .now) (s .args .nodes .now) (s .args .bits .now)
   w = s .pre .0
 
   below : s .args .f < 2 * length links
@@ -43,7 +43,7 @@ module _ (c : tie.After-shared-slice-known5) where
   at-node : NodeAt (length (s .args .bits .now)) (s .args .flat .now) (s .args .starts .now) (getD (s .args .nodes .now) (s .args .f) 0)
   at-node =
       subst (λ m. NodeAt m (s .args .flat .now) (s .args .starts .now) (getD (s .args .nodes .now) (s .args .f) 0)) (sym (w .as-many))
-      (nodes-sound links (w .proper .rises) (s .args .flat .now) (s .args .starts .now) (s .args .nodes .now) (w .nodes-are) (w .proper .few) .at-node (s .args .f) below)
+      (node-at (w .nodes-are) (s .args .f) below)
 
 find-other-requires : tie.Need-find-other-requires
 find-other-requires c κs = (w c .proper, w c .as-many, at-node c, s c .pre .1)
@@ -58,7 +58,7 @@ module _ (o : tie.After-find-other) where
   abbrev k : tie.After-shared-slice-known5
   k = o .before
 
-  found : (n : Next) → o .find-other .result ≡ n
+  found : (n : NextEnd) → o .find-other .result ≡ n
       → nearestEnd (links k) (s k .args .direction) (s k .args .f) (s k .args .bits .now) Stop (part (s k .args .flat .now) (s k .args .starts .now) (getD (s k .args .nodes .now) (s k .args .f) 0)) ≡ n
   found n q = sym (o .find-other .ensures) ∙ q
 
@@ -69,29 +69,29 @@ returns c =
     subst (NextIs (links (k o)) (s (k o) .args .direction) (s (k o) .args .bits .now) (s (k o) .args .f)) (sym told)
     (next-other (links (k o)) (w (k o) .proper) (s (k o) .args .direction) (s (k o) .args .f) (below (k o)) (s (k o) .args .bits .now) _ _ _ (w (k o) .nodes-are) _ (found o _ told))
 
-is-left-requires : tie.Need-is-left-requires
-is-left-requires c κs = search needs
+remains-requires : tie.Need-remains-requires
+remains-requires c κs = search needs
 
 -- no other end can be left
-module _ (c : tie.After-is-left) where
+module _ (c : tie.After-remains) where
   abbrev o : tie.After-find-other
   o = c .before .before .before
 
   abbrev a : tie.Start
   a = s (k o)
 
-  left : (t : Bool) → c .is-left .result ≡ t → isLeft (a .args .bits .now) (moveOf (length (links (k o))) (a .args .direction) (a .args .f)) ≡ t
-  left t q = ap (λ m. isLeft (a .args .bits .now) (moveOf m (a .args .direction) (a .args .f))) (sym (w (k o) .as-many)) ∙ sym (c .is-left .ensures) ∙ q
+  current : (t : Bool) → c .remains .result ≡ t → remains (a .args .bits .now) (moveOf (length (links (k o))) (a .args .direction) (a .args .f)) ≡ t
+  current t q = ap (λ m. remains (a .args .bits .now) (moveOf m (a .args .direction) (a .args .f))) (sym (w (k o) .as-many)) ∙ sym (c .remains .ensures) ∙ q
 
 returns-2 : tie.Need-returns-2
 returns-2 c =
     let o = o (c .before) in
-    next-current (links (k o)) (w (k o) .proper) (s (k o) .args .direction) (s (k o) .args .f) (below (k o)) (s (k o) .args .bits .now) _ _ _ (w (k o) .nodes-are) (found o Stop (c .before .before .enum-told .given .1)) (left (c .before) true (c .if1 .taken))
+    next-current (links (k o)) (w (k o) .proper) (s (k o) .args .direction) (s (k o) .args .f) (below (k o)) (s (k o) .args .bits .now) _ _ _ (w (k o) .nodes-are) (found o Stop (c .before .before .enum-told .given .1)) (current (c .before) true (c .if1 .taken))
 
 returns-3 : tie.Need-returns-3
 returns-3 c =
     let o = o (c .before) in
-    next-none (links (k o)) (w (k o) .proper) (s (k o) .args .direction) (s (k o) .args .f) (below (k o)) (s (k o) .args .bits .now) _ _ _ (w (k o) .nodes-are) (found o Stop (c .before .before .enum-told .given .1)) (left (c .before) false (c .if1 .left))
+    next-none (links (k o)) (w (k o) .proper) (s (k o) .args .direction) (s (k o) .args .f) (below (k o)) (s (k o) .args .bits .now) _ _ _ (w (k o) .nodes-are) (found o Stop (c .before .before .enum-told .given .1)) (current (c .before) false (c .if1 .left))
 
 pub find-nearest-spec : {M : Type 1} → statement M
 find-nearest-spec =
@@ -104,6 +104,6 @@ find-nearest-spec =
     enum-told
     enum-told-2
     returns
-    is-left-requires
+    remains-requires
     returns-2
     returns-3)

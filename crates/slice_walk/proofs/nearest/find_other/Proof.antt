@@ -1,4 +1,4 @@
--- The best end so far and what is left of the part decide. Assumes nothing.
+-- The best end so far and the rest of the part decide. Assumes nothing.
 use borrow.Author.Needs.{needs}
 use mathlib.Core.Path.{_≡_, sym, ap, subst, _∙_}
 use mathlib.Core.List.{List, [], _∷_}
@@ -11,11 +11,11 @@ use lib.Dec.{eqb}
 use lib.ListN.{length, getD}
 use Rattle.segm.specs.Segments.{Drawing, segments}
 use Rattle.graph.specs.Nodes.{part}
-use Rattle.clip_walk.specs.declared.Next.{Next}
-use Rattle.clip_walk.specs.declared.Next.the-variants.{Stop}
-use Rattle.clip_walk.specs.Walk.{isLeft}
-use Rattle.clip_walk.specs.Flat.{moveOf}
-use Rattle.clip_walk.proofs.Flat.{partFrom, part-step, part-end, end-below}
+use Rattle.moves.specs.declared.NextEnd.{NextEnd}
+use Rattle.moves.specs.declared.NextEnd.the-variants.{Stop}
+use Rattle.moves.specs.Moves.{remains}
+use Rattle.moves.specs.ByEnd.{moveOf}
+use Rattle.moves.proofs.ByEnd.{partFrom, part-step, part-end, end-below}
 use Rattle.slice_walk.specs.Ends.{addEnd, isOther, nearestEnd, Leaving}
 use Rattle.slice_walk.proofs.Choice.{nearest-has}
 use Rattle.slice_walk.proofs.nearest.find_other.Statement.{statement}
@@ -74,7 +74,7 @@ module _ (c : tie.In-loop Inv-loop μ-loop) where
   e = getD (s .args .flat .now) (l .loop .j) 0
 
   inside : end ≤ length (s .args .flat .now)
-  inside = omega (arith, l .loop .inv .1, s .pre .2 .inside)
+  inside = omega (arith, l .loop .inv .1, s .pre .2 .in-flat)
 
   here : partFrom (s .args .flat .now) end (l .loop .j) ≡ e ∷ partFrom (s .args .flat .now) end (l .loop .j + 1)
   here = part-step (s .args .flat .now) end (l .loop .j) (c .loop-test .taken) inside
@@ -86,8 +86,8 @@ module _ (c : tie.In-loop Inv-loop μ-loop) where
   below-links : e < 2 * length links
   below-links = omega (arith, below, s .pre .1)
 
-  -- what is left, by the end looked at
-  abbrev nearestOf : Next → List ℕ → Next
+  -- the rest, by the end looked at
+  abbrev nearestOf : NextEnd → List ℕ → NextEnd
   nearestOf = nearestEnd links (s .args .direction) (s .args .f) (s .args .bits .now)
 
   step : nearestOf Stop (part (s .args .flat .now) (s .args .starts .now) (s .args .v)) ≡ nearestOf (l .loop .best) (e ∷ partFrom (s .args .flat .now) end (l .loop .j + 1))
@@ -102,8 +102,8 @@ shared-slice-read-e c = omega (arith, inside (c .before), c .before .loop-test .
 cast-e : tie.Need-cast-e Inv-loop μ-loop
 cast-e c = omega (arith, c .shared-slice-known6 .given (c .before .before .loop .j))
 
-is-left-requires : tie.Need-is-left-requires Inv-loop μ-loop
-is-left-requires c κs = below (c .before)
+remains-requires : tie.Need-remains-requires Inv-loop μ-loop
+remains-requires c κs = below (c .before)
 
 add-requires : tie.Need-add-requires Inv-loop μ-loop
 add-requires c κs =
@@ -118,22 +118,22 @@ loop-less : tie.Need-loop-less Inv-loop μ-loop
 loop-less c = search needs
 
 -- the best end with this one
-module _ (c : tie.After-is-left Inv-loop μ-loop) where
+module _ (c : tie.After-remains Inv-loop μ-loop) where
   abbrev i : tie.In-loop Inv-loop μ-loop
   i = c .before .before
 
-  abbrev more : Next
+  abbrev more : NextEnd
   more = nearestOf i (l i .loop .best) (e i ∷ [])
 
-  other-is : isOther (links i) (s i .args .direction) (s i .args .f) (s i .args .bits .now) (e i) ≡ not (eqb (e i) (s i .args .f)) && c .is-left .result
+  other-is : isOther (links i) (s i .args .direction) (s i .args .f) (s i .args .bits .now) (e i) ≡ not (eqb (e i) (s i .args .f)) && c .remains .result
   unfolding isOther
-  other-is = ap (not (eqb (e i) (s i .args .f)) &&_) (ap (λ m. isLeft (s i .args .bits .now) (moveOf m (s i .args .direction) (e i))) (sym (s i .pre .1)) ∙ sym (c .is-left .ensures))
+  other-is = ap (not (eqb (e i) (s i .args .f)) &&_) (ap (λ m. remains (s i .args .bits .now) (moveOf m (s i .args .direction) (e i))) (sym (s i .pre .1)) ∙ sym (c .remains .ensures))
 
-  added : not (eqb (e i) (s i .args .f)) && c .is-left .result ≡ true → more ≡ addEnd (links i) (s i .args .direction) (s i .args .f) (l i .loop .best) (e i)
+  added : not (eqb (e i) (s i .args .f)) && c .remains .result ≡ true → more ≡ addEnd (links i) (s i .args .direction) (s i .args .f) (l i .loop .best) (e i)
   unfolding nearestEnd
   added q = rw (other-is ∙ q)
 
-  passed : not (eqb (e i) (s i .args .f)) && c .is-left .result ≡ false → more ≡ l i .loop .best
+  passed : not (eqb (e i) (s i .args .f)) && c .remains .result ≡ false → more ≡ l i .loop .best
   unfolding nearestEnd
   passed q = rw (other-is ∙ q)
 
@@ -148,7 +148,7 @@ loop-again c =
       omega (arith, l y .loop .inv .0),
       l y .loop .inv .1,
       subst (Leaving P) (sym (best-is c)) (nearest-has (links y) (s y .args .direction) (s y .args .f) P (s y .args .bits .now) (e y ∷ []) (l y .loop .best) (l y .loop .inv .2) (λ g m t. ⊎-elim (λ q. omega (arith, below-links y)) (λ n. absurd n) m)),
-      step y ∙ ap (λ (b : Next). nearestOf y b (partFrom (s y .args .flat .now) (end y) (l y .loop .j + 1))) (sym (best-is c)),
+      step y ∙ ap (λ (b : NextEnd). nearestOf y b (partFrom (s y .args .flat .now) (end y) (l y .loop .j + 1))) (sym (best-is c)),
     )
 
 returns : tie.Need-returns Inv-loop μ-loop
@@ -175,7 +175,7 @@ find-other-spec =
     mul-e
     shared-slice-read-e
     cast-e
-    is-left-requires
+    remains-requires
     add-requires
     add-j
     loop-less

@@ -10,14 +10,16 @@ use Rattle.geom.specs.declared.Point.{Point}
 use Rattle.lists.specs.Written.{written}
 use Rattle.segm.specs.Segments.{Drawing, segments}
 use Rattle.lists.proofs.Written.{take-written}
-use Rattle.clip_walk.specs.Walk.{has, taken, bitsLeft}
+use Rattle.moves.specs.Bits.{has}
+use Rattle.moves.specs.Moves.{taken, bitsRemaining}
+use Rattle.moves.specs.ByEnd.{moveOf}
 use Rattle.string_clip.specs.Paths.{pathPoints}
 use Rattle.contour.specs.Points.{coordinates}
-use Rattle.clip_walk.specs.Flat.{movesOn, bitsAfter, moveOf, graph, followEnds}
+use Rattle.clip_walk.specs.Flat.{movesOn, bitsAfter, graph, followEnds}
 use Rattle.string_clip.specs.Writing.{endsPoints, pathAt}
 use Rattle.string_clip.proofs.Points.{length-points}
 use Rattle.clip_walk.proofs.Flat.{follow-few}
-use Rattle.string_clip.proofs.OnePath.{can-begin, as-many-rest, sound-rest, fewer-rest, points-of, bits-of}
+use Rattle.string_clip.proofs.OnePath.{can-begin, as-many-rest, known-rest, fewer-rest, points-of, bits-of}
 use Rattle.string_clip.proofs.run.next_path.Statement.{statement}
 use Rattle.string_clip.proofs.run.next_path.Tie as tie
 
@@ -64,12 +66,12 @@ module _ (t : tie.After-take) where
   as-many = as-many-rest (s h .pre .0) (s h .pre .1) (h .has .result) rest-is
 
   abbrev ends : List ℕ
-  ends = followEnds (bitsLeft rest) (graph (s h .args .flat .now) (s h .args .starts .now) (s h .args .nodes .now)) (h .has .result) (s h .args .k) rest
+  ends = followEnds (bitsRemaining rest) (graph (s h .args .flat .now) (s h .args .starts .now) (s h .args .nodes .now)) (h .has .result) (s h .args .k) rest
 
   points-are : endsPoints (links h) (h .has .result) (s h .args .k ∷ ends) ≡ pathPoints (links h) (pathAt (links h) (bits h) (s h .args .k))
   points-are = points-of (s h .pre .0) (s h .pre .1) (h .has .result) rest-is (out-is h)
 
-  fewer : bitsLeft rest < 2 * length (bits h)
+  fewer : bitsRemaining rest < 2 * length (bits h)
   fewer =
       fewer-rest (s h .pre .0) (s h .pre .1) (h .has .result) rest-is
       (can-begin (s h .pre .0) (s h .pre .1) (out-is h) (s h .pre .2))
@@ -77,7 +79,7 @@ module _ (t : tie.After-take) where
   few : length ends ≤ 2048
   few = omega (
     arith,
-    follow-few (graph (s h .args .flat .now) (s h .args .starts .now) (s h .args .nodes .now)) (h .has .result) (bitsLeft rest) (s h .args .k) rest,
+    follow-few (graph (s h .args .flat .now) (s h .args .starts .now) (s h .args .nodes .now)) (h .has .result) (bitsRemaining rest) (s h .args .k) rest,
     fewer,
     s h .pre .0 .as-many,
     s h .pre .0 .good .faultless .few,
@@ -93,7 +95,7 @@ follow-requires c κs =
     let h = t .before .before in
     let p = s h .pre in (
       omega (arith, p .1, as-many t),
-      sound-rest (p .0) (p .1) (h .has .result) (rest-is t),
+      known-rest (p .0) (p .1) (h .has .result) (rest-is t),
       omega (arith, p .3, fewer t),
     )
 

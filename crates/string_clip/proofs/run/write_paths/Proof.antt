@@ -9,7 +9,7 @@ use lib.IntN.{ℤ}
 use Rattle.geom.specs.declared.Point.{Point}
 use Rattle.segm.specs.Segments.{Drawing, segments}
 use Rattle.contour.specs.Points.{Writes}
-use Rattle.clip_walk.specs.Walk.{bitsLeft, takenAll}
+use Rattle.moves.specs.Moves.{bitsRemaining, takenAll}
 use Rattle.string_clip.specs.Paths.{pathPoints}
 use Rattle.string_clip.specs.Writing.{pathAt, bitsPaths}
 use Rattle.string_clip.proofs.Found.{bits-found, found-fit}
@@ -28,7 +28,7 @@ Inv-loop links flat starts nodes bits₀ moves₀ points₀ lengths₀ m paths�
     State (segments links) bits₀ points₀ lengths₀ moves₀ bits moves points lengths paths at k
 
 abbrev μ-loop : tie.MeasureT-loop
-μ-loop links flat starts nodes bits₀ moves₀ points₀ lengths₀ m paths₀ at₀ k₀ bits moves points lengths paths at k = bitsLeft bits + (m - k)
+μ-loop links flat starts nodes bits₀ moves₀ points₀ lengths₀ m paths₀ at₀ k₀ bits moves points lengths paths at k = bitsRemaining bits + (m - k)
 
 loop-holds : tie.Need-loop-holds Inv-loop μ-loop
 loop-holds c =
@@ -55,7 +55,7 @@ module _ (l : tie.At-loop Inv-loop μ-loop) where
 
   -- all points and paths fit in the lists
   all-fit : (2 * length (flatten (bitsPaths links bits₀)) ≤ 8 * length bits₀) × (length (bitsPaths links bits₀) ≤ 2 * length bits₀)
-  all-fit = found-fit (bits-found links (s .pre .0 .good .faultless .proper) bits₀) (length bits₀) (omega arith)
+  all-fit = found-fit (bits-found links (s .pre .0 .good .faultless .proper) bits₀ (s .pre .0 .as-many)) (length bits₀) (omega arith)
 
 slice-read-if1 : tie.Need-slice-read-if1 Inv-loop μ-loop
 slice-read-if1 c = let l = c .before .before in omega (arith, c .before .loop-test .taken, w l .as-many, s l .pre .0 .as-many)
@@ -197,7 +197,7 @@ loop-less-2 c =
     let n = c .before .before .before .before .before in
     omega (
       arith,
-      ap bitsLeft (after-is n),
+      ap bitsRemaining (after-is n),
       fewer (links (l (e n))) (bits₀ (l (e n))) (w (l (e n))) (inside (e n)) (line (e n)),
     )
 

@@ -1,6 +1,6 @@
 use borrow.Author.Needs.{needs}
 use mathlib.Core.Path.{sym}
-use Rattle.string_clip.proofs.Links.{lines-are}
+use Rattle.moves.proofs.Bits.{set-are}
 use Rattle.string_clip.proofs.sums.lines.Statement.{statement}
 use Rattle.string_clip.proofs.sums.lines.Tie as tie
 
@@ -11,7 +11,7 @@ cast-result : tie.Need-cast-result
 cast-result c = search needs
 
 returns : tie.Need-returns
-returns c = sym (lines-are (c .args .bits))
+returns c = sym (set-are (c .args .bits))
 
 pub lines-spec : {M : Type 1} → statement M
 lines-spec = tie.close (tie.spec add-result cast-result returns)

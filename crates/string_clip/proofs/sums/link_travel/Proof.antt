@@ -4,7 +4,8 @@ use mathlib.Core.Path.{_≡_, ap₂}
 use mathlib.Core.Bool.{true}
 use native.Mathlib.Omega.{arith}
 use Prim.Native.Nat.{_*_}
-use Rattle.clip_walk.specs.Walk.{asDrawn, linesIn}
+use Rattle.moves.specs.Bits.{bitsSet}
+use Rattle.moves.specs.Steps.{asDrawn}
 use Rattle.string_clip.specs.Paths.{travelOf}
 use Rattle.string_clip.proofs.Links.{link-bound}
 use Rattle.string_clip.proofs.sums.link_travel.Statement.{statement}
@@ -20,7 +21,7 @@ module _ (c : tie.After-step-travel) where
   abbrev s : tie.Start
   s = c .before .before
 
-  product : c .before .lines .result * c .step-travel .result ≡ linesIn (s .args .bits) * travelOf (asDrawn true (s .args .s))
+  product : c .before .lines .result * c .step-travel .result ≡ bitsSet (s .args .bits) * travelOf (asDrawn true (s .args .s))
   product = ap₂ _*_ (c .before .lines .ensures) (c .step-travel .ensures)
 
 mul-result : tie.Need-mul-result

@@ -9,7 +9,7 @@ use lib.Signed.{mag}
 use mir.Syntax.{w32}
 use mir.Val.{toZ, ofZ}
 use Rattle.integers.proofs.Machine.{read}
-use Rattle.clip_walk.specs.Walk.{asDrawn}
+use Rattle.moves.specs.Steps.{asDrawn}
 use Rattle.string_clip.specs.Paths.{travelOf}
 use Rattle.string_clip.proofs.Links.{step-bound}
 use Rattle.string_clip.proofs.sums.step_travel.Statement.{statement}

@@ -9,7 +9,8 @@ use lib.ListN.{length, getD, drop, drop-of-length-le}
 use Rattle.segm.specs.declared.Segment.{Segment}
 use Rattle.segm.specs.Segments.{Drawing, segments, segmentAt}
 use Rattle.segm.proofs.Segments.{segment-in}
-use Rattle.clip_walk.specs.Walk.{asDrawn, linesIn}
+use Rattle.moves.specs.Bits.{bitsSet}
+use Rattle.moves.specs.Steps.{asDrawn}
 use Rattle.string_clip.specs.Paths.{travelOf}
 use Rattle.string_clip.specs.Writing.{travelOver}
 use Rattle.string_clip.proofs.Links.{travel-bound, travel-next}
@@ -55,8 +56,8 @@ module _ (c : tie.After-link-travel Inv-loop μ-loop) where
   abbrev bits : List ℕ
   bits = s .args .bits .now
 
-  link : c .link-travel .result ≡ linesIn (getD bits (l .loop .i) 0) * travelOf (asDrawn true (segmentAt d (l .loop .i)))
-  link = c .link-travel .ensures ∙ ap (λ (t : Segment). linesIn (getD bits (l .loop .i) 0) * travelOf (asDrawn true t)) (o .segment-in .ensures)
+  link : c .link-travel .result ≡ bitsSet (getD bits (l .loop .i) 0) * travelOf (asDrawn true (segmentAt d (l .loop .i)))
+  link = c .link-travel .ensures ∙ ap (λ (t : Segment). bitsSet (getD bits (l .loop .i) 0) * travelOf (asDrawn true t)) (o .segment-in .ensures)
 
   next : (l .loop .sum + c .link-travel .result) + travelOver (drop (l .loop .i + 1) d) (drop (l .loop .i + 1) bits) ≡ travelOver d bits
   next =

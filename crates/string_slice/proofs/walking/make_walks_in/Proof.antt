@@ -15,7 +15,7 @@ use Rattle.checks.specs.Accepted.{Good}
 use Rattle.checks.proofs.Accepted.{verdict-good}
 use Rattle.fill_rule.specs.declared.Rule.{Rule}
 use Rattle.fill_rule.specs.FillRule.{ruleOf}
-use Rattle.clip_walk.specs.Walk.{Move}
+use Rattle.moves.specs.Moves.{Move}
 use Rattle.slice_walk.specs.Walk.{walks}
 use Rattle.slice_walk.specs.Writing.{WalksAre}
 use Rattle.string_slice.specs.declared.walking.Walked.{Walked}

@@ -15,7 +15,7 @@ use Rattle.graph.proofs.Fronts.{front-nodes, ends-room, numbers-room}
 use Rattle.ray.specs.Ray.{fills}
 use Rattle.ray.proofs.Fills.{length-fills}
 use Rattle.slice_walk.specs.Walk.{walks}
-use Rattle.slice_walk.specs.Writing.{Walking, WalksAre}
+use Rattle.slice_walk.specs.Writing.{SliceLists, WalksAre}
 use Rattle.string_slice.specs.Contours.{sideBits}
 use Rattle.string_slice.proofs.Sides.{proper}
 use Rattle.string_slice.proofs.walking.walk_links.Statement.{statement}
@@ -117,8 +117,8 @@ module _ (h : tie.After-keep-sides) where
   abbrev n : tie.After-count
   n = k (f h)
 
-  walking : Walking (links n) (take (2 * m n) (s n .args .flat .now)) (s n .args .starts .now) (take (2 * m n) (s n .args .nodes .now)) (take (m n) (bits-after h))
-  walking = record { proper = proper (links n) (s n .pre .0); nodes-are = nodes-are n; as-many = bits-number h ∙ m-is n }
+  lists-are : SliceLists (links n) (take (2 * m n) (s n .args .flat .now)) (s n .args .starts .now) (take (2 * m n) (s n .args .nodes .now)) (take (m n) (bits-after h))
+  lists-are = record { proper = proper (links n) (s n .pre .0); nodes-are = nodes-are n; as-many = bits-number h ∙ m-is n }
 
 slice-aggregate-write-walks : tie.Need-slice-aggregate-write-walks
 slice-aggregate-write-walks c = let k = n (c .before .before .before) in sym (length-take-le _ _ (flat-room k))
@@ -136,7 +136,7 @@ write-walks-requires : tie.Need-write-walks-requires
 write-walks-requires c κs =
     let b = c .before .before .before .before .before .before .before .before in
     let p = s (n b) .pre in (
-      walking b,
+      lists-are b,
       omega (arith, bits-number b, m-is (n b), p .5),
       omega (arith, bits-number b, m-is (n b), p .6),
       omega (arith, bits-number b, m-is (n b), p .7),
