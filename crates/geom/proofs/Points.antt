@@ -1,17 +1,17 @@
 -- What the tests of `Points` tell, and the order of points: total, transitive, antisymmetric.
-use mathlib.Core.Path.{_≡_, ap, subst}
+use mathlib.Core.Path.{_≡_, ap, ap₂, subst}
 use mathlib.Core.Logic.{_⊎_, inl, inr}
 use mathlib.Core.Bool.{true, false, _&&_}
-use Prim.Native.Nat.{_≤_, _<_, _^_}
+use Prim.Native.Nat.{_+_, _≤_, _<_, _^_}
 use native.Mathlib.Omega.{arith}
-use lib.IntN.{ℤ, pos, negℤ, natAbs}
+use lib.IntN.{ℤ, pos, negℤ, natAbs, _-ℤ_}
 use lib.Dec.{eqb}
 use lib.Signed.{ltZ, leZ, mag, _≤ℤ_, _<ℤ_}
 use mir.Syntax.{Width}
 use mir.Val.{ofZ, hbits}
 use borrow.Author.Tests.{eq-eqb, eqb-true}
 use Rattle.integers.proofs.Booleans.{both, both-l, both-r, or-l, or-r, one-of, clash, is-false, same-test}
-use Rattle.integers.proofs.Linear.{ints}
+use Rattle.integers.proofs.Linear.{ints, of--, of-abs, of-side}
 use Rattle.integers.proofs.Laws.{≤ℤ-antisym}
 use Rattle.integers.proofs.Machine.{bits-eq}
 use Rattle.integers.proofs.Order.{order, ltZ-true, ltZ-false, leZ-true, lt-ltZ, le-ltZ, le-leZ, abs-in, abs--}
@@ -140,6 +140,14 @@ not-less-trans p q r h k = is-false (ltP r p) (λ e. go (compare p q) (ltP-true 
 pub travel-bound : (p q : Point) → inRange p ≡ true → inRange q ≡ true → travel p q ≤ 67108864
 unfolding travel
 travel-bound p q hp hq = omega (arith, abs-- (q .x) (p .x), abs-- (q .y) (p .y), near-x p hp, near-x q hq, near-y p hp, near-y q hq)
+
+-- and the same back
+abs-either : (m n : ℤ) → natAbs (m -ℤ n) ≡ natAbs (n -ℤ m)
+abs-either m n = omega (ints, of-abs (m -ℤ n), of-abs (n -ℤ m), of-- m n, of-- n m, of-side (m -ℤ n), of-side (n -ℤ m))
+
+pub travel-back : (p q : Point) → travel q p ≡ travel p q
+unfolding travel
+travel-back p q = ap₂ _+_ (abs-either (p .x) (q .x)) (abs-either (p .y) (q .y))
 
 -- of two points the one that is not less has the greater x, or the same
 pub not-less-x : (p q : Point) → ltP q p ≡ false → p .x ≤ℤ q .x

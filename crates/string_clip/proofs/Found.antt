@@ -9,6 +9,8 @@ use lib.ListN.{length, length-append, length-map}
 use lib.IntN.{ℤ, natAbs, _-ℤ_}
 use Rattle.integers.proofs.Linear.{ints, of--, of-abs, of-side}
 use Rattle.geom.specs.declared.Point.{Point}
+use Rattle.geom.specs.Points.{travel}
+use Rattle.geom.proofs.Points.{travel-back}
 use Rattle.segm.specs.declared.Segment.{Segment}
 use Rattle.lists.specs.Members.{_∈_}
 use Rattle.lists.specs.Sums.{tally, one}
@@ -32,21 +34,18 @@ use Rattle.string_clip.proofs.Steps.{Long, paths-long, bits-steps}
 use Rattle.string_clip.proofs.Own.{kept-proper}
 
 -- ---- the travel of a segment, either way
-abs-either : (m n : ℤ) → natAbs (m -ℤ n) ≡ natAbs (n -ℤ m)
-abs-either m n = omega (ints, of-abs (m -ℤ n), of-abs (n -ℤ m), of-- m n, of-- n m, of-side (m -ℤ n), of-side (n -ℤ m))
-
-pub travel-either : (forth : Bool) (s : Segment) → travelOf (asDrawn forth s) ≡ travelOf (asDrawn true s)
+pub travel-either : (forth : Bool) (s : Segment) → travelOf (asDrawn forth s) ≡ travel (s .a) (s .b)
 unfolding travelOf asDrawn
 travel-either true s = refl
-travel-either false s = ap₂ _+_ (abs-either (s .a .x) (s .b .x)) (abs-either (s .a .y) (s .b .y))
+travel-either false s = travel-back (s .a) (s .b)
 
 -- ---- steps and travel by line bits
-value-travel : (s : Segment) (b : ℕ) → value travelOf s b ≡ bitsSet b * travelOf (asDrawn true s)
+value-travel : (s : Segment) (b : ℕ) → value travelOf s b ≡ bitsSet b * travel (s .a) (s .b)
 value-travel s b = go (has true b) (has false b)
   where
-    go : (p q : Bool) → cond p (travelOf (asDrawn true s)) 0 + cond q (travelOf (asDrawn false s)) 0 ≡ (one p + one q) * travelOf (asDrawn true s)
-    go true true = omega (arith, travel-either false s)
-    go true false = omega arith
+    go : (p q : Bool) → cond p (travelOf (asDrawn true s)) 0 + cond q (travelOf (asDrawn false s)) 0 ≡ (one p + one q) * travel (s .a) (s .b)
+    go true true = omega (arith, travel-either true s, travel-either false s)
+    go true false = omega (arith, travel-either true s)
     go false true = omega (arith, travel-either false s)
     go false false = omega arith
 

@@ -11,39 +11,33 @@ use lib.ListN.{length, getD, drop}
 use lib.Seq.{drop-cons}
 use Rattle.integers.proofs.Booleans.{both-l, both-r}
 use Rattle.integers.proofs.Order.{abs--}
-use Rattle.geom.specs.Points.{inRange}
-use Rattle.geom.proofs.Points.{near-x, near-y}
+use Rattle.geom.specs.Points.{inRange, travel}
+use Rattle.geom.proofs.Points.{travel-bound}
 use Rattle.segm.specs.declared.Segment.{Segment}
 use Rattle.lists.specs.Members.{_∈_}
 use Rattle.segm.specs.Segments.{Drawing, nowhere, segmentAt}
 use Rattle.faults.specs.Faults.{endsInRange}
 use Rattle.moves.specs.Bits.{bitsSet}
-use Rattle.moves.specs.Steps.{asDrawn}
 use Rattle.moves.proofs.Bits.{set-are}
-use Rattle.string_clip.specs.Paths.{travelOf}
 use Rattle.string_clip.specs.Writing.{travelOver}
 
 -- ---- travel, of a link with both ends in range
 module _ (s : Segment) (e : endsInRange s ≡ true) where
-  pub step-bound : travelOf (asDrawn true s) ≤ 67108864
-  unfolding travelOf asDrawn endsInRange
-  step-bound =
-      let a = both-l (inRange (s .a)) (inRange (s .b)) e in
-      let b = both-r (inRange (s .a)) (inRange (s .b)) e in
-      omega (arith, abs-- (s .b .x) (s .a .x), abs-- (s .b .y) (s .a .y), near-x (s .a) a, near-x (s .b) b, near-y (s .a) a, near-y (s .b) b)
-
-  pub link-bound : (bits : ℕ) → bitsSet bits * travelOf (asDrawn true s) ≤ 134217728
-  link-bound bits = N.mul-le-mul {n₂ = 2} {m₂ = 67108864} (omega (arith, set-are bits)) step-bound
+  pub link-bound : (bits : ℕ) → bitsSet bits * travel (s .a) (s .b) ≤ 134217728
+  unfolding endsInRange
+  link-bound bits =
+      N.mul-le-mul {n₂ = 2} {m₂ = 67108864} (omega (arith, set-are bits))
+      (travel-bound (s .a) (s .b) (both-l (inRange (s .a)) (inRange (s .b)) e) (both-r (inRange (s .a)) (inRange (s .b)) e))
 
 -- of all links
-pub travel-bound : (links : Drawing) (bits : List ℕ) → ((s : Segment) → s ∈ links → endsInRange s ≡ true) → travelOver links bits ≤ length links * 134217728
+pub all-bound : (links : Drawing) (bits : List ℕ) → ((s : Segment) → s ∈ links → endsInRange s ≡ true) → travelOver links bits ≤ length links * 134217728
 unfolding travelOver
-travel-bound [] bits h = omega arith
-travel-bound (s ∷ links) [] h = omega arith
-travel-bound (s ∷ links) (b ∷ bits) h = omega (arith, link-bound s (h s (inl refl)) b, travel-bound links bits (λ t m. h t (inr m)))
+all-bound [] bits h = omega arith
+all-bound (s ∷ links) [] h = omega arith
+all-bound (s ∷ links) (b ∷ bits) h = omega (arith, link-bound s (h s (inl refl)) b, all-bound links bits (λ t m. h t (inr m)))
 
 -- from one link on
 pub travel-next : (links : Drawing) (bits : List ℕ) (i : ℕ) → i < length links → i < length bits
-    → travelOver (drop i links) (drop i bits) ≡ bitsSet (getD bits i 0) * travelOf (asDrawn true (segmentAt links i)) + travelOver (drop (i + 1) links) (drop (i + 1) bits)
+    → travelOver (drop i links) (drop i bits) ≡ bitsSet (getD bits i 0) * travel (segmentAt links i .a) (segmentAt links i .b) + travelOver (drop (i + 1) links) (drop (i + 1) bits)
 unfolding travelOver segmentAt
 travel-next links bits i h k = rw (add-one, drop-cons links i nowhere h, drop-cons bits i 0 k)

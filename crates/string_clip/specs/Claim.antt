@@ -6,7 +6,7 @@ use mathlib.Core.Bool.{Bool, true, false, _&&_, _||_, cond}
 use Prim.Native.Nat.{ℕ, _+_, _*_, _≤_}
 use lib.ListN.{length, drop}
 use lib.IntN.{ℤ, pos, natAbs}
-use Rattle.geom.specs.Points.{eqZ, eqP}
+use Rattle.geom.specs.Points.{eqZ, eqP, travel}
 use Rattle.segm.specs.declared.Segment.{Segment}
 use Rattle.lists.specs.Members.{_∈_}
 use Rattle.lists.specs.Sums.{tally, one}
@@ -18,7 +18,7 @@ use Rattle.ray.specs.Ray.{bottom, top}
 use Rattle.moves.specs.Bits.{has}
 use Rattle.moves.specs.Steps.{Step, asDrawn}
 use Rattle.string_clip.specs.Paths.{stepsOf, travelOf}
-use Rattle.string_clip.specs.Run.{Outcome, clipOutcome, told, output}
+use Rattle.string_clip.specs.Run.{Lists, Outcome, clipOutcome, output}
 
 -- ---- the drawing's own
 -- a drawn line direction: one line bit set in one segment
@@ -48,7 +48,7 @@ ownSteps d = length (drawn d)
 
 -- the sum of |dx| + |dy| of the segment over each such bit
 unfoldable pub ownTravel : Drawing → ℕ
-ownTravel d = tally (λ (δ : Direction). travelOf (asDrawn true (δ .segment))) (drawn d)
+ownTravel d = tally (λ (δ : Direction). travel (δ .segment .a) (δ .segment .b)) (drawn d)
 
 -- ---- counting
 -- the two are one step
@@ -56,8 +56,8 @@ unfoldable pub same : Step → Step → Bool
 same σ τ = eqP (σ .start) (τ .start) && eqP (σ .end) (τ .end)
 
 -- how often a step stands in a list
-unfoldable pub count : Step → List Step → ℕ
-count σ l = tally (λ τ. one (same σ τ)) l
+unfoldable pub times : Step → List Step → ℕ
+times σ l = tally (λ τ. one (same σ τ)) l
 
 -- one of two counts is 1 and the other 0
 abbrev pub OneOf : ℕ → ℕ → Type 0
@@ -76,35 +76,36 @@ rayKeeps rule boundary d s = enough boundary (filled rule (top d s)) (filled rul
 -- what holds of the outcomes of an inside and an outside run
 pub record InsideAndOutside (d : Drawing) (rule : Rule) (boundary : ℤ) (inside outside : Outcome) : Type 0 where
   -- every drawn line direction is a step of exactly one of the two outputs, once in it, travelled as drawn
-  pub once : (δ : Direction) → δ ∈ drawn d → OneOf (count (travelled δ) (stepsOf (output inside))) (count (travelled δ) (stepsOf (output outside)))
+  pub once : (δ : Direction) → δ ∈ drawn d → OneOf (times (travelled δ) (stepsOf (output inside))) (times (travelled δ) (stepsOf (output outside)))
   -- the two outputs hold no other step
   pub no-other : (σ : Step) → (σ ∈ stepsOf (output inside)) ⊎ (σ ∈ stepsOf (output outside)) → (δ : Direction) × (δ ∈ drawn d) × (σ ≡ travelled δ)
   -- it is in the inside output exactly when the ray fills at least one side of its segment (boundary included) or both (excluded)
   pub by-the-ray : (δ : Direction) → δ ∈ drawn d → (travelled δ ∈ stepsOf (output inside)) ↔ (rayKeeps rule boundary d (δ .segment) ≡ true)
   -- reported steps and travel add up to the drawing's own
-  pub all-steps : told (inside .answer) .steps + told (outside .answer) .steps ≡ ownSteps d
-  pub all-travel : told (inside .answer) .travel + told (outside .answer) .travel ≡ ownTravel d
+  pub all-steps : inside .numbers .totals .steps + outside .numbers .totals .steps ≡ ownSteps d
+  pub all-travel : inside .numbers .totals .travel + outside .numbers .totals .travel ≡ ownTravel d
 
 -- no list that is lent for n segments is too short
-pub record Room (numbers points : List ℤ) (lengths : List ℕ) : Type 0 where
-  pub points-fit : 8 * length (segments numbers) ≤ length points
-  pub lengths-fit : 2 * length (segments numbers) ≤ length lengths
+pub record Room (numbers : List ℤ) (ls : Lists) : Type 0 where
+  pub points-fit : 8 * length (segments numbers) ≤ length (ls .points)
+  pub lengths-fit : 2 * length (segments numbers) ≤ length (ls .lengths)
 
 -- a run's own numbers are what its output holds; its lists are as long as they were, and past the answer as they were
-pub record Tells (d : Drawing) (points : List ℤ) (lengths : List ℕ) (o : Outcome) : Type 0 where
-  pub paths : told (o .answer) .paths ≡ length (output o)
-  pub points-told : told (o .answer) .points ≡ length (flatten (output o))
-  pub steps : told (o .answer) .steps ≡ length (stepsOf (output o))
-  pub travel : told (o .answer) .travel ≡ tally travelOf (stepsOf (output o))
-  pub few-points : 2 * told (o .answer) .points ≤ 8 * length d
-  pub few-paths : told (o .answer) .paths ≤ 2 * length d
-  pub as-long : (length (o .points) ≡ length points) × (length (o .lengths) ≡ length lengths)
-  pub past : (drop (2 * told (o .answer) .points) (o .points) ≡ drop (2 * told (o .answer) .points) points) × (drop (told (o .answer) .paths) (o .lengths) ≡ drop (told (o .answer) .paths) lengths)
+pub record Tells (d : Drawing) (ls : Lists) (o : Outcome) : Type 0 where
+  pub paths : o .numbers .totals .paths ≡ length (output o)
+  pub points-told : o .numbers .totals .points ≡ length (flatten (output o))
+  pub steps : o .numbers .totals .steps ≡ length (stepsOf (output o))
+  pub travel-told : o .numbers .totals .travel ≡ tally travelOf (stepsOf (output o))
+  pub few-points : 2 * o .numbers .totals .points ≤ 8 * length d
+  pub few-paths : o .numbers .totals .paths ≤ 2 * length d
+  pub as-long : (length (o .lists .points) ≡ length (ls .points)) × (length (o .lists .lengths) ≡ length (ls .lengths))
+  pub past : (drop (2 * o .numbers .totals .points) (o .lists .points) ≡ drop (2 * o .numbers .totals .points) (ls .points))
+      × (drop (o .numbers .totals .paths) (o .lists .lengths) ≡ drop (o .numbers .totals .paths) (ls .lengths))
 
 -- ---- two runs of code, over their lists before and after
 -- each answers and writes what its definition says; if the drawing is accepted and no list is too short, the claim holds of the two, and each tells what its output holds
-pub record Together (numbers : List ℤ) (rule boundary : ℤ) (inside : Outcome) (xs₀ : List ℤ) (ns₀ : List ℕ) (outside : Outcome) (xs₁ : List ℤ) (ns₁ : List ℕ) : Type 0 where
-  pub inside-is : inside ≡ clipOutcome numbers rule (pos 0) boundary xs₀ ns₀
-  pub outside-is : outside ≡ clipOutcome numbers rule (pos 1) boundary xs₁ ns₁
-  pub claim : accepts numbers rule (pos 0) boundary ≡ true → Room numbers xs₀ ns₀ → Room numbers xs₁ ns₁
-      → InsideAndOutside (segments numbers) (ruleOf rule) boundary inside outside × Tells (segments numbers) xs₀ ns₀ inside × Tells (segments numbers) xs₁ ns₁ outside
+pub record Together (numbers : List ℤ) (rule boundary : ℤ) (inside : Outcome) (ls₀ : Lists) (outside : Outcome) (ls₁ : Lists) : Type 0 where
+  pub inside-is : inside ≡ clipOutcome numbers rule (pos 0) boundary ls₀
+  pub outside-is : outside ≡ clipOutcome numbers rule (pos 1) boundary ls₁
+  pub claim : accepts numbers rule (pos 0) boundary ≡ true → Room numbers ls₀ → Room numbers ls₁
+      → InsideAndOutside (segments numbers) (ruleOf rule) boundary inside outside × Tells (segments numbers) ls₀ inside × Tells (segments numbers) ls₁ outside

@@ -4,6 +4,7 @@ use mathlib.Core.Bool.{Bool, true, false}
 use Prim.Native.Nat.{ℕ, _+_}
 use lib.IntN.{natAbs, _-ℤ_}
 use Rattle.geom.specs.declared.Point.{Point}
+use Rattle.geom.specs.Points.{travel}
 use Rattle.segm.specs.Segments.{Drawing}
 use Rattle.fill_rule.specs.declared.Rule.{Rule}
 use Rattle.build.specs.declared.links.Filter.{Filter}
@@ -47,6 +48,6 @@ unfoldable pub stepsOf : List (List Point) → List Step
 stepsOf [] = []
 stepsOf (path ∷ paths) = stepsOfPath path ++ stepsOf paths
 
--- the travel of a step: |dx| + |dy|
+-- the travel of a step
 unfoldable pub travelOf : Step → ℕ
-travelOf σ = natAbs (σ .end .x -ℤ σ .start .x) + natAbs (σ .end .y -ℤ σ .start .y)
+travelOf σ = travel (σ .start) (σ .end)

@@ -2,19 +2,19 @@
 use mathlib.Core.Path.{_≡_}
 use mathlib.Core.List.{List, [], _∷_, map, flatten}
 use mathlib.Core.Bool.{Bool, true}
-use Prim.Native.Nat.{ℕ, _+_, _*_}
+use Prim.Native.Nat.{ℕ, _+_, _*_, _≤_}
 use lib.ListN.{length, getD}
 use Rattle.geom.specs.declared.Point.{Point}
+use Rattle.geom.specs.Points.{travel}
 use Rattle.segm.specs.Segments.{Drawing}
 use Rattle.ends.specs.Ends.{endPoint}
 use Rattle.graph.specs.Nodes.{otherEnd, Nodes}
 use Rattle.checks.specs.Accepted.{Good}
 use Rattle.moves.specs.Bits.{has, bitsSet}
-use Rattle.moves.specs.Steps.{asDrawn}
 use Rattle.moves.specs.Moves.{Move, move, bitsRemaining}
 use Rattle.clip_walk.specs.Walk.{pathFrom, walkFrom}
 use Rattle.string_clip.specs.declared.run.Written.{Written}
-use Rattle.string_clip.specs.Paths.{finished, pathPoints, travelOf}
+use Rattle.string_clip.specs.Paths.{finished, pathPoints}
 
 -- ---- points
 -- the points that the moves which leave these ends come through
@@ -37,6 +37,11 @@ pub record ClipLists (links : Drawing) (flat starts nodes bits : List ℕ) : Typ
   pub nodes-are : Nodes links flat starts nodes
   pub as-many : length bits ≡ length links
 
+-- working memory for the walk over the links of a drawing, unless it is too large
+pub record ClipRoom (d : Drawing) (bits moves : List ℕ) : Type 0 where
+  pub bits-room : length d ≤ 1024 → length d ≤ length bits
+  pub moves-room : length d ≤ 1024 → 2 * length d ≤ length moves
+
 -- ---- all paths
 -- those of the line bits of a list
 abbrev pub bitsPaths : Drawing → List ℕ → List (List Point)
@@ -50,4 +55,4 @@ writtenOf paths = record { paths = length paths; points = length (flatten paths)
 unfoldable pub travelOver : Drawing → List ℕ → ℕ
 travelOver [] bits = 0
 travelOver (s ∷ links) [] = 0
-travelOver (s ∷ links) (b ∷ bits) = bitsSet b * travelOf (asDrawn true s) + travelOver links bits
+travelOver (s ∷ links) (b ∷ bits) = bitsSet b * travel (s .a) (s .b) + travelOver links bits

@@ -1,12 +1,11 @@
-// The clip run: the cut lines inside or outside a drawing's filled area, as paths. Every function here is proved, and the crate assumes nothing of its own.
-// No public function has a `requires`: any numbers, any choices and any lengths of lent lists get an answer.
+// The clip run: the cut lines inside or outside a drawing's filled area, as paths.
 mod paths;
 mod run;
 mod sums;
 
 use build::Filter;
-use checks::Verdict;
 use fill_rule::Rule;
+use refusal::Verdict;
 use run::clip_links;
 ghost use mathlib.Core.Path.{_≡_};
 ghost use mathlib.Core.Bool.{true};
@@ -16,15 +15,14 @@ ghost use lib.ListN.{length};
 ghost use lib.IntN.{pos};
 ghost use Rattle.segm.specs.Segments.{segments};
 ghost use Rattle.contour.specs.Points.{Writes};
-ghost use Rattle.graph.specs.Nodes.{NodesIn};
-ghost use Rattle.count_up.specs.CountUp.{Counted};
 ghost use Rattle.checks.specs.Accepted.{Good};
-ghost use Rattle.checks.specs.Search.{RoomOf};
+ghost use Rattle.checks.specs.Memory.{DrawingRoom, Prepared};
 ghost use Rattle.string_clip.specs.declared.Totals.{Totals};
 ghost use Rattle.string_clip.specs.declared.Clipped.the-variants.{Done};
 ghost use Rattle.string_clip.specs.Paths.{clipPaths};
-ghost use Rattle.string_clip.specs.Run.{totals, outcome, clipOutcome};
+ghost use Rattle.string_clip.specs.Run.{totals, lists, outcome, clipOutcome};
 ghost use Rattle.string_clip.specs.Claim.{Room, Together};
+ghost use Rattle.string_clip.specs.Writing.{ClipRoom};
 
 // How many paths, points and steps a run found, and their travel.
 pub struct Totals {
@@ -47,7 +45,7 @@ pub struct Both {
 }
 
 // Clips an accepted drawing with its nodes and top counts. The lists `bits` and `moves` are working memory.
-fn clip_with(
+fn clip_accepted(
     s: &[i32],
     rule: Rule,
     filter: Filter,
@@ -60,16 +58,14 @@ fn clip_with(
     points: &mut [i32],
     lengths: &mut [u32],
 ) -> Totals
-    requires { ⌜ Good (segments (now s))
-        × NodesIn (segments (now s)) (now flat) (now starts) (now nodes)
-        × Counted (segments (now s)) (now tops)
-        × (length (segments (now s)) ≤ length (now tops))
-        × (length (segments (now s)) ≤ length (now bits))
-        × (2 * length (segments (now s)) ≤ length (now moves))
-        × (8 * length (segments (now s)) ≤ length (now points))
-        × (2 * length (segments (now s)) ≤ length (now lengths)) ⌝ }
-    ensures { λ r. ⌜ (r ≡ totals (clipPaths rule filter (segments (now (s .entry)))))
-        × Writes (clipPaths rule filter (segments (now (s .entry)))) (now (points .entry)) (now (lengths .entry)) (now (points .exit)) (now (lengths .exit)) ⌝ }
+    requires { ⌜ (let d = segments (now s) in
+        Good d
+        × Prepared d (now flat) (now starts) (now nodes) (now tops)
+        × (length d ≤ length (now tops))
+        × ClipRoom d (now bits) (now moves)
+        × Room (now s) (lists (now points) (now lengths))) ⌝ }
+    ensures { λ r. ⌜ (let paths = clipPaths rule filter (segments (now (s .entry))) in
+        (r ≡ totals paths) × Writes paths (now (points .entry)) (now (lengths .entry)) (now (points .exit)) (now (lengths .exit))) ⌝ }
 {
     let m = segm::count(s);
     let e = 2 * m;
@@ -86,62 +82,7 @@ fn clip_with(
     )
 }
 
-// Clips an accepted drawing with its nodes and top counts, with memory for a small drawing or for any.
-fn clip_accepted(
-    s: &[i32],
-    rule: Rule,
-    filter: Filter,
-    flat: &[u16],
-    starts: &[u16],
-    nodes: &[u16],
-    tops: &[i32],
-    points: &mut [i32],
-    lengths: &mut [u32],
-) -> Totals
-    requires { ⌜ Good (segments (now s))
-        × NodesIn (segments (now s)) (now flat) (now starts) (now nodes)
-        × Counted (segments (now s)) (now tops)
-        × (length (segments (now s)) ≤ length (now tops))
-        × (8 * length (segments (now s)) ≤ length (now points))
-        × (2 * length (segments (now s)) ≤ length (now lengths)) ⌝ }
-    ensures { λ r. ⌜ (r ≡ totals (clipPaths rule filter (segments (now (s .entry)))))
-        × Writes (clipPaths rule filter (segments (now (s .entry)))) (now (points .entry)) (now (lengths .entry)) (now (points .exit)) (now (lengths .exit)) ⌝ }
-{
-    if segm::count(s) <= segm::SMALL {
-        let mut bits = [0u8; segm::SMALL];
-        let mut moves = [0u16; ends::SMALL];
-        return clip_with(
-            s,
-            rule,
-            filter,
-            flat,
-            starts,
-            nodes,
-            tops,
-            &mut bits,
-            &mut moves,
-            points,
-            lengths,
-        );
-    }
-    let mut bits = [0u8; segm::MOST];
-    let mut moves = [0u16; ends::MOST];
-    clip_with(
-        s,
-        rule,
-        filter,
-        flat,
-        starts,
-        nodes,
-        tops,
-        &mut bits,
-        &mut moves,
-        points,
-        lengths,
-    )
-}
-
-// The clip run, with memory for the nodes and the top counts. Those of an accepted drawing are left there.
+// The clip run in working memory: all lists from `flat` to `moves`. An accepted drawing's nodes and top counts are left there.
 fn clip_in(
     s: &[i32],
     rule: i32,
@@ -151,25 +92,18 @@ fn clip_in(
     starts: &mut [u16],
     nodes: &mut [u16],
     tops: &mut [i32],
+    bits: &mut [u8],
+    moves: &mut [u16],
     points: &mut [i32],
     lengths: &mut [u32],
 ) -> Clipped
-    requires { ⌜ RoomOf (now s) (now flat) (now starts) (now nodes) (now tops) ⌝ }
-    ensures { λ r. ⌜ (outcome r (now (points .exit)) (now (lengths .exit)) ≡ clipOutcome (now (s .entry)) rule invert boundary (now (points .entry)) (now (lengths .entry)))
-        × ((t : Totals) → r ≡ Done t → NodesIn (segments (now (s .entry))) (now (flat .exit)) (now (starts .exit)) (now (nodes .exit)) × Counted (segments (now (s .entry))) (now (tops .exit))) ⌝ }
+    requires { ⌜ (let d = segments (now s) in
+        DrawingRoom d (now flat) (now starts) (now nodes) (now tops) × ClipRoom d (now bits) (now moves)) ⌝ }
+    ensures { λ r. ⌜ (outcome r (lists (now (points .exit)) (now (lengths .exit))) ≡ clipOutcome (now (s .entry)) rule invert boundary (lists (now (points .entry)) (now (lengths .entry))))
+        × ((t : Totals) → r ≡ Done t → Prepared (segments (now (s .entry))) (now (flat .exit)) (now (starts .exit)) (now (nodes .exit)) (now (tops .exit))) ⌝ }
 {
-    match checks::check_clip(
-        s,
-        rule,
-        invert,
-        boundary,
-        points.len(),
-        lengths.len(),
-        flat,
-        starts,
-        nodes,
-        tops,
-    ) {
+    let asked = checks::ask_clip(s, rule, invert, boundary, points.len(), lengths.len());
+    match checks::check_drawing(asked, s, flat, starts, nodes, tops) {
         Verdict::Accepted => Clipped::Done(clip_accepted(
             s,
             fill_rule::rule_of(rule),
@@ -178,6 +112,8 @@ fn clip_in(
             starts,
             nodes,
             tops,
+            bits,
+            moves,
             points,
             lengths,
         )),
@@ -185,24 +121,27 @@ fn clip_in(
     }
 }
 
-// The cut lines inside (invert 0) or outside (invert 1), as x, y pairs and one length a path, or the refusal.
+// The cut lines inside (invert 0) or outside (invert 1), as x, y pairs and one length a path, or the refusal. It owns the run's memory, for a small drawing or
+// for any.
 pub fn clip(
-    segments: &[i32],
+    numbers: &[i32],
     rule: i32,
     invert: i32,
     boundary: i32,
     points: &mut [i32],
     lengths: &mut [u32],
 ) -> Clipped
-    ensures { λ r. ⌜ outcome r (now (points .exit)) (now (lengths .exit)) ≡ clipOutcome (now (segments .entry)) rule invert boundary (now (points .entry)) (now (lengths .entry)) ⌝ }
+    ensures { λ r. ⌜ outcome r (lists (now (points .exit)) (now (lengths .exit))) ≡ clipOutcome (now (numbers .entry)) rule invert boundary (lists (now (points .entry)) (now (lengths .entry))) ⌝ }
 {
-    if segm::count(segments) <= segm::SMALL {
+    if segm::count(numbers) <= segm::SMALL {
         let mut flat = [0u16; ends::SMALL];
         let mut starts = [0u16; graph::SMALL_STARTS];
         let mut nodes = [0u16; ends::SMALL];
         let mut tops = [0i32; segm::SMALL];
+        let mut bits = [0u8; segm::SMALL];
+        let mut moves = [0u16; ends::SMALL];
         return clip_in(
-            segments,
+            numbers,
             rule,
             invert,
             boundary,
@@ -210,6 +149,8 @@ pub fn clip(
             &mut starts,
             &mut nodes,
             &mut tops,
+            &mut bits,
+            &mut moves,
             points,
             lengths,
         );
@@ -218,8 +159,10 @@ pub fn clip(
     let mut starts = [0u16; graph::STARTS];
     let mut nodes = [0u16; ends::MOST];
     let mut tops = [0i32; segm::MOST];
+    let mut bits = [0u8; segm::MOST];
+    let mut moves = [0u16; ends::MOST];
     clip_in(
-        segments,
+        numbers,
         rule,
         invert,
         boundary,
@@ -227,20 +170,22 @@ pub fn clip(
         &mut starts,
         &mut nodes,
         &mut tops,
+        &mut bits,
+        &mut moves,
         points,
         lengths,
     )
 }
 
-// Whether lent lists are long enough for a drawing. By quotients, as a product could be too large.
+// Whether lent lists are long enough for a drawing.
 fn has_room(s: &[i32], points: &[i32], lengths: &[u32]) -> bool
-    ensures { λ r. ⌜ (r ≡ true) ↔ Room (now (s .entry)) (now (points .entry)) (now (lengths .entry)) ⌝ }
+    ensures { λ r. ⌜ (r ≡ true) ↔ Room (now (s .entry)) (lists (now (points .entry)) (now (lengths .entry))) ⌝ }
 {
     let n = segm::count(s);
-    (n <= points.len() / 8) & (n <= lengths.len() / 2)
+    !(refusal::is_short(points.len(), 8, n) | refusal::is_short(lengths.len(), 2, n))
 }
 
-// Both clip runs by one check, with memory for the nodes and the top counts. No lent list is too short, so the runs have one verdict.
+// Both clip runs by one check, in working memory. No lent list is too short, so the runs have one verdict.
 fn both_in(
     s: &[i32],
     rule: i32,
@@ -249,16 +194,20 @@ fn both_in(
     starts: &mut [u16],
     nodes: &mut [u16],
     tops: &mut [i32],
+    bits: &mut [u8],
+    moves: &mut [u16],
     inside_points: &mut [i32],
     inside_lengths: &mut [u32],
     outside_points: &mut [i32],
     outside_lengths: &mut [u32],
 ) -> Both
-    requires { ⌜ RoomOf (now s) (now flat) (now starts) (now nodes) (now tops)
-        × Room (now s) (now «inside_points») (now «inside_lengths»)
-        × Room (now s) (now «outside_points») (now «outside_lengths») ⌝ }
-    ensures { λ r. ⌜ (outcome (r .inside) (now («inside_points» .exit)) (now («inside_lengths» .exit)) ≡ clipOutcome (now (s .entry)) rule (pos 0) boundary (now («inside_points» .entry)) (now («inside_lengths» .entry)))
-        × (outcome (r .outside) (now («outside_points» .exit)) (now («outside_lengths» .exit)) ≡ clipOutcome (now (s .entry)) rule (pos 1) boundary (now («outside_points» .entry)) (now («outside_lengths» .entry))) ⌝ }
+    requires { ⌜ (let d = segments (now s) in
+        DrawingRoom d (now flat) (now starts) (now nodes) (now tops)
+        × ClipRoom d (now bits) (now moves)
+        × Room (now s) (lists (now «inside_points») (now «inside_lengths»))
+        × Room (now s) (lists (now «outside_points») (now «outside_lengths»))) ⌝ }
+    ensures { λ r. ⌜ (outcome (r .inside) (lists (now («inside_points» .exit)) (now («inside_lengths» .exit))) ≡ clipOutcome (now (s .entry)) rule (pos 0) boundary (lists (now («inside_points» .entry)) (now («inside_lengths» .entry))))
+        × (outcome (r .outside) (lists (now («outside_points» .exit)) (now («outside_lengths» .exit))) ≡ clipOutcome (now (s .entry)) rule (pos 1) boundary (lists (now («outside_points» .entry)) (now («outside_lengths» .entry)))) ⌝ }
 {
     let inside = clip_in(
         s,
@@ -269,6 +218,8 @@ fn both_in(
         starts,
         nodes,
         tops,
+        bits,
+        moves,
         inside_points,
         inside_lengths,
     );
@@ -281,6 +232,8 @@ fn both_in(
             starts,
             nodes,
             tops,
+            bits,
+            moves,
             outside_points,
             outside_lengths,
         )),
@@ -292,9 +245,9 @@ fn both_in(
     }
 }
 
-// The same, with memory for a small drawing or for any.
+// The same. It owns the memory of the two runs, for a small drawing or for any.
 fn both_at_once(
-    segments: &[i32],
+    numbers: &[i32],
     rule: i32,
     boundary: i32,
     inside_points: &mut [i32],
@@ -302,23 +255,27 @@ fn both_at_once(
     outside_points: &mut [i32],
     outside_lengths: &mut [u32],
 ) -> Both
-    requires { ⌜ Room (now segments) (now «inside_points») (now «inside_lengths») × Room (now segments) (now «outside_points») (now «outside_lengths») ⌝ }
-    ensures { λ r. ⌜ (outcome (r .inside) (now («inside_points» .exit)) (now («inside_lengths» .exit)) ≡ clipOutcome (now (segments .entry)) rule (pos 0) boundary (now («inside_points» .entry)) (now («inside_lengths» .entry)))
-        × (outcome (r .outside) (now («outside_points» .exit)) (now («outside_lengths» .exit)) ≡ clipOutcome (now (segments .entry)) rule (pos 1) boundary (now («outside_points» .entry)) (now («outside_lengths» .entry))) ⌝ }
+    requires { ⌜ Room (now numbers) (lists (now «inside_points») (now «inside_lengths»)) × Room (now numbers) (lists (now «outside_points») (now «outside_lengths»)) ⌝ }
+    ensures { λ r. ⌜ (outcome (r .inside) (lists (now («inside_points» .exit)) (now («inside_lengths» .exit))) ≡ clipOutcome (now (numbers .entry)) rule (pos 0) boundary (lists (now («inside_points» .entry)) (now («inside_lengths» .entry))))
+        × (outcome (r .outside) (lists (now («outside_points» .exit)) (now («outside_lengths» .exit))) ≡ clipOutcome (now (numbers .entry)) rule (pos 1) boundary (lists (now («outside_points» .entry)) (now («outside_lengths» .entry)))) ⌝ }
 {
-    if segm::count(segments) <= segm::SMALL {
+    if segm::count(numbers) <= segm::SMALL {
         let mut flat = [0u16; ends::SMALL];
         let mut starts = [0u16; graph::SMALL_STARTS];
         let mut nodes = [0u16; ends::SMALL];
         let mut tops = [0i32; segm::SMALL];
+        let mut bits = [0u8; segm::SMALL];
+        let mut moves = [0u16; ends::SMALL];
         return both_in(
-            segments,
+            numbers,
             rule,
             boundary,
             &mut flat,
             &mut starts,
             &mut nodes,
             &mut tops,
+            &mut bits,
+            &mut moves,
             inside_points,
             inside_lengths,
             outside_points,
@@ -329,14 +286,18 @@ fn both_at_once(
     let mut starts = [0u16; graph::STARTS];
     let mut nodes = [0u16; ends::MOST];
     let mut tops = [0i32; segm::MOST];
+    let mut bits = [0u8; segm::MOST];
+    let mut moves = [0u16; ends::MOST];
     both_in(
-        segments,
+        numbers,
         rule,
         boundary,
         &mut flat,
         &mut starts,
         &mut nodes,
         &mut tops,
+        &mut bits,
+        &mut moves,
         inside_points,
         inside_lengths,
         outside_points,
@@ -346,7 +307,7 @@ fn both_at_once(
 
 // Both clip runs, inside and outside, with one drawing, rule and boundary, by one check; where a list is too short, which one run may be refused for, by two.
 pub fn clip_both(
-    segments: &[i32],
+    numbers: &[i32],
     rule: i32,
     boundary: i32,
     inside_points: &mut [i32],
@@ -354,15 +315,15 @@ pub fn clip_both(
     outside_points: &mut [i32],
     outside_lengths: &mut [u32],
 ) -> Both
-    ensures { λ r. ⌜ Together (now (segments .entry)) rule boundary
-        (outcome (r .inside) (now («inside_points» .exit)) (now («inside_lengths» .exit))) (now («inside_points» .entry)) (now («inside_lengths» .entry))
-        (outcome (r .outside) (now («outside_points» .exit)) (now («outside_lengths» .exit))) (now («outside_points» .entry)) (now («outside_lengths» .entry)) ⌝ }
+    ensures { λ r. ⌜ Together (now (numbers .entry)) rule boundary
+        (outcome (r .inside) (lists (now («inside_points» .exit)) (now («inside_lengths» .exit)))) (lists (now («inside_points» .entry)) (now («inside_lengths» .entry)))
+        (outcome (r .outside) (lists (now («outside_points» .exit)) (now («outside_lengths» .exit)))) (lists (now («outside_points» .entry)) (now («outside_lengths» .entry))) ⌝ }
 {
-    if has_room(segments, inside_points, inside_lengths)
-        & has_room(segments, outside_points, outside_lengths)
+    if has_room(numbers, inside_points, inside_lengths)
+        & has_room(numbers, outside_points, outside_lengths)
     {
         return both_at_once(
-            segments,
+            numbers,
             rule,
             boundary,
             inside_points,
@@ -371,8 +332,8 @@ pub fn clip_both(
             outside_lengths,
         );
     }
-    let inside = clip(segments, rule, 0, boundary, inside_points, inside_lengths);
-    let outside = clip(segments, rule, 1, boundary, outside_points, outside_lengths);
+    let inside = clip(numbers, rule, 0, boundary, inside_points, inside_lengths);
+    let outside = clip(numbers, rule, 1, boundary, outside_points, outside_lengths);
     Both {
         inside: inside,
         outside: outside,

@@ -13,7 +13,7 @@ use Rattle.moves.specs.Bits.{bitsSet}
 use Rattle.moves.specs.Steps.{asDrawn}
 use Rattle.string_clip.specs.Paths.{travelOf}
 use Rattle.string_clip.specs.Writing.{travelOver}
-use Rattle.string_clip.proofs.Links.{travel-bound, travel-next}
+use Rattle.string_clip.proofs.Links.{all-bound, travel-next}
 use Rattle.string_clip.proofs.sums.travel.Statement.{statement}
 use Rattle.string_clip.proofs.sums.travel.Tie as tie
 
@@ -56,8 +56,8 @@ module _ (c : tie.After-link-travel Inv-loop μ-loop) where
   abbrev bits : List ℕ
   bits = s .args .bits .now
 
-  link : c .link-travel .result ≡ bitsSet (getD bits (l .loop .i) 0) * travelOf (asDrawn true (segmentAt d (l .loop .i)))
-  link = c .link-travel .ensures ∙ ap (λ (t : Segment). bitsSet (getD bits (l .loop .i) 0) * travelOf (asDrawn true t)) (o .segment-in .ensures)
+  link : c .link-travel .result ≡ bitsSet (getD bits (l .loop .i) 0) * travel (segmentAt d (l .loop .i) .a) (segmentAt d (l .loop .i) .b)
+  link = c .link-travel .ensures ∙ ap (λ (t : Segment). bitsSet (getD bits (l .loop .i) 0) * travel (t .a) (t .b)) (o .segment-in .ensures)
 
   next : (l .loop .sum + c .link-travel .result) + travelOver (drop (l .loop .i + 1) d) (drop (l .loop .i + 1) bits) ≡ travelOver d bits
   next =
@@ -65,7 +65,7 @@ module _ (c : tie.After-link-travel Inv-loop μ-loop) where
       omega (arith, link, l .loop .inv, travel-next d bits (l .loop .i) (omega (arith, s .pre .1)) here)
 
 add-sum : tie.Need-add-sum Inv-loop μ-loop
-add-sum c = record { fits = omega (arith, next c, travel-bound (d c) (bits c) (s c .pre .0 .faultless .near), s c .pre .0 .faultless .few) }
+add-sum c = record { fits = omega (arith, next c, all-bound (d c) (bits c) (s c .pre .0 .faultless .near), s c .pre .0 .faultless .few) }
 
 add-i : tie.Need-add-i Inv-loop μ-loop
 add-i c = search needs
