@@ -29,9 +29,10 @@ one-of-three (suc l) m n h = inl (omega arith)
 one-of-three zero (suc m) n h = inr (inl (omega arith))
 one-of-three zero zero n h = inr (inr (omega arith))
 
-counted : (b : Bool) {n : ℕ} → 0 < cond b n 0 → (b ≡ true) × (0 < n)
-counted true h = (refl, h)
-counted false h = absurd (omega arith)
+-- what counts if b, and is not 0
+pub cond-some : (b : Bool) {n : ℕ} → 0 < cond b n 0 → (b ≡ true) × (0 < n)
+cond-some true h = (refl, h)
+cond-some false h = absurd (omega arith)
 
 module _ (f : Step → ℕ) where
   spend : (links : Drawing) (bits : List ℕ) (k : ℕ) (forth : Bool) → k < length links → has forth (getD bits k 0) ≡ true
@@ -58,8 +59,8 @@ module _ (f : Step → ℕ) where
       go : (0 < cond (has true b) (f (asDrawn true s)) 0) ⊎ ((0 < cond (has false b) (f (asDrawn false s)) 0) ⊎ (0 < worth f links bits))
           → (0 < worth f links bits → (m : Move) × Makes links bits m × (0 < f (drawnBy links m)))
           → (m : Move) × Makes (s ∷ links) (b ∷ bits) m × (0 < f (drawnBy (s ∷ links) m))
-      go (inl t) ih = let c = counted (has true b) t in (move 0 true, record { within = omega arith; bit-remains = c .0 }, c .1)
-      go (inr (inl t)) ih = let c = counted (has false b) t in (move 0 false, record { within = omega arith; bit-remains = c .0 }, c .1)
+      go (inl t) ih = let c = cond-some (has true b) t in (move 0 true, record { within = omega arith; bit-remains = c .0 }, c .1)
+      go (inr (inl t)) ih = let c = cond-some (has false b) t in (move 0 false, record { within = omega arith; bit-remains = c .0 }, c .1)
       go (inr (inr t)) ih =
           let r = ih t in
           (move (suc (r .0 .place)) (r .0 .forth), record { within = omega (arith, r .1 .within); bit-remains = r .1 .bit-remains }, r .2)

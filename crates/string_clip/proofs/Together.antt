@@ -29,6 +29,7 @@ use Rattle.fill_rule.specs.FillRule.{ruleOf}
 use Rattle.ray.specs.Ray.{fill}
 use Rattle.build.specs.Links.{keeps, filterOf}
 use Rattle.moves.specs.Steps.{Step}
+use Rattle.moves.proofs.Worth.{cond-some}
 use Rattle.string_clip.specs.Paths.{clipPaths, stepsOf, travelOf}
 use Rattle.contour.specs.Points.{coordinates}
 use Rattle.contour.proofs.Coordinates.{length-coordinates}
@@ -60,11 +61,6 @@ run-tells d g rule filter points lengths h k =
     }
 
 -- ---- two runs
-set-both : (b c : Bool) → 0 < cond b (one c) 0 → (b ≡ true) × (c ≡ true)
-set-both true true h = (refl, refl)
-set-both true false h = absurd (omega arith)
-set-both false c h = absurd (omega arith)
-
 one-side : (b : Bool) (n : ℕ) → cond b n 0 + cond (not b) n 0 ≡ n
 one-side true n = omega arith
 one-side false n = omega arith
@@ -75,7 +71,7 @@ counted σ l m = omega (arith, tally-in (λ τ. one (same σ τ)) σ l m, ap one
 
 count-some : (σ : Step) (l : List Step) → 0 < times σ l → σ ∈ l
 unfolding times
-count-some σ l h = let r = tally-some (λ τ. one (same σ τ)) l h in subst (λ τ. τ ∈ l) (sym (same-true σ (r .0) (set-both true (same σ (r .0)) (r .2) .1))) (r .1)
+count-some σ l h = let r = tally-some (λ τ. one (same σ τ)) l h in subst (λ τ. τ ∈ l) (sym (same-true σ (r .0) (cond-some (same σ (r .0)) (r .2) .0))) (r .1)
 
 module _ (d : Drawing) (g : Good d) (rule : Rule) (boundary : ℤ) where
   -- a direction's segment is kept, by its fill
@@ -107,12 +103,12 @@ module _ (d : Drawing) (g : Good d) (rule : Rule) (boundary : ℤ) where
   drawn-step invert σ m =
       let f : Direction → ℕ = λ δ. cond (keptBy invert δ) (one (same σ (travelled δ))) 0 in
       let r = tally-some f (drawn d) (omega (arith, counted σ (stepsBy invert) m, tally-by invert (λ τ. one (same σ τ)))) in
-      (r .0, r .1, same-true σ (travelled (r .0)) (set-both (keptBy invert (r .0)) (same σ (travelled (r .0))) (r .2) .1))
+      (r .0, r .1, same-true σ (travelled (r .0)) (cond-some (same σ (travelled (r .0))) (cond-some (keptBy invert (r .0)) (r .2) .1) .0))
 
   inside-by-ray : (δ : Direction) → δ ∈ drawn d → (travelled δ ∈ stepsBy (pos 0)) ↔ (rayKeeps rule boundary d (δ .segment) ≡ true)
   inside-by-ray δ m =
       let e = count-by (pos 0) δ m ∙ ap one (by-ray δ m .0) in (
-        λ i. set-both true (rayKeeps rule boundary d (δ .segment)) (omega (arith, counted (travelled δ) (stepsBy (pos 0)) i, e)) .1,
+        λ i. cond-some (rayKeeps rule boundary d (δ .segment)) {n = 1} (omega (arith, counted (travelled δ) (stepsBy (pos 0)) i, e)) .0,
         λ h. count-some (travelled δ) (stepsBy (pos 0)) (omega (arith, e, ap one h)),
       )
 
