@@ -5,7 +5,7 @@ use mathlib.Core.Bool.{true}
 use Prim.Native.Nat.{ℕ}
 use lib.ListN.{drop}
 use lib.IntN.{ℤ, pos, negsuc}
-use Rattle.geom.specs.Points.{eqZ, within, ltP, eqP, coordinate, inRange, cross, between}
+use Rattle.geom.specs.Points.{eqZ, within, ltP, eqP, coordinate, inRange, cross, between, travel}
 use Rattle.lists.specs.Members.{any, keep}
 use Rattle.lists.specs.Sums.{sum, tally}
 use Rattle.lists.specs.Written.{written}
@@ -35,11 +35,11 @@ use Rattle.moves.specs.Begins.{firstRemaining, bothMoves, begins}
 use Rattle.clip_walk.specs.Walk.{goesOn, follow, pathFrom, walkFrom, walk}
 use Rattle.string_clip.specs.Paths.{through, finished, pathPoints, clipPaths, stepsFrom, stepsOfPath, stepsOf, travelOf}
 use Rattle.contour.specs.Points.{coordinates}
-use Rattle.string_clip.specs.Run.{totals, Outcome, outcome, answered, clipOutcome}
+use Rattle.string_clip.specs.Run.{totals, lists, Outcome, outcome, answered, clipOutcome}
 
 -- under nonzero, with no check
 abbrev clip : (invert boundary : ℤ) → List ℤ → List ℤ → List ℕ → Outcome
-clip invert boundary numbers = answered Accepted (clipPaths (ruleOf (pos 1)) (filterOf invert boundary) (segments numbers))
+clip invert boundary numbers points lengths = answered Accepted (clipPaths (ruleOf (pos 1)) (filterOf invert boundary) (segments numbers)) (lists points lengths)
 
 -- inside, and outside, boundary included
 abbrev clipInside : List ℤ → List ℤ → List ℕ → Outcome
@@ -47,6 +47,13 @@ clipInside = clip (pos 0) (pos 1)
 
 abbrev clipOutside : List ℤ → List ℤ → List ℕ → Outcome
 clipOutside = clip (pos 1) (pos 1)
+
+-- a run, and what comes of it, over these lists
+abbrev run : List ℤ → (rule invert boundary : ℤ) → List ℤ → List ℕ → Outcome
+run numbers rule invert boundary points lengths = clipOutcome numbers rule invert boundary (lists points lengths)
+
+abbrev out : Clipped → List ℤ → List ℕ → Outcome
+out answer points lengths = outcome answer (lists points lengths)
 
 abbrev found : ℕ → ℕ → ℕ → ℕ → Clipped
 found paths points steps travel = Done (record { paths = paths; points = points; steps = steps; travel = travel })
@@ -64,36 +71,36 @@ edged =
 
 pub record Cases : Type 0 where
   -- A: the line part in the square, and the two parts outside
-  pub inside-A : (xs : List ℤ) (ns : List ℕ) → clipInside A xs ns ≡ outcome (found 1 2 1 10) (pos 0 ∷ pos 5 ∷ pos 10 ∷ pos 5 ∷ drop 4 xs) (2 ∷ drop 1 ns)
+  pub inside-A : (xs : List ℤ) (ns : List ℕ) → clipInside A xs ns ≡ out (found 1 2 1 10) (pos 0 ∷ pos 5 ∷ pos 10 ∷ pos 5 ∷ drop 4 xs) (2 ∷ drop 1 ns)
   pub outside-A : (xs : List ℤ) (ns : List ℕ) → clipOutside A xs ns
-      ≡ outcome (found 2 4 2 10) (negsuc 4 ∷ pos 5 ∷ pos 0 ∷ pos 5 ∷ pos 10 ∷ pos 5 ∷ pos 15 ∷ pos 5 ∷ drop 8 xs) (2 ∷ 2 ∷ drop 2 ns)
+      ≡ out (found 2 4 2 10) (negsuc 4 ∷ pos 5 ∷ pos 0 ∷ pos 5 ∷ pos 10 ∷ pos 5 ∷ pos 15 ∷ pos 5 ∷ drop 8 xs) (2 ∷ 2 ∷ drop 2 ns)
   -- both bits of one segment: there and back
-  pub there-and-back : (xs : List ℤ) (ns : List ℕ) → clipOutside thereAndBack xs ns ≡ outcome (found 1 3 2 2) (pos 0 ∷ pos 0 ∷ pos 1 ∷ pos 0 ∷ pos 0 ∷ pos 0 ∷ drop 6 xs) (3 ∷ drop 1 ns)
+  pub there-and-back : (xs : List ℤ) (ns : List ℕ) → clipOutside thereAndBack xs ns ≡ out (found 1 3 2 2) (pos 0 ∷ pos 0 ∷ pos 1 ∷ pos 0 ∷ pos 0 ∷ pos 0 ∷ drop 6 xs) (3 ∷ drop 1 ns)
   -- bit 2 only: one path backward, reversed when finished
   pub in-line : (xs : List ℤ) (ns : List ℕ) → clipOutside (segment (pos 0) (pos 0) (pos 1) (pos 0) (pos 0) (pos 2) ++ segment (pos 1) (pos 0) (pos 2) (pos 0) (pos 0) (pos 2)) xs ns
-      ≡ outcome (found 1 3 2 2) (pos 2 ∷ pos 0 ∷ pos 1 ∷ pos 0 ∷ pos 0 ∷ pos 0 ∷ drop 6 xs) (3 ∷ drop 1 ns)
+      ≡ out (found 1 3 2 2) (pos 2 ∷ pos 0 ∷ pos 1 ∷ pos 0 ∷ pos 0 ∷ pos 0 ∷ drop 6 xs) (3 ∷ drop 1 ns)
   -- paths are not extended at their first point
   pub forked : (xs : List ℤ) (ns : List ℕ) → clipOutside (segment (pos 0) (pos 0) (pos 2) (negsuc 0) (pos 0) (pos 1) ++ segment (pos 0) (pos 0) (pos 2) (pos 1) (pos 0) (pos 2)) xs ns
-      ≡ outcome (found 2 4 2 6) (pos 0 ∷ pos 0 ∷ pos 2 ∷ negsuc 0 ∷ pos 2 ∷ pos 1 ∷ pos 0 ∷ pos 0 ∷ drop 8 xs) (2 ∷ 2 ∷ drop 2 ns)
+      ≡ out (found 2 4 2 6) (pos 0 ∷ pos 0 ∷ pos 2 ∷ negsuc 0 ∷ pos 2 ∷ pos 1 ∷ pos 0 ∷ pos 0 ∷ drop 8 xs) (2 ∷ 2 ∷ drop 2 ns)
   -- bit 1 before bit 2, and at (1,0) the link that starts there before the one that ends there
   pub ordered : (xs : List ℤ) (ns : List ℕ) → clipOutside (segment (pos 0) (pos 0) (pos 1) (pos 0) (pos 0) (pos 3) ++ segment (pos 1) (pos 0) (pos 2) (pos 0) (pos 0) (pos 1)) xs ns
-      ≡ outcome (found 2 5 3 3) (pos 0 ∷ pos 0 ∷ pos 1 ∷ pos 0 ∷ pos 2 ∷ pos 0 ∷ pos 1 ∷ pos 0 ∷ pos 0 ∷ pos 0 ∷ drop 10 xs) (3 ∷ 2 ∷ drop 2 ns)
-  pub empty : (invert boundary : ℤ) (xs : List ℤ) (ns : List ℕ) → clip invert boundary [] xs ns ≡ outcome (found 0 0 0 0) xs ns
+      ≡ out (found 2 5 3 3) (pos 0 ∷ pos 0 ∷ pos 1 ∷ pos 0 ∷ pos 2 ∷ pos 0 ∷ pos 1 ∷ pos 0 ∷ pos 0 ∷ pos 0 ∷ drop 10 xs) (3 ∷ 2 ∷ drop 2 ns)
+  pub empty : (invert boundary : ℤ) (xs : List ℤ) (ns : List ℕ) → clip invert boundary [] xs ns ≡ out (found 0 0 0 0) xs ns
   -- a line on the outline: inside if the boundary is included, otherwise outside
-  pub edge-inside : (xs : List ℤ) (ns : List ℕ) → clip (pos 0) (pos 1) edged xs ns ≡ outcome (found 1 2 1 2) (pos 0 ∷ pos 0 ∷ pos 2 ∷ pos 0 ∷ drop 4 xs) (2 ∷ drop 1 ns)
-  pub edge-not-inside : (xs : List ℤ) (ns : List ℕ) → clip (pos 0) (pos 0) edged xs ns ≡ outcome (found 0 0 0 0) xs ns
-  pub edge-not-outside : (xs : List ℤ) (ns : List ℕ) → clip (pos 1) (pos 1) edged xs ns ≡ outcome (found 0 0 0 0) xs ns
-  pub edge-outside : (xs : List ℤ) (ns : List ℕ) → clip (pos 1) (pos 0) edged xs ns ≡ outcome (found 1 2 1 2) (pos 0 ∷ pos 0 ∷ pos 2 ∷ pos 0 ∷ drop 4 xs) (2 ∷ drop 1 ns)
+  pub edge-inside : (xs : List ℤ) (ns : List ℕ) → clip (pos 0) (pos 1) edged xs ns ≡ out (found 1 2 1 2) (pos 0 ∷ pos 0 ∷ pos 2 ∷ pos 0 ∷ drop 4 xs) (2 ∷ drop 1 ns)
+  pub edge-not-inside : (xs : List ℤ) (ns : List ℕ) → clip (pos 0) (pos 0) edged xs ns ≡ out (found 0 0 0 0) xs ns
+  pub edge-not-outside : (xs : List ℤ) (ns : List ℕ) → clip (pos 1) (pos 1) edged xs ns ≡ out (found 0 0 0 0) xs ns
+  pub edge-outside : (xs : List ℤ) (ns : List ℕ) → clip (pos 1) (pos 0) edged xs ns ≡ out (found 1 2 1 2) (pos 0 ∷ pos 0 ∷ pos 2 ∷ pos 0 ∷ drop 4 xs) (2 ∷ drop 1 ns)
   -- whole runs: lists exactly long enough, one too short, an unknown choice
-  pub done : clipOutcome thereAndBack (pos 1) (pos 1) (pos 1) (map pos (upFrom 1 8)) (9 ∷ 9 ∷ [])
-      ≡ outcome (found 1 3 2 2) (pos 0 ∷ pos 0 ∷ pos 1 ∷ pos 0 ∷ pos 0 ∷ pos 0 ∷ pos 7 ∷ pos 8 ∷ []) (3 ∷ 9 ∷ [])
-  pub short : clipOutcome thereAndBack (pos 1) (pos 1) (pos 1) (map pos (upFrom 1 8)) (9 ∷ []) ≡ outcome (Refused 11 0) (map pos (upFrom 1 8)) (9 ∷ [])
-  pub unknown : clipOutcome thereAndBack (pos 1) (pos 2) (pos 1) (map pos (upFrom 1 8)) (9 ∷ 9 ∷ []) ≡ outcome (Refused 10 0) (map pos (upFrom 1 8)) (9 ∷ 9 ∷ [])
+  pub done : run thereAndBack (pos 1) (pos 1) (pos 1) (map pos (upFrom 1 8)) (9 ∷ 9 ∷ [])
+      ≡ out (found 1 3 2 2) (pos 0 ∷ pos 0 ∷ pos 1 ∷ pos 0 ∷ pos 0 ∷ pos 0 ∷ pos 7 ∷ pos 8 ∷ []) (3 ∷ 9 ∷ [])
+  pub short : run thereAndBack (pos 1) (pos 1) (pos 1) (map pos (upFrom 1 8)) (9 ∷ []) ≡ out (Refused 11 0) (map pos (upFrom 1 8)) (9 ∷ [])
+  pub unknown : run thereAndBack (pos 1) (pos 2) (pos 1) (map pos (upFrom 1 8)) (9 ∷ 9 ∷ []) ≡ out (Refused 10 0) (map pos (upFrom 1 8)) (9 ∷ 9 ∷ [])
   -- the claim is of something
   pub accepted-A : accepts A (pos 1) (pos 0) (pos 1) ≡ true
 
 pub cases : Cases
-unfolding accepts clipRun verdict asked askedFirst drawingVerdict faultsOf meetingsOf unbalancedOf wrongLength unknownChoice tooShort first firstFrom faultAt meetingAt unbalancedAt fault endsInRange rises windingInRange bitsInRange balance balances meetsWrongly parts inside sameEnds side total any sum tally keep written upFrom front segmentsOf count whole segments segmentAt eqZ within ltP eqP coordinate inRange cross between spans above clockwise met bottom top filled ruleOf fillOf fill sidesSet keepsSides keeps filterOf keptLinks node has clear asDrawn remains taken takenAll bitsRemaining firstRemaining bothMoves begins way over other fitting goesOn follow pathFrom walkFrom walk through finished pathPoints clipPaths stepsFrom stepsOfPath stepsOf travelOf totals coordinates flatten clipOutcome
+unfolding accepts clipRun verdict asked askedFirst drawingVerdict faultsOf meetingsOf unbalancedOf wrongLength unknownChoice tooShort first firstFrom faultAt meetingAt unbalancedAt fault endsInRange rises windingInRange bitsInRange balance balances meetsWrongly parts inside sameEnds side total any sum tally keep written upFrom front segmentsOf count whole segments segmentAt eqZ within ltP eqP coordinate inRange cross between spans above clockwise met bottom top filled ruleOf fillOf fill sidesSet keepsSides keeps filterOf keptLinks node has clear asDrawn remains taken takenAll bitsRemaining firstRemaining bothMoves begins way over other fitting goesOn follow pathFrom walkFrom walk through finished pathPoints clipPaths stepsFrom stepsOfPath stepsOf travelOf travel totals coordinates flatten clipOutcome
 cases = record {
   inside-A = λ xs ns. refl;
   outside-A = λ xs ns. refl;

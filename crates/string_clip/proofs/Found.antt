@@ -6,8 +6,7 @@ use mathlib.Core.Bool.{Bool, true, false, cond}
 use Prim.Native.Nat.{ℕ, suc, _+_, _*_, _≤_}
 use native.Mathlib.Omega.{arith}
 use lib.ListN.{length, length-append, length-map}
-use lib.IntN.{ℤ, natAbs, _-ℤ_}
-use Rattle.integers.proofs.Linear.{ints, of--, of-abs, of-side}
+use lib.IntN.{natAbs}
 use Rattle.geom.specs.declared.Point.{Point}
 use Rattle.geom.specs.Points.{travel}
 use Rattle.geom.proofs.Points.{travel-back}

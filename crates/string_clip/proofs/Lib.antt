@@ -12,3 +12,4 @@ pub mod NoLines
 pub mod SameEnds
 pub mod Masked
 pub mod Answers
+pub mod Memory

@@ -10,7 +10,6 @@ use native.Mathlib.Omega.{arith}
 use lib.ListN.{length, getD, drop}
 use lib.Seq.{drop-cons}
 use Rattle.integers.proofs.Booleans.{both-l, both-r}
-use Rattle.integers.proofs.Order.{abs--}
 use Rattle.geom.specs.Points.{inRange, travel}
 use Rattle.geom.proofs.Points.{travel-bound}
 use Rattle.segm.specs.declared.Segment.{Segment}

@@ -33,19 +33,19 @@ use Rattle.moves.proofs.Worth.{cond-some}
 use Rattle.string_clip.specs.Paths.{clipPaths, stepsOf, travelOf}
 use Rattle.contour.specs.Points.{coordinates}
 use Rattle.contour.proofs.Coordinates.{length-coordinates}
-use Rattle.string_clip.specs.Run.{totals, Outcome, answered, clipOutcome, output}
-use Rattle.string_clip.specs.Claim.{Direction, drawn, travelled, ownSteps, ownTravel, same, count as times, OneOf, rayKeeps, InsideAndOutside, Room, Tells, Together}
+use Rattle.string_clip.specs.Run.{totals, Lists, runOf, Outcome, answered, clipOutcome, output}
+use Rattle.string_clip.specs.Claim.{Direction, drawn, travelled, ownSteps, ownTravel, same, times, OneOf, rayKeeps, InsideAndOutside, Room, Tells, Together}
 use Rattle.string_clip.proofs.ReadBack.{read-back}
 use Rattle.string_clip.proofs.Own.{same-true, same-refl, in-drawn, drawn-apart, once-among, run-tally, keeps-drawn}
 use Rattle.string_clip.proofs.Found.{travel-either, clip-fits}
 
 -- ---- one run
-run-tells : (d : Drawing) → Good d → (rule : Rule) (filter : Filter) (points : List ℤ) (lengths : List ℕ) → 8 * length d ≤ length points → 2 * length d ≤ length lengths
-    → Tells d points lengths (answered Accepted (clipPaths rule filter d) points lengths)
+run-tells : (d : Drawing) → Good d → (rule : Rule) (filter : Filter) (ls : Lists) → 8 * length d ≤ length (ls .points) → 2 * length d ≤ length (ls .lengths)
+    → Tells d ls (answered Accepted (clipPaths rule filter d) ls)
 unfolding totals
-run-tells d g rule filter points lengths h k =
+run-tells d g rule filter ls h k =
     let paths = clipPaths rule filter d in
-    let back : paths ≡ output (answered Accepted paths points lengths) = sym (read-back paths points lengths) in
+    let back : paths ≡ output (answered Accepted paths ls) = sym (read-back paths ls) in
     let fits = clip-fits d g rule filter in
     let f = length-coordinates (flatten paths) in
     let m : length (map length paths) ≡ length paths = length-map paths length in
@@ -53,11 +53,11 @@ run-tells d g rule filter points lengths h k =
       paths = ap length back;
       points-told = ap (λ z. length (flatten z)) back;
       steps = ap (λ z. length (stepsOf z)) back;
-      travel = ap (λ z. tally travelOf (stepsOf z)) back;
+      travel-told = ap (λ z. tally travelOf (stepsOf z)) back;
       few-points = fits .0;
       few-paths = fits .1;
-      as-long = (length-written (coordinates (flatten paths)) points (omega (arith, fits .0)), length-written (map length paths) lengths (omega (arith, fits .1)));
-      past = (written-past (coordinates (flatten paths)) points (2 * length (flatten paths)) (sym f), written-past (map length paths) lengths (length paths) (sym m));
+      as-long = (length-written (coordinates (flatten paths)) (ls .points) (omega (arith, fits .0)), length-written (map length paths) (ls .lengths) (omega (arith, fits .1)));
+      past = (written-past (coordinates (flatten paths)) (ls .points) (2 * length (flatten paths)) (sym f), written-past (map length paths) (ls .lengths) (length paths) (sym m));
     }
 
 -- ---- two runs
@@ -126,12 +126,12 @@ module _ (d : Drawing) (g : Good d) (rule : Rule) (boundary : ℤ) where
   unfolding ownTravel travelled
   sum-travel = both-tally travelOf ∙ tally-cong (drawn d) (λ δ m. travel-either (δ .forth) (δ .segment))
 
-  module _ (xs₀ xs₁ : List ℤ) (ns₀ ns₁ : List ℕ) where
-    both-good : InsideAndOutside d rule boundary (answered Accepted (clipPaths rule (filterOf (pos 0) boundary) d) xs₀ ns₀) (answered Accepted (clipPaths rule (filterOf (pos 1) boundary) d) xs₁ ns₁)
+  module _ (ls₀ ls₁ : Lists) where
+    both-good : InsideAndOutside d rule boundary (answered Accepted (clipPaths rule (filterOf (pos 0) boundary) d) ls₀) (answered Accepted (clipPaths rule (filterOf (pos 1) boundary) d) ls₁)
     unfolding totals
     both-good =
-        let back₀ = read-back (clipPaths rule (filterOf (pos 0) boundary) d) xs₀ ns₀ in
-        let back₁ = read-back (clipPaths rule (filterOf (pos 1) boundary) d) xs₁ ns₁ in
+        let back₀ = read-back (clipPaths rule (filterOf (pos 0) boundary) d) ls₀ in
+        let back₁ = read-back (clipPaths rule (filterOf (pos 1) boundary) d) ls₁ in
         record {
           once = rw (back₀, back₁) once-in;
           no-other = rw (back₀, back₁) (λ σ. cases (drawn-step (pos 0) σ) (drawn-step (pos 1) σ));
@@ -141,69 +141,69 @@ module _ (d : Drawing) (g : Good d) (rule : Rule) (boundary : ℤ) where
         }
 
 -- ---- by verdicts
-module _ (numbers : List ℤ) (rule invert boundary : ℤ) (xs : List ℤ) (ns : List ℕ) (e : verdict (clipRun numbers rule invert boundary (length xs) (length ns)) ≡ Accepted) where
+module _ (numbers : List ℤ) (rule invert boundary : ℤ) (ls : Lists) (e : verdict (runOf numbers rule invert boundary ls) ≡ Accepted) where
   pub accepted-drawing : Good (segments numbers)
   unfolding clipRun
   accepted-drawing = verdict-good _ e
 
-  pub accepted-outcome : clipOutcome numbers rule invert boundary xs ns ≡ answered Accepted (clipPaths (ruleOf rule) (filterOf invert boundary) (segments numbers)) xs ns
+  pub accepted-outcome : clipOutcome numbers rule invert boundary ls ≡ answered Accepted (clipPaths (ruleOf rule) (filterOf invert boundary) (segments numbers)) ls
   unfolding clipOutcome
   accepted-outcome = rw e
 
-  pub accepted-room : Room numbers xs ns
+  pub accepted-room : Room numbers ls
   unfolding clipRun
   accepted-room = record {
-    points-fit = omega (arith, length-segments numbers, verdict-room _ e (lent (length xs) 8) (inl refl));
-    lengths-fit = omega (arith, length-segments numbers, verdict-room _ e (lent (length ns) 2) (inr (inl refl)));
+    points-fit = omega (arith, length-segments numbers, verdict-room _ e (lent (length (ls .points)) 8) (inl refl));
+    lengths-fit = omega (arith, length-segments numbers, verdict-room _ e (lent (length (ls .lengths)) 2) (inr (inl refl)));
   }
 
-  pub accepted-tells : Tells (segments numbers) xs ns (clipOutcome numbers rule invert boundary xs ns)
-  accepted-tells = rw accepted-outcome (run-tells (segments numbers) accepted-drawing (ruleOf rule) (filterOf invert boundary) xs ns (accepted-room .points-fit) (accepted-room .lengths-fit))
+  pub accepted-tells : Tells (segments numbers) ls (clipOutcome numbers rule invert boundary ls)
+  accepted-tells = rw accepted-outcome (run-tells (segments numbers) accepted-drawing (ruleOf rule) (filterOf invert boundary) ls (accepted-room .points-fit) (accepted-room .lengths-fit))
 
-module _ (numbers : List ℤ) (rule boundary : ℤ) (xs₀ xs₁ : List ℤ) (ns₀ ns₁ : List ℕ) where
+module _ (numbers : List ℤ) (rule boundary : ℤ) (ls₀ ls₁ : Lists) where
   abbrev inside : Outcome
-  inside = clipOutcome numbers rule (pos 0) boundary xs₀ ns₀
+  inside = clipOutcome numbers rule (pos 0) boundary ls₀
 
   abbrev outside : Outcome
-  outside = clipOutcome numbers rule (pos 1) boundary xs₁ ns₁
+  outside = clipOutcome numbers rule (pos 1) boundary ls₁
 
-  pub both-accepted : verdict (clipRun numbers rule (pos 0) boundary (length xs₀) (length ns₀)) ≡ Accepted → verdict (clipRun numbers rule (pos 1) boundary (length xs₁) (length ns₁)) ≡ Accepted
-      → InsideAndOutside (segments numbers) (ruleOf rule) boundary inside outside × Tells (segments numbers) xs₀ ns₀ inside × Tells (segments numbers) xs₁ ns₁ outside
+  pub both-accepted : verdict (runOf numbers rule (pos 0) boundary ls₀) ≡ Accepted → verdict (runOf numbers rule (pos 1) boundary ls₁) ≡ Accepted
+      → InsideAndOutside (segments numbers) (ruleOf rule) boundary inside outside × Tells (segments numbers) ls₀ inside × Tells (segments numbers) ls₁ outside
   both-accepted e₀ e₁ = (
-    rw (accepted-outcome numbers rule (pos 0) boundary xs₀ ns₀ e₀, accepted-outcome numbers rule (pos 1) boundary xs₁ ns₁ e₁)
-        (both-good (segments numbers) (accepted-drawing numbers rule (pos 0) boundary xs₀ ns₀ e₀) (ruleOf rule) boundary xs₀ xs₁ ns₀ ns₁),
-    accepted-tells numbers rule (pos 0) boundary xs₀ ns₀ e₀,
-    accepted-tells numbers rule (pos 1) boundary xs₁ ns₁ e₁,
+    rw (accepted-outcome numbers rule (pos 0) boundary ls₀ e₀, accepted-outcome numbers rule (pos 1) boundary ls₁ e₁)
+        (both-good (segments numbers) (accepted-drawing numbers rule (pos 0) boundary ls₀ e₀) (ruleOf rule) boundary ls₀ ls₁),
+    accepted-tells numbers rule (pos 0) boundary ls₀ e₀,
+    accepted-tells numbers rule (pos 1) boundary ls₁ e₁,
   )
 
 -- ---- the theorem
-pub room-long : (numbers xs : List ℤ) (ns : List ℕ) → Room numbers xs ns → any (tooShort (count numbers)) (lent (length xs) 8 ∷ lent (length ns) 2 ∷ []) ≡ false
+pub room-long : (numbers : List ℤ) (ls : Lists) → Room numbers ls → any (tooShort (count numbers)) (lent (length (ls .points)) 8 ∷ lent (length (ls .lengths)) 2 ∷ []) ≡ false
 unfolding any tooShort
-room-long numbers xs ns r = neither
-    (le-ltb (length xs) (8 * count numbers) (omega (arith, length-segments numbers, r .points-fit)))
-    (neither (le-ltb (length ns) (2 * count numbers) (omega (arith, length-segments numbers, r .lengths-fit))) refl)
+room-long numbers ls r = neither
+    (le-ltb (length (ls .points)) (8 * count numbers) (omega (arith, length-segments numbers, r .points-fit)))
+    (neither (le-ltb (length (ls .lengths)) (2 * count numbers) (omega (arith, length-segments numbers, r .lengths-fit))) refl)
 
 module _ (numbers : List ℤ) (rule boundary : ℤ) (e : accepts numbers rule (pos 0) boundary ≡ true) where
   -- inside and outside are both known
   choices-known : (invert : ℤ) → unknownChoice (flagChoice invert) ≡ false → any unknownChoice (ruleChoice rule ∷ flagChoice invert ∷ flagChoice boundary ∷ []) ≡ false
   unfolding clipRun any
   choices-known invert h =
-      let known = passed _ (accepted-input numbers rule (pos 0) boundary e) .known in
+      let known = passed _ (accepted-input numbers rule (pos 0) boundary e) .asks .known in
       neither (nor-l (unknownChoice (ruleChoice rule)) _ known) (neither h (nor-r (unknownChoice (flagChoice (pos 0))) _ (nor-r (unknownChoice (ruleChoice rule)) _ known)))
 
-  room-accepted : (invert : ℤ) → unknownChoice (flagChoice invert) ≡ false → (xs : List ℤ) (ns : List ℕ) → Room numbers xs ns → verdict (clipRun numbers rule invert boundary (length xs) (length ns)) ≡ Accepted
+  room-accepted : (invert : ℤ) → unknownChoice (flagChoice invert) ≡ false → (ls : Lists) → Room numbers ls → verdict (runOf numbers rule invert boundary ls) ≡ Accepted
   unfolding clipRun
-  room-accepted invert h xs ns r = accepted-run numbers rule (pos 0) boundary e _ _ (choices-known invert h) (room-long numbers xs ns r)
+  room-accepted invert h ls r = accepted-run numbers rule (pos 0) boundary e _ _ (choices-known invert h) (room-long numbers ls r)
 
-pub insideAndOutside : (numbers : List ℤ) (rule boundary : ℤ) → accepts numbers rule (pos 0) boundary ≡ true → (xs₀ xs₁ : List ℤ) (ns₀ ns₁ : List ℕ) → Room numbers xs₀ ns₀ → Room numbers xs₁ ns₁
-    → InsideAndOutside (segments numbers) (ruleOf rule) boundary (clipOutcome numbers rule (pos 0) boundary xs₀ ns₀) (clipOutcome numbers rule (pos 1) boundary xs₁ ns₁)
-    × Tells (segments numbers) xs₀ ns₀ (clipOutcome numbers rule (pos 0) boundary xs₀ ns₀)
-    × Tells (segments numbers) xs₁ ns₁ (clipOutcome numbers rule (pos 1) boundary xs₁ ns₁)
+pub insideAndOutside : (numbers : List ℤ) (rule boundary : ℤ) → accepts numbers rule (pos 0) boundary ≡ true → (ls₀ ls₁ : Lists) → Room numbers ls₀ → Room numbers ls₁
+    → InsideAndOutside (segments numbers) (ruleOf rule) boundary (clipOutcome numbers rule (pos 0) boundary ls₀) (clipOutcome numbers rule (pos 1) boundary ls₁)
+    × Tells (segments numbers) ls₀ (clipOutcome numbers rule (pos 0) boundary ls₀)
+    × Tells (segments numbers) ls₁ (clipOutcome numbers rule (pos 1) boundary ls₁)
 unfolding unknownChoice within
-insideAndOutside numbers rule boundary e xs₀ xs₁ ns₀ ns₁ r₀ r₁ =
-    both-accepted numbers rule boundary xs₀ xs₁ ns₀ ns₁ (room-accepted numbers rule boundary e (pos 0) refl xs₀ ns₀ r₀) (room-accepted numbers rule boundary e (pos 1) refl xs₁ ns₁ r₁)
+insideAndOutside numbers rule boundary e ls₀ ls₁ r₀ r₁ =
+    both-accepted numbers rule boundary ls₀ ls₁ (room-accepted numbers rule boundary e (pos 0) refl ls₀ r₀) (room-accepted numbers rule boundary e (pos 1) refl ls₁ r₁)
 
 -- two runs that are as defined
-pub both-runs : (numbers : List ℤ) (rule boundary : ℤ) (inside : Outcome) (xs₀ : List ℤ) (ns₀ : List ℕ) (outside : Outcome) (xs₁ : List ℤ) (ns₁ : List ℕ)
-    → inside ≡ clipOutcome numbers rule (pos 0) boundary xs₀ ns₀ → outside ≡ clipOutcome numbers rule (pos 1) boundary xs₁ ns₁ → Together numbers rule boundary inside xs₀ ns₀ outside xs₁ ns₁
-both-runs numbers rule boundary inside xs₀ ns₀ outside xs₁ ns₁ p q = record { inside-is = p; outside-is = q; claim = λ e r₀ r₁. rw (p, q) (insideAndOutside numbers rule boundary e xs₀ xs₁ ns₀ ns₁ r₀ r₁) }
+pub both-runs : (numbers : List ℤ) (rule boundary : ℤ) (inside : Outcome) (ls₀ : Lists) (outside : Outcome) (ls₁ : Lists)
+    → inside ≡ clipOutcome numbers rule (pos 0) boundary ls₀ → outside ≡ clipOutcome numbers rule (pos 1) boundary ls₁ → Together numbers rule boundary inside ls₀ outside ls₁
+both-runs numbers rule boundary inside ls₀ outside ls₁ p q = record { inside-is = p; outside-is = q; claim = λ e r₀ r₁. rw (p, q) (insideAndOutside numbers rule boundary e ls₀ ls₁ r₀ r₁) }

@@ -1,10 +1,10 @@
--- Two runs, each as defined, so the claim about the definitions is one about the lists. Assumes nothing.
+-- Two runs that are as defined, made at once or one after the other. Assumes nothing.
 use borrow.Author.Needs.{needs}
 use mathlib.Core.Path.{_∙_}
 use lib.IntN.{pos}
 use mir.Facts.{toZ-ofZ}
 use Rattle.integers.proofs.Booleans.{both-l, both-r}
-use Rattle.string_clip.specs.Run.{clipOutcome}
+use Rattle.string_clip.specs.Run.{Lists, lists, clipOutcome}
 use Rattle.string_clip.proofs.Together.{both-runs}
 use Rattle.string_clip.proofs.clip_both.Statement.{statement}
 use Rattle.string_clip.proofs.clip_both.Tie as tie
@@ -18,8 +18,8 @@ has-room-requires-2 c κs = search needs
 both-at-once-requires : tie.Need-both-at-once-requires
 both-at-once-requires c κs =
     let t = c .before .before .before .before in
-    let o = t .before in
-    let i = o .before .before .before in
+    let o = c .before .before .before .before .before in
+    let i = c .before .before .before .before .before .before .before .before in
     (i .has-room .ensures .0 (both-l (i .has-room .result) (o .has-room2 .result) (t .if1 .taken)), o .has-room2 .ensures .0 (both-r (i .has-room .result) (o .has-room2 .result) (t .if1 .taken)))
 
 same-length : tie.Need-same-length
@@ -34,14 +34,22 @@ same-length-3 c = search needs
 same-length-4 : tie.Need-same-length-4
 same-length-4 c = search needs
 
+-- the lists at entry
+module _ (s : tie.Start) where
+  abbrev ls₀ : Lists
+  ls₀ = lists (s .args .inside-points .now) (s .args .inside-lengths .now)
+
+  abbrev ls₁ : Lists
+  ls₁ = lists (s .args .outside-points .now) (s .args .outside-lengths .now)
+
 returns : tie.Need-returns
 returns c =
     let k = c .before .before .before .before .before .before in
-    let s = k .before .before .before .before .before .before .before .before .before .before .before .before .before .before in
+    let s = c .before .before .before .before .before .before .before .before .before .before .before .before .before .before .before .before .before .before .before .before in
     let a = s .args in
-    both-runs (a .segments .now) (a .rule) (a .boundary) _ (a .inside-points .now) (a .inside-lengths .now) _ (a .outside-points .now) (a .outside-lengths .now)
-    (k .both-at-once .ensures .0 ∙ (λ i. clipOutcome (a .segments .now) (toZ-ofZ (s .fits .rule) i) (pos 0) (toZ-ofZ (s .fits .boundary) i) (a .inside-points .now) (a .inside-lengths .now)))
-    (k .both-at-once .ensures .1 ∙ (λ i. clipOutcome (a .segments .now) (toZ-ofZ (s .fits .rule) i) (pos 1) (toZ-ofZ (s .fits .boundary) i) (a .outside-points .now) (a .outside-lengths .now)))
+    both-runs (a .numbers .now) (a .rule) (a .boundary) _ (ls₀ s) _ (ls₁ s)
+    (k .both-at-once .ensures .0 ∙ (λ i. clipOutcome (a .numbers .now) (toZ-ofZ (s .fits .rule) i) (pos 0) (toZ-ofZ (s .fits .boundary) i) (ls₀ s)))
+    (k .both-at-once .ensures .1 ∙ (λ i. clipOutcome (a .numbers .now) (toZ-ofZ (s .fits .rule) i) (pos 1) (toZ-ofZ (s .fits .boundary) i) (ls₁ s)))
 
 clip-requires : tie.Need-clip-requires
 clip-requires c κs = search needs
@@ -64,12 +72,12 @@ same-length-8 c = search needs
 returns-2 : tie.Need-returns-2
 returns-2 c =
     let o = c .before .before .before in
-    let i = o .before .before .before .before .before .before in
-    let s = i .before .before .before .before .before .before .before .before .before .before .before .before in
+    let i = c .before .before .before .before .before .before .before .before .before in
+    let s = c .before .before .before .before .before .before .before .before .before .before .before .before .before .before .before .before .before .before .before .before .before in
     let a = s .args in
-    both-runs (a .segments .now) (a .rule) (a .boundary) _ (a .inside-points .now) (a .inside-lengths .now) _ (a .outside-points .now) (a .outside-lengths .now)
-    (i .clip .ensures ∙ (λ i. clipOutcome (a .segments .now) (toZ-ofZ (s .fits .rule) i) (pos 0) (toZ-ofZ (s .fits .boundary) i) (a .inside-points .now) (a .inside-lengths .now)))
-    (o .clip2 .ensures ∙ (λ i. clipOutcome (a .segments .now) (toZ-ofZ (s .fits .rule) i) (pos 1) (toZ-ofZ (s .fits .boundary) i) (a .outside-points .now) (a .outside-lengths .now)))
+    both-runs (a .numbers .now) (a .rule) (a .boundary) _ (ls₀ s) _ (ls₁ s)
+    (i .clip .ensures ∙ (λ j. clipOutcome (a .numbers .now) (toZ-ofZ (s .fits .rule) j) (pos 0) (toZ-ofZ (s .fits .boundary) j) (ls₀ s)))
+    (o .clip2 .ensures ∙ (λ j. clipOutcome (a .numbers .now) (toZ-ofZ (s .fits .rule) j) (pos 1) (toZ-ofZ (s .fits .boundary) j) (ls₁ s)))
 
 pub clip-both-spec : {M : Type 1} → statement M
 clip-both-spec =

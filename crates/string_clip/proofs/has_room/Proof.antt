@@ -1,11 +1,14 @@
--- A quotient of at least n is a number of at least the product. Assumes nothing.
+-- Neither list is too short. Assumes nothing.
 use borrow.Author.Needs.{needs}
-use borrow.Author.Tests.{leb-true, le-leb}
+use mathlib.Core.Path.{_≡_, refl, sym, ap, _∙_}
+use mathlib.Core.Bool.{Bool, true, false, not, _||_, true≢false}
 use native.Mathlib.Omega.{arith}
-use Prim.Native.Nat.{_/_}
-use lib.Dec.{leb}
+use Prim.Native.Nat.{_*_}
 use lib.ListN.{length}
-use Rattle.integers.proofs.Booleans.{both, both-l, both-r}
+use borrow.Author.Tests.{ltb-false, le-ltb}
+use Rattle.integers.proofs.Booleans.{nor-l, nor-r, neither}
+use Rattle.refusal.specs.Asked.{tooShort}
+use Rattle.segm.specs.Segments.{count}
 use Rattle.segm.proofs.Segments.{length-segments}
 use Rattle.string_clip.proofs.has_room.Statement.{statement}
 use Rattle.string_clip.proofs.has_room.Tie as tie
@@ -13,19 +16,41 @@ use Rattle.string_clip.proofs.has_room.Tie as tie
 count-requires : tie.Need-count-requires
 count-requires c κs = search needs
 
+is-short-requires : tie.Need-is-short-requires
+is-short-requires c κs = search needs
+
+is-short-requires-2 : tie.Need-is-short-requires-2
+is-short-requires-2 c κs = search needs
+
+flipped : (b : Bool) → not b ≡ true → b ≡ false
+flipped false e = refl
+flipped true e = absurd (true≢false (sym e))
+
 returns : tie.Need-returns
+unfolding tooShort
 returns c =
-    let a = c .before .before .args in
-    let n = c .count .result in
-    let number = length-segments (a .s .now) in
-    let p = length (a .points .now) / 8 in
-    let l = length (a .lengths .now) / 2 in (
-      λ e. record {
-        points-fit = omega (arith, number, c .count .ensures, leb-true n p (both-l (leb n p) (leb n l) e));
-        lengths-fit = omega (arith, number, c .count .ensures, leb-true n l (both-r (leb n p) (leb n l) e));
+    let s = c .before .before .before .before in
+    let n = c .before .before in
+    let p = c .before in
+    let xs = length (s .args .points .now) in
+    let ns = length (s .args .lengths .now) in
+    let number = length-segments (s .args .s .now) in
+    let first = p .is-short .result in
+    let second = c .is-short2 .result in (
+      λ e. let none = flipped (first || second) e in record {
+        points-fit = omega (arith, number, n .count .ensures, ltb-false xs (8 * n .count .result) (sym (p .is-short .ensures) ∙ nor-l first second none));
+        lengths-fit = omega (arith, number, n .count .ensures, ltb-false ns (2 * n .count .result) (sym (c .is-short2 .ensures) ∙ nor-r first second none));
       },
-      λ r. both (le-leb n p (omega (arith, number, c .count .ensures, r .points-fit))) (le-leb n l (omega (arith, number, c .count .ensures, r .lengths-fit))),
+      λ r. ap not (neither
+          (p .is-short .ensures ∙ le-ltb xs (8 * n .count .result) (omega (arith, number, n .count .ensures, r .points-fit)))
+          (c .is-short2 .ensures ∙ le-ltb ns (2 * n .count .result) (omega (arith, number, n .count .ensures, r .lengths-fit)))),
     )
 
 pub has-room-spec : {M : Type 1} → statement M
-has-room-spec = tie.close (tie.spec count-requires returns)
+has-room-spec =
+    tie.close
+    (tie.spec
+    count-requires
+    is-short-requires
+    is-short-requires-2
+    returns)

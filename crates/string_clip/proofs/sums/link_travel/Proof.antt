@@ -1,12 +1,10 @@
 -- The product is that of the definition, so it is small. Assumes nothing.
 use borrow.Author.Needs.{needs}
 use mathlib.Core.Path.{_≡_, ap₂}
-use mathlib.Core.Bool.{true}
 use native.Mathlib.Omega.{arith}
 use Prim.Native.Nat.{_*_}
+use Rattle.geom.specs.Points.{travel}
 use Rattle.moves.specs.Bits.{bitsSet}
-use Rattle.moves.specs.Steps.{asDrawn}
-use Rattle.string_clip.specs.Paths.{travelOf}
 use Rattle.string_clip.proofs.Links.{link-bound}
 use Rattle.string_clip.proofs.sums.link_travel.Statement.{statement}
 use Rattle.string_clip.proofs.sums.link_travel.Tie as tie
@@ -14,15 +12,18 @@ use Rattle.string_clip.proofs.sums.link_travel.Tie as tie
 lines-requires : tie.Need-lines-requires
 lines-requires c κs = search needs
 
-step-travel-requires : tie.Need-step-travel-requires
-step-travel-requires c κs = search needs
+travel-requires : tie.Need-travel-requires
+travel-requires c κs = search needs
 
-module _ (c : tie.After-step-travel) where
+module _ (c : tie.After-travel) where
   abbrev s : tie.Start
   s = c .before .before
 
-  product : c .before .lines .result * c .step-travel .result ≡ bitsSet (s .args .bits) * travelOf (asDrawn true (s .args .s))
-  product = ap₂ _*_ (c .before .lines .ensures) (c .step-travel .ensures)
+  abbrev l : tie.After-lines
+  l = c .before
+
+  product : l .lines .result * c .travel .result ≡ bitsSet (s .args .bits) * travel (s .args .s .a) (s .args .s .b)
+  product = ap₂ _*_ (l .lines .ensures) (c .travel .ensures)
 
 mul-result : tie.Need-mul-result
 mul-result c = record { fits = omega (arith, product c, link-bound (s c .args .s) (s c .pre) (s c .args .bits)) }
@@ -31,4 +32,10 @@ returns : tie.Need-returns
 returns c = product c
 
 pub link-travel-spec : {M : Type 1} → statement M
-link-travel-spec = tie.close (tie.spec lines-requires step-travel-requires mul-result returns)
+link-travel-spec =
+    tie.close
+    (tie.spec
+    lines-requires
+    travel-requires
+    mul-result
+    returns)

@@ -2,16 +2,14 @@
 use borrow.Author.Needs.{needs}
 use mathlib.Core.Path.{_≡_, ap, _∙_}
 use mathlib.Core.List.{List, []}
-use mathlib.Core.Bool.{true}
 use native.Mathlib.Omega.{arith}
 use Prim.Native.Nat.{ℕ, _+_, _*_, _-_, _<_}
 use lib.ListN.{length, getD, drop, drop-of-length-le}
+use Rattle.geom.specs.Points.{travel}
 use Rattle.segm.specs.declared.Segment.{Segment}
 use Rattle.segm.specs.Segments.{Drawing, segments, segmentAt}
 use Rattle.segm.proofs.Segments.{segment-in}
 use Rattle.moves.specs.Bits.{bitsSet}
-use Rattle.moves.specs.Steps.{asDrawn}
-use Rattle.string_clip.specs.Paths.{travelOf}
 use Rattle.string_clip.specs.Writing.{travelOver}
 use Rattle.string_clip.proofs.Links.{all-bound, travel-next}
 use Rattle.string_clip.proofs.sums.travel.Statement.{statement}
