@@ -23,7 +23,7 @@ use Rattle.string_split.specs.Loops.{splitLoops}
 unfoldable pub outOfRangeAt : List Point → ℕ → ℕ
 outOfRangeAt points i = cond (inRange (getD points i origin)) 0 3
 
--- 2: no whole points, or more than 2,048; 11: not two entries and a length for each point; then 3
+-- 2 for numbers that are not whole points, or more than 2,048; 11 for lists without two numbers and one length for each point; then 3
 unfoldable pub splitVerdict : List ℤ → (out lengths : ℕ) → Verdict
 splitVerdict points out lengths =
     refuseIf 2 (wrongLength 2 2048 (length points))
@@ -35,13 +35,14 @@ splitVerdict points out lengths =
 abbrev pub loopTotals : List (List Point) → LoopTotals
 loopTotals loops = record { loops = length loops; points = length (flatten loops) }
 
--- 01's number, place and values for what it answers: 0, 0 and how many loops and points there are; of a refusal its own, and none
+-- 01's number, place and values for what it answers
 pub record Told : Type 0 where
   pub number : ℕ
   pub place : ℕ
   pub loops : ℕ
   pub points : ℕ
 
+-- 0, 0 and how many loops and points there are; of a refusal its own number and place, and no loop
 abbrev pub told : Loops → Told
 told (Done found) = record { number = 0; place = 0; loops = found .loops; points = found .points }
 told (Refused number place) = record { number = number; place = place; loops = 0; points = 0 }
@@ -51,6 +52,7 @@ pub record Lists : Type 0 where
   pub out : List ℤ
   pub lengths : List ℕ
 
+-- these two
 abbrev pub lists : List ℤ → List ℕ → Lists
 lists out lengths = record { out = out; lengths = lengths }
 
@@ -60,12 +62,14 @@ pub record Outcome : Type 0 where
   pub numbers : Told
   pub lists : Lists
 
+-- this answer and these lists
 abbrev pub outcome : Loops → Lists → Outcome
 outcome answer lists = record { answer = answer; numbers = told answer; lists = lists }
 
 -- an accepted run writes x, y pairs and one length a loop at the fronts of the lists; a refused one writes nothing
 abbrev pub answered : Verdict → List (List Point) → Lists → Outcome
-answered verdict-is.Accepted loops old = outcome (Done (loopTotals loops)) (lists (written (coordinates (flatten loops)) (old .out)) (written (map length loops) (old .lengths)))
+answered verdict-is.Accepted loops old =
+    outcome (Done (loopTotals loops)) (lists (written (coordinates (flatten loops)) (old .out)) (written (map length loops) (old .lengths)))
 answered (verdict-is.Refused number place) loops old = outcome (Refused number place) old
 
 -- the outcome of a split run, for any numbers, minimum area and lent lists
