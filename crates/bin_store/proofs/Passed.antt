@@ -24,7 +24,7 @@ use Rattle.geom.specs.Points.{inRange}
 use Rattle.geom.proofs.Point as P
 use Rattle.geom.proofs.Point.Laws as P′
 use Rattle.bin_store.specs.declared.store.BinStore.{BinStore}
-use Rattle.bin_store.specs.Bins.{memory, Room, Sound, Sights}
+use Rattle.bin_store.specs.Bins.{memory, RoomForItem, BinsInUse, Sights}
 use Rattle.bin_store.proofs.store.BinStore as T
 use Rattle.bin_store.proofs.store.BinStore.Laws as T′
 
@@ -53,7 +53,7 @@ module _ (κs : Lfts 4) where
 
 -- what is asked of a memory and of what is passed, and what a sighting leaves of them
 abbrev pub Asks : BinStore → Passed → Type 0
-Asks h xs = Sound h (xs .0 .now) (xs .1 .0 .now) (xs .1 .1 .0 .now) (xs .1 .1 .1 .0 .now) × Room (h .count) (xs .1 .0 .now) (xs .1 .1 .0 .now) (xs .1 .1 .1 .0 .now) × (inRange (xs .1 .1 .1 .1 .0) ≡ true)
+Asks h xs = BinsInUse h (xs .0 .now) (xs .1 .0 .now) (xs .1 .1 .0 .now) (xs .1 .1 .1 .0 .now) × RoomForItem (h .count) (xs .1 .0 .now) (xs .1 .1 .0 .now) (xs .1 .1 .1 .0 .now) × (inRange (xs .1 .1 .1 .1 .0) ≡ true)
 
 abbrev pub Leaves : BinStore → Passed → BinStore → Left → ℕ → Type 0
 Leaves h xs s zs r = Sights (memory (h .count) (xs .1 .1 .0 .now) (xs .1 .1 .1 .0 .now)) (xs .1 .1 .1 .1 .0) (xs .1 .1 .1 .1 .1 .0) h s (zs .0) (zs .1 .0) (zs .1 .1 .0) (zs .1 .1 .1 .0) r

@@ -43,16 +43,16 @@ unfolding numberOf
 number-own p n = rw (eq-eqP {p = p} {q = p} refl)
 
 -- what a sighting does: a later one nothing, a first one is stored
-pub again : (m : List Sighting) (p : Point) (n : ℕ) → isSighted m p ≡ true → m ≡ sight m p n
+pub sight-again : (m : List Sighting) (p : Point) (n : ℕ) → isSighted m p ≡ true → m ≡ sight m p n
 unfolding sight
-again m p n h = rw h
+sight-again m p n h = rw h
 
-pub first : (m : List Sighting) (p : Point) (n : ℕ) → isSighted m p ≡ false → sight m p n ≡ m ++ (sighting p n ∷ [])
+pub sight-first : (m : List Sighting) (p : Point) (n : ℕ) → isSighted m p ≡ false → sight m p n ≡ m ++ (sighting p n ∷ [])
 unfolding sight
-first m p n h = rw h
+sight-first m p n h = rw h
 
 pub first-stored : (m : List Sighting) (p : Point) (n : ℕ) → isSighted m p ≡ false → numberOf (sight m p n) p ≡ n
-first-stored m p n h = ap (λ (l : List Sighting). numberOf l p) (first m p n h) ∙ number-first m p (sighting p n ∷ []) h ∙ number-own p n
+first-stored m p n h = ap (λ (l : List Sighting). numberOf l p) (sight-first m p n h) ∙ number-first m p (sighting p n ∷ []) h ∙ number-own p n
 
 sighted-after : (m : List Sighting) (p : Point) (n : ℕ) → isSighted (sight m p n) p ≡ true
 unfolding sight isSighted any

@@ -9,14 +9,13 @@ use lib.Seq.{getD-set-same, getD-set-other}
 use lib.IntN.{ℤ}
 use Rattle.geom.specs.declared.Point.{Point}
 use Rattle.contour.specs.Points.{pairUp, origin}
-use Rattle.contour.proofs.Coordinates.{length-pairs}
-use Rattle.contour.proofs.Coordinates.{pairs-set}
+use Rattle.contour.proofs.Coordinates.{length-pairs, pairs-set}
 use Rattle.bin_store.specs.Sightings.{Sighting, sighting}
-use Rattle.bin_store.specs.Bins.{binIndex, pointOf, memory, Unseen, Binned, Room}
+use Rattle.bin_store.specs.Bins.{binIndex, pointOf, memory, Unseen, Binned, RoomForItem}
 use Rattle.bin_store.proofs.Items.{memory-more}
 use Rattle.bin_store.proofs.Links.{linked-more}
 
-module _ (count : ℕ) (heads nexts : List ℕ) (seen seen′ : List ℤ) (numbers : List ℕ) (p : Point) (number : ℕ) (room : Room count nexts seen numbers) (put : seen′ ≡ set (set seen (2 * count) (p .x)) (2 * count + 1) (p .y)) where
+module _ (count : ℕ) (heads nexts : List ℕ) (seen seen′ : List ℤ) (numbers : List ℕ) (p : Point) (number : ℕ) (room : RoomForItem count nexts seen numbers) (put : seen′ ≡ set (set seen (2 * count) (p .x)) (2 * count + 1) (p .y)) where
   points : (i : ℕ) → pointOf seen′ i ≡ getD (set (pairUp seen) count p) i origin
   points i = ap (λ (l : List Point). getD l i origin) (ap pairUp put ∙ pairs-set seen count p)
 

@@ -49,20 +49,20 @@ pub record Binned (count : ℕ) (heads nexts : List ℕ) (seen : List ℤ) (numb
   pub numbers-fit : count ≤ length numbers
 
 -- what a look-up of p finds: the item that holds p, or 0
-pub record Found (count : ℕ) (seen : List ℤ) (p : Point) (r : ℕ) : Type 0 where
-  pub inside : r ≤ count
+pub record LookedUp (count : ℕ) (seen : List ℤ) (p : Point) (r : ℕ) : Type 0 where
+  pub among-items : r ≤ count
   pub none : r ≡ 0 → Unseen count seen p
   pub holds : (j : ℕ) → r ≡ suc j → eqP (pointOf seen j) p ≡ true
 
 -- room for one item more
-pub record Room (count : ℕ) (nexts : List ℕ) (seen : List ℤ) (numbers : List ℕ) : Type 0 where
+pub record RoomForItem (count : ℕ) (nexts : List ℕ) (seen : List ℤ) (numbers : List ℕ) : Type 0 where
   pub few : count < 2048
   pub nexts-fit : count < length nexts
   pub seen-fit : 2 * suc count ≤ length seen
   pub numbers-fit : count < length numbers
 
 -- the memory and its lists: the bins in use are the first
-pub record Sound (s : BinStore) (heads nexts : List ℕ) (seen : List ℤ) (numbers : List ℕ) : Type 0 where
+pub record BinsInUse (s : BinStore) (heads nexts : List ℕ) (seen : List ℤ) (numbers : List ℕ) : Type 0 where
   pub bins-fit : s .bins ≤ length heads
   pub binned : Binned (s .count) (take (s .bins) heads) nexts seen numbers
 
@@ -72,4 +72,4 @@ pub record Sights (m : List Sighting) (p : Point) (number : ℕ) (s s′ : BinSt
   pub tells : r ≡ numberOf (memory (s′ .count) seen numbers) p
   pub same-bins : s′ .bins ≡ s .bins
   pub one-more : s′ .count ≤ s .count + 1
-  pub sound : Sound s′ heads nexts seen numbers
+  pub bins-in-use : BinsInUse s′ heads nexts seen numbers

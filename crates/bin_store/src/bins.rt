@@ -8,7 +8,7 @@ ghost use Prim.Native.Nat.{suc, _<_};
 ghost use lib.ListN.{length};
 ghost use Rattle.geom.specs.Points.{inRange};
 ghost use Rattle.bin_store.specs.Sightings.{sighting};
-ghost use Rattle.bin_store.specs.Bins.{binIndex, memory, Unseen, Linked, Binned, Found, Room};
+ghost use Rattle.bin_store.specs.Bins.{binIndex, memory, Unseen, Linked, Binned, LookedUp, RoomForItem};
 
 // The bin of p, as the Rust has it but for the number of bins.
 fn bin_index(bins: usize, p: Point) -> usize
@@ -34,7 +34,7 @@ pub fn clear(heads: &mut [u16], nexts: &[u16], seen: &[i32], numbers: &[u16])
 // The item that holds p, or 0. The count is for the contract.
 pub fn find(heads: &[u16], nexts: &[u16], seen: &[i32], count: usize, p: Point) -> usize
     requires { ⌜ Linked count (now heads) (now nexts) (now seen) × (inRange p ≡ true) ⌝ }
-    ensures { λ r. ⌜ Found count (now (seen .entry)) p r ⌝ }
+    ensures { λ r. ⌜ LookedUp count (now (seen .entry)) p r ⌝ }
 {
     let b = bin_index(heads.len(), p);
     let mut j = heads[b] as usize;
@@ -57,7 +57,7 @@ pub fn store(
     p: Point,
     number: u16,
 )
-    requires { ⌜ Binned count (now heads) (now nexts) (now seen) (now numbers) × Room count (now nexts) (now seen) (now numbers) × (inRange p ≡ true) × Unseen count (now seen) p ⌝ }
+    requires { ⌜ Binned count (now heads) (now nexts) (now seen) (now numbers) × RoomForItem count (now nexts) (now seen) (now numbers) × (inRange p ≡ true) × Unseen count (now seen) p ⌝ }
     ensures { λ _. ⌜ (memory (suc count) (now (seen .exit)) (now (numbers .exit)) ≡ memory count (now (seen .entry)) (now (numbers .entry)) ++ (sighting p number ∷ []))
         × Binned (suc count) (now (heads .exit)) (now (nexts .exit)) (now (seen .exit)) (now (numbers .exit)) ⌝ }
 {

@@ -6,7 +6,7 @@ ghost use mathlib.Core.Bool.{true};
 ghost use Prim.Native.Nat.{_+_, _≤_};
 ghost use Rattle.geom.specs.Points.{inRange};
 ghost use Rattle.bin_store.specs.Sightings.{numberOf, sight};
-ghost use Rattle.bin_store.specs.Bins.{memory, Binned, Room, Sound, Sights};
+ghost use Rattle.bin_store.specs.Bins.{memory, Binned, RoomForItem, BinsInUse, Sights};
 
 // How many bins are in use and how many items are stored; the items stand in the lists beside it.
 pub struct BinStore {
@@ -36,7 +36,7 @@ pub fn insert(
     p: Point,
     number: u16,
 ) -> Inserted
-    requires { ⌜ Sound store (now heads) (now nexts) (now seen) (now numbers) × Room (store .count) (now nexts) (now seen) (now numbers) × (inRange p ≡ true) ⌝ }
+    requires { ⌜ BinsInUse store (now heads) (now nexts) (now seen) (now numbers) × RoomForItem (store .count) (now nexts) (now seen) (now numbers) × (inRange p ≡ true) ⌝ }
     ensures { λ r. ⌜ Sights (memory (store .count) (now (seen .entry)) (now (numbers .entry))) p number store (r .store) (now (heads .exit)) (now (nexts .exit)) (now (seen .exit)) (now (numbers .exit)) (r .number) ⌝ }
 {
     let bins = store.bins;
@@ -68,7 +68,7 @@ pub fn insert_if_not_exist(
     p: Point,
     number: u16,
 ) -> u16
-    requires { ⌜ Sound (now store) (now heads) (now nexts) (now seen) (now numbers) × Room (now store .count) (now nexts) (now seen) (now numbers) × (inRange p ≡ true) ⌝ }
+    requires { ⌜ BinsInUse (now store) (now heads) (now nexts) (now seen) (now numbers) × RoomForItem (now store .count) (now nexts) (now seen) (now numbers) × (inRange p ≡ true) ⌝ }
     ensures { λ r. ⌜ Sights (memory (now (store .entry) .count) (now (seen .entry)) (now (numbers .entry))) p number (now (store .entry)) (now (store .exit)) (now (heads .exit)) (now (nexts .exit)) (now (seen .exit)) (now (numbers .exit)) r ⌝ }
 {
     let r = insert(*store, heads, nexts, seen, numbers, p, number);
@@ -86,7 +86,7 @@ pub fn sight_point(
     p: Point,
     number: u16,
 ) -> Seen
-    requires { ⌜ Binned count (now heads) (now nexts) (now seen) (now numbers) × Room count (now nexts) (now seen) (now numbers) × (inRange p ≡ true) ⌝ }
+    requires { ⌜ Binned count (now heads) (now nexts) (now seen) (now numbers) × RoomForItem count (now nexts) (now seen) (now numbers) × (inRange p ≡ true) ⌝ }
     ensures { λ r. ⌜ (memory (r .count) (now (seen .exit)) (now (numbers .exit)) ≡ sight (memory count (now (seen .entry)) (now (numbers .entry))) p number)
         × (r .number ≡ numberOf (memory (r .count) (now (seen .exit)) (now (numbers .exit))) p)
         × (r .count ≤ count + 1)

@@ -1,6 +1,6 @@
 // Walks cut into loops, and loops made contours: each with its role, and turned round where it must be. Every function here is proved, and the crate assumes
 // nothing of its own.
-use string_split::Found;
+use string_split::LoopTotals;
 ghost use mathlib.Core.Path.{_≡_};
 ghost use mathlib.Core.List.{map, flatten};
 ghost use Prim.Native.Nat.{_*_, _≤_};
@@ -9,7 +9,7 @@ ghost use Rattle.lists.specs.Sums.{tally};
 ghost use Rattle.lists.specs.Written.{written};
 ghost use Rattle.contour.specs.Points.{coordinates, pairUp};
 ghost use Rattle.string_split.specs.Loops.{splitLoops};
-ghost use Rattle.string_split.specs.Run.{foundOf};
+ghost use Rattle.string_split.specs.Run.{loopTotals};
 ghost use Rattle.string_split.specs.Splitting.{Working, Splittable};
 ghost use Rattle.contour.specs.Contour.{contourOf};
 ghost use Rattle.slice_cut.specs.Cutting.{walkContours, pointsOf, rolesOf, counts, Holds, pathsIn, cutWalks, Stand};
@@ -56,13 +56,13 @@ fn cut_walk(
     points: &mut [i32],
     lengths: &mut [u32],
     roles: &mut [u8],
-) -> Found
+) -> LoopTotals
     requires { ⌜ Splittable (now walk)
         × Working (length (pairUp (now walk))) (now heads) (now nexts) (now seen) (now numbers) (now buffer)
         × (length (now walk) ≤ length (now points))
         × (length (pairUp (now walk)) ≤ length (now lengths))
         × (length (pairUp (now walk)) ≤ length (now roles)) ⌝ }
-    ensures { λ r. ⌜ (r ≡ foundOf (splitLoops «min_area» (pairUp (now (walk .entry)))))
+    ensures { λ r. ⌜ (r ≡ loopTotals (splitLoops «min_area» (pairUp (now (walk .entry)))))
         × Holds (walkContours clockwise «min_area» direction (pairUp (now (walk .entry)))) (now (points .entry)) (now (lengths .entry)) (now (roles .entry)) (now (points .exit)) (now (lengths .exit)) (now (roles .exit)) ⌝ }
 {
     let found = string_split::split_loops(
@@ -156,12 +156,12 @@ pub fn cut_walks(
     ensures { λ r. ⌜ (r ≡ counts (cutWalks clockwise «min_area» (pathsIn (now (walks .entry)) (now («walk_lengths» .entry))) (now (directions .entry))))
         × Holds (cutWalks clockwise «min_area» (pathsIn (now (walks .entry)) (now («walk_lengths» .entry))) (now (directions .entry))) (now (points .entry)) (now (lengths .entry)) (now (roles .entry)) (now (points .exit)) (now (lengths .exit)) (now (roles .exit)) ⌝ }
 {
-    if walks.len() <= 4 * segm::SMALL {
-        let mut heads = [0u16; 257];
-        let mut nexts = [0u16; 256];
-        let mut seen = [0i32; 512];
-        let mut numbers = [0u16; 256];
-        let mut buffer = [0i32; 512];
+    if walks.len() <= string_split::SMALL_COORDINATES {
+        let mut heads = [0u16; string_split::SMALL_HEADS];
+        let mut nexts = [0u16; string_split::SMALL];
+        let mut seen = [0i32; string_split::SMALL_COORDINATES];
+        let mut numbers = [0u16; string_split::SMALL];
+        let mut buffer = [0i32; string_split::SMALL_COORDINATES];
         return cut_all(
             walks,
             walk_lengths,
@@ -178,11 +178,11 @@ pub fn cut_walks(
             roles,
         );
     }
-    let mut heads = [0u16; 2049];
-    let mut nexts = [0u16; 2048];
-    let mut seen = [0i32; 4096];
-    let mut numbers = [0u16; 2048];
-    let mut buffer = [0i32; 4096];
+    let mut heads = [0u16; string_split::HEADS];
+    let mut nexts = [0u16; string_split::MOST];
+    let mut seen = [0i32; string_split::COORDINATES];
+    let mut numbers = [0u16; string_split::MOST];
+    let mut buffer = [0i32; string_split::COORDINATES];
     cut_all(
         walks,
         walk_lengths,

@@ -9,11 +9,12 @@ use Rattle.lists.specs.Members.{any, keep}
 use Rattle.lists.specs.Written.{written}
 use Rattle.contour.specs.Points.{coordinates, pairUp}
 use Rattle.contour.specs.Area.{crossProduct, around, shoelace, isClockwise, isLarge}
-use Rattle.refusal.specs.Order.{firstFrom}
+use Rattle.refusal.specs.Order.{firstFrom, first}
+use Rattle.refusal.specs.Asked.{wrongLength, tooShort}
 use Rattle.bin_store.specs.Sightings.{isSighted, numberOf, sight}
 use Rattle.string_split.specs.declared.Loops.the-variants.{Done, Refused}
 use Rattle.string_split.specs.Loops.{closed, bufferPoint, bufferPoints, rest, allLoops, splitLoops}
-use Rattle.string_split.specs.Run.{wrongLength, tooShort, outAt, splitVerdict, outcome, splitOutcome}
+use Rattle.string_split.specs.Run.{outOfRangeAt, splitVerdict, lists, outcome, splitOutcome}
 
 abbrev A : Point
 A = record { x = pos 0; y = pos 0 }
@@ -48,16 +49,16 @@ pub record Cases : Type 0 where
   pub counter-clockwise : isClockwise (B ∷ C ∷ A ∷ []) ≡ false
   pub flat : isClockwise (A ∷ B ∷ A ∷ []) ≡ false
   -- whole runs: what lists hold past the answer stays; 2 before 11 before 3
-  pub done : splitOutcome (coordinates (B ∷ C ∷ A ∷ [])) 0 (pos 11 ∷ pos 12 ∷ pos 13 ∷ pos 14 ∷ pos 15 ∷ pos 16 ∷ pos 17 ∷ []) (21 ∷ 22 ∷ 23 ∷ [])
-      ≡ outcome (Done (record { loops = 1; points = 3 })) (pos 4 ∷ pos 0 ∷ pos 4 ∷ pos 4 ∷ pos 0 ∷ pos 0 ∷ pos 17 ∷ []) (3 ∷ 22 ∷ 23 ∷ [])
-  pub nothing : splitOutcome [] 5 (pos 11 ∷ []) [] ≡ outcome (Done (record { loops = 0; points = 0 })) (pos 11 ∷ []) []
-  pub odd : splitOutcome (pos 16777217 ∷ []) 0 [] [] ≡ outcome (Refused 2 0) [] []
-  pub out-short : splitOutcome (pos 16777217 ∷ pos 0 ∷ []) 0 (pos 11 ∷ []) (21 ∷ []) ≡ outcome (Refused 11 0) (pos 11 ∷ []) (21 ∷ [])
-  pub lengths-short : splitOutcome (pos 16777217 ∷ pos 0 ∷ []) 0 (pos 11 ∷ pos 12 ∷ []) [] ≡ outcome (Refused 11 0) (pos 11 ∷ pos 12 ∷ []) []
-  pub out-of-range : splitOutcome (pos 16777216 ∷ pos 0 ∷ pos 0 ∷ negsuc 16777216 ∷ []) 0 (pos 11 ∷ pos 12 ∷ pos 13 ∷ pos 14 ∷ []) (21 ∷ 22 ∷ []) ≡ outcome (Refused 3 1) (pos 11 ∷ pos 12 ∷ pos 13 ∷ pos 14 ∷ []) (21 ∷ 22 ∷ [])
+  pub done : splitOutcome (coordinates (B ∷ C ∷ A ∷ [])) 0 (lists (pos 11 ∷ pos 12 ∷ pos 13 ∷ pos 14 ∷ pos 15 ∷ pos 16 ∷ pos 17 ∷ []) (21 ∷ 22 ∷ 23 ∷ []))
+      ≡ outcome (Done (record { loops = 1; points = 3 })) (lists (pos 4 ∷ pos 0 ∷ pos 4 ∷ pos 4 ∷ pos 0 ∷ pos 0 ∷ pos 17 ∷ []) (3 ∷ 22 ∷ 23 ∷ []))
+  pub nothing : splitOutcome [] 5 (lists (pos 11 ∷ []) []) ≡ outcome (Done (record { loops = 0; points = 0 })) (lists (pos 11 ∷ []) [])
+  pub odd : splitOutcome (pos 16777217 ∷ []) 0 (lists [] []) ≡ outcome (Refused 2 0) (lists [] [])
+  pub out-short : splitOutcome (pos 16777217 ∷ pos 0 ∷ []) 0 (lists (pos 11 ∷ []) (21 ∷ [])) ≡ outcome (Refused 11 0) (lists (pos 11 ∷ []) (21 ∷ []))
+  pub lengths-short : splitOutcome (pos 16777217 ∷ pos 0 ∷ []) 0 (lists (pos 11 ∷ pos 12 ∷ []) []) ≡ outcome (Refused 11 0) (lists (pos 11 ∷ pos 12 ∷ []) [])
+  pub out-of-range : splitOutcome (pos 16777216 ∷ pos 0 ∷ pos 0 ∷ negsuc 16777216 ∷ []) 0 (lists (pos 11 ∷ pos 12 ∷ pos 13 ∷ pos 14 ∷ []) (21 ∷ 22 ∷ [])) ≡ outcome (Refused 3 1) (lists (pos 11 ∷ pos 12 ∷ pos 13 ∷ pos 14 ∷ []) (21 ∷ 22 ∷ []))
 
 pub cases : Cases
-unfolding eqZ within eqP coordinate inRange any keep written coordinates pairUp crossProduct around shoelace isClockwise isLarge firstFrom isSighted numberOf sight closed bufferPoint bufferPoints rest allLoops splitLoops wrongLength tooShort outAt splitVerdict splitOutcome flatten
+unfolding eqZ within eqP coordinate inRange any keep written coordinates pairUp crossProduct around shoelace isClockwise isLarge firstFrom first wrongLength tooShort isSighted numberOf sight closed bufferPoint bufferPoints rest allLoops splitLoops outOfRangeAt splitVerdict splitOutcome flatten
 cases = record {
   not-forgotten = refl;
   twice = refl;

@@ -1,7 +1,6 @@
 pub mod Fits
-pub mod Adding
 pub mod OnePoint
+pub mod Splitting
 pub mod Taking
-pub mod Accepted
-pub mod Memory
+pub mod Run
 pub mod Cases

@@ -2,37 +2,14 @@
 use mathlib.Core.Path.{_≡_, refl, sym, ap, _∙_}
 use mathlib.Core.List.{List, [], _∷_, _++_}
 use mathlib.Core.Bool.{Bool, true, false, cond}
-use Prim.Native.Nat.{ℕ, zero, suc, _+_, _-_, _*_, _<_, _≤_}
+use Prim.Native.Nat.{ℕ, suc, _+_, _<_, _≤_}
 use native.Mathlib.Omega.{arith}
 use lib.Dec.{ltb}
-use lib.ListN.{length, take, drop, set, length-append, length-drop}
-use lib.Seq.{length-take-le, take-suc-set, take-append-le, drop-append-le, take-take, take-nil}
-use lib.IntN.{ℤ}
+use lib.ListN.{length, take, drop, length-append, length-drop}
+use lib.Seq.{length-take-le, take-append-le, drop-append-le, take-take}
 use borrow.Author.Tests.{ltb-true, lt-ltb, le-ltb}
 use Rattle.geom.specs.declared.Point.{Point}
-use Rattle.contour.specs.Points.{pairUp}
-use Rattle.contour.proofs.Coordinates.{pairUp-take, pairUp-drop, length-pairs, pairs-set}
 use Rattle.string_split.specs.Loops.{closed, Buffered, buffered, bufferPoint, rest}
-use Rattle.string_split.specs.Splitting.{front}
-
-pub length-front : (len : ℕ) (l : List ℤ) → 2 * len ≤ length l → length (front len l) ≡ len
-length-front len l h = length-take-le len (pairUp l) (omega (arith, length-pairs l))
-
--- the point stands after the first `len`
-pub put-front : (l : List ℤ) (len : ℕ) (p : Point) → 2 * suc len ≤ length l → front (suc len) (set (set l (2 * len) (p .x)) (2 * len + 1) (p .y)) ≡ front len l ++ (p ∷ [])
-put-front l len p h = ap (take (suc len)) (pairs-set l len p) ∙ take-suc-set (pairUp l) len p (omega (arith, length-pairs l))
-
-drop-take : {A : Type 0} (k m : ℕ) (l : List A) → drop k (take (k + m) l) ≡ take m (drop k l)
-drop-take zero m l = let e : 0 + m ≡ m = omega arith in ap (λ n. take n l) e
-drop-take (suc k) m [] = ap (drop (suc k)) (take-nil (suc k + m)) ∙ sym (take-nil m)
-drop-take (suc k) m (x ∷ l) = let e : suc k + m ≡ suc (k + m) = omega arith in rw e (drop-take k m l)
-
--- the points of a part
-pub part-front : (l : List ℤ) (k n : ℕ) → k ≤ n → pairUp (take (2 * n - 2 * k) (drop (2 * k) l)) ≡ drop k (front n l)
-part-front l k n h =
-    let e : 2 * n - 2 * k ≡ 2 * (n - k) = omega arith in
-    let d : k + (n - k) ≡ n = omega arith in
-    rw e (pairUp-take (drop (2 * k) l) (n - k) ∙ ap (take (n - k)) (pairUp-drop l k) ∙ sym (drop-take k (n - k) (pairUp l)) ∙ ap (λ m. drop k (take m (pairUp l))) d)
 
 module _ (number : ℕ) (buffer : List Point) (p : Point) where
   -- by the test

@@ -16,20 +16,20 @@ use Rattle.lists.proofs.Members.{keep-++, length-keep}
 use Rattle.contour.specs.Points.{coordinates, origin, AllInRange, Writes}
 use Rattle.contour.specs.Area.{isLarge}
 use Rattle.bin_store.specs.Sightings.{Sighting, numberOf, sight}
-use Rattle.string_split.specs.declared.buffer.Found.{Found}
+use Rattle.string_split.specs.declared.buffer.LoopTotals.{LoopTotals}
 use Rattle.string_split.specs.Loops.{Buffered, buffered, bufferPoint, bufferPoints}
-use Rattle.string_split.specs.Run.{foundOf}
+use Rattle.string_split.specs.Run.{loopTotals}
 use Rattle.string_split.specs.Splitting.{Adds}
-use Rattle.string_split.proofs.Adding.{found-on, writes-on}
+use Rattle.string_split.proofs.Splitting.{totals-on, writes-on}
 use Rattle.string_split.proofs.Fits.{Fit, buffer-fit, fit-on, buffer-near, length-flatten-keep}
 
 -- after i points the loops of these are done, and the memory and the buffer decide the others
-pub record Taking (least : ℕ) (points : List Point) (out₀ : List ℤ) (lengths₀ : List ℕ) (memory : List Sighting) (buffer : List Point) (out : List ℤ) (lengths : List ℕ) (found : Found) (i : ℕ) : Type 0 where
+pub record Taking (least : ℕ) (points : List Point) (out₀ : List ℤ) (lengths₀ : List ℕ) (memory : List Sighting) (buffer : List Point) (out : List ℤ) (lengths : List ℕ) (found : LoopTotals) (i : ℕ) : Type 0 where
   pub done : List (List Point)
   pub all : bufferPoints [] [] points ≡ buffered (bufferPoints memory buffer (drop i points) .buffer) (done ++ bufferPoints memory buffer (drop i points) .loops)
   pub fit : Fit i (buffered buffer done)
   pub near : AllInRange buffer
-  pub found-is : found ≡ foundOf (keep (isLarge least) done)
+  pub found-is : found ≡ loopTotals (keep (isLarge least) done)
   pub writes : Writes (keep (isLarge least) done) out₀ lengths₀ out lengths
 
 pub none-taken : (least : ℕ) (points : List Point) (out : List ℤ) (lengths : List ℕ) → Taking least points out lengths [] [] out lengths (record { loops = 0; points = 0 }) 0
@@ -43,14 +43,14 @@ none-taken least points out lengths = record {
   writes = record { points-are = refl; lengths-are = refl };
 }
 
-module _ {least : ℕ} {points : List Point} {out₀ out : List ℤ} {lengths₀ lengths : List ℕ} {memory : List Sighting} {buffer : List Point} {found : Found} {i : ℕ}
+module _ {least : ℕ} {points : List Point} {out₀ out : List ℤ} {lengths₀ lengths : List ℕ} {memory : List Sighting} {buffer : List Point} {found : LoopTotals} {i : ℕ}
     (t : Taking least points out₀ lengths₀ memory buffer out lengths found i) where
   -- no more than were taken
   pub few-points : found .points + length buffer ≤ i
-  few-points = omega (arith, ap (λ (f : Found). f .points) (t .found-is), length-flatten-keep (isLarge least) (t .done), t .fit .points)
+  few-points = omega (arith, ap (λ (f : LoopTotals). f .points) (t .found-is), length-flatten-keep (isLarge least) (t .done), t .fit .points)
 
   pub few-loops : found .loops + length buffer ≤ i
-  few-loops = omega (arith, ap (λ (f : Found). f .loops) (t .found-is), length-keep (isLarge least) (t .done), t .fit .points, t .fit .loops)
+  few-loops = omega (arith, ap (λ (f : LoopTotals). f .loops) (t .found-is), length-keep (isLarge least) (t .done), t .fit .points, t .fit .loops)
 
   -- one point more
   module _ (p : Point) (after : List Sighting) where
@@ -66,7 +66,7 @@ module _ {least : ℕ} {points : List Point} {out₀ out : List ℤ} {lengths₀
         ap (bufferPoints memory buffer) d
         ∙ ap (λ (m : List Sighting). buffered (bufferPoints m (bufferPoint (numberOf m p) buffer p .buffer) r .buffer) (bufferPoint (numberOf m p) buffer p .loops ++ bufferPoints m (bufferPoint (numberOf m p) buffer p .buffer) r .loops)) (sym s)
 
-    pub taken-more : {out′ : List ℤ} {lengths′ : List ℕ} {found′ : Found} → getD points i origin ≡ p → i < length points → inRange p ≡ true → after ≡ sight memory p (suc (length buffer))
+    pub taken-more : {out′ : List ℤ} {lengths′ : List ℕ} {found′ : LoopTotals} → getD points i origin ≡ p → i < length points → inRange p ≡ true → after ≡ sight memory p (suc (length buffer))
         → Adds (keep (isLarge least) (one .loops)) found found′ out lengths out′ lengths′ → Taking least points out₀ lengths₀ after (one .buffer) out′ lengths′ found′ (i + 1)
     taken-more {out′} {lengths′} e h r s a =
         let later = bufferPoints after (one .buffer) (drop (i + 1) points) in
@@ -78,7 +78,7 @@ module _ {least : ℕ} {points : List Point} {out₀ out : List ℤ} {lengths₀
           all = t .all ∙ ap (λ (u : Buffered). buffered (u .buffer) (t .done ++ u .loops)) n ∙ ap (buffered (later .buffer)) (sym (append-assoc (t .done) (one .loops) (later .loops)));
           fit = fit-on 1 {done = t .done} {buffer = buffer} {t = one} (t .fit) f;
           near = buffer-near (numberOf after p) buffer p (t .near) r .buffer;
-          found-is = found-on (keep (isLarge least) (t .done)) (keep (isLarge least) (one .loops)) (t .found-is) a ∙ ap foundOf (sym k);
+          found-is = totals-on (keep (isLarge least) (t .done)) (keep (isLarge least) (one .loops)) (t .found-is) a ∙ ap loopTotals (sym k);
           writes = subst (λ (d : List (List Point)). Writes d out₀ lengths₀ out′ lengths′) (sym k) (writes-on (keep (isLarge least) (t .done)) (keep (isLarge least) (one .loops)) (t .found-is) (t .writes) a);
         }
 

@@ -7,14 +7,14 @@ use lib.IntN.{ℤ}
 use Rattle.geom.specs.declared.Point.{Point}
 use Rattle.lists.specs.Written.{written}
 use Rattle.contour.specs.Points.{coordinates, pairUp, AllInRange}
-use Rattle.string_split.specs.declared.buffer.Found.{Found}
+use Rattle.string_split.specs.declared.buffer.LoopTotals.{LoopTotals}
 
 -- the first n points of a list of numbers
-abbrev pub front : ℕ → List ℤ → List Point
-front n l = take n (pairUp l)
+abbrev pub firstPoints : ℕ → List ℤ → List Point
+firstPoints n l = take n (pairUp l)
 
 -- these loops come after those that were found
-pub record Adds (loops : List (List Point)) (found after : Found) (out₀ : List ℤ) (lengths₀ : List ℕ) (out : List ℤ) (lengths : List ℕ) : Type 0 where
+pub record Adds (loops : List (List Point)) (found after : LoopTotals) (out₀ : List ℤ) (lengths₀ : List ℕ) (out : List ℤ) (lengths : List ℕ) : Type 0 where
   pub loops-are : after .loops ≡ found .loops + length loops
   pub points-are : after .points ≡ found .points + length (flatten loops)
   pub out-is : out ≡ take (2 * found .points) out₀ ++ written (coordinates (flatten loops)) (drop (2 * found .points) out₀)

@@ -12,18 +12,18 @@ ghost use Rattle.contour.specs.Points.{pairUp, AllInRange, Writes};
 ghost use Rattle.contour.specs.Area.{isLarge};
 ghost use Rattle.bin_store.specs.Bins.{Binned};
 ghost use Rattle.string_split.specs.Loops.{bufferPoint, bufferPoints, rest, splitLoops};
-ghost use Rattle.string_split.specs.Run.{foundOf};
-ghost use Rattle.string_split.specs.Splitting.{front, Adds, Working, Splittable};
+ghost use Rattle.string_split.specs.Run.{loopTotals};
+ghost use Rattle.string_split.specs.Splitting.{firstPoints, Adds, Working, Splittable};
 
 // How many loops and points were written.
-pub struct Found {
+pub struct LoopTotals {
     pub loops: usize,
     pub points: usize,
 }
 
 // What was found of the points taken, and how many of them the buffer has.
 struct Taken {
-    found: Found,
+    found: LoopTotals,
     len: usize,
 }
 
@@ -33,8 +33,8 @@ fn add_loop(
     min_area: u64,
     out: &mut [i32],
     lengths: &mut [u32],
-    found: Found,
-) -> Found
+    found: LoopTotals,
+) -> LoopTotals
     requires { ⌜ Splittable (now contour)
         × (2 * found .points + length (now contour) ≤ length (now out))
         × (found .loops < length (now lengths))
@@ -50,7 +50,7 @@ fn add_loop(
     let k = found.loops;
     contour::copy(contour, &mut out[2 * at..]);
     lengths[k] = n as u32;
-    Found {
+    LoopTotals {
         loops: k + 1,
         points: at + n,
     }
@@ -65,19 +65,19 @@ fn close(
     len: usize,
     out: &mut [i32],
     lengths: &mut [u32],
-    found: Found,
-) -> Found
+    found: LoopTotals,
+) -> LoopTotals
     requires { ⌜ (inRange p ≡ true)
         × (len < 2048)
         × (2 * suc len ≤ length (now buffer))
         × (length (now buffer) ≤ 4096)
-        × AllInRange (front len (now buffer))
+        × AllInRange (firstPoints len (now buffer))
         × (2 * (found .points + suc len) ≤ length (now out))
         × (found .loops < length (now lengths))
         × (found .loops ≤ 2048)
         × (found .points ≤ 2048) ⌝ }
-    ensures { λ r. ⌜ (front (length (bufferPoint number (front len (now (buffer .entry))) p .buffer)) (now (buffer .exit)) ≡ bufferPoint number (front len (now (buffer .entry))) p .buffer)
-        × Adds (keep (isLarge «min_area») (bufferPoint number (front len (now (buffer .entry))) p .loops)) found r (now (out .entry)) (now (lengths .entry)) (now (out .exit)) (now (lengths .exit)) ⌝ }
+    ensures { λ r. ⌜ (firstPoints (length (bufferPoint number (firstPoints len (now (buffer .entry))) p .buffer)) (now (buffer .exit)) ≡ bufferPoint number (firstPoints len (now (buffer .entry))) p .buffer)
+        × Adds (keep (isLarge «min_area») (bufferPoint number (firstPoints len (now (buffer .entry))) p .loops)) found r (now (out .entry)) (now (lengths .entry)) (now (out .exit)) (now (lengths .exit)) ⌝ }
 {
     let from = number as usize;
     contour::put_point(buffer, len, p);
@@ -119,13 +119,13 @@ fn take_points(
         × Working (length (pairUp (now points))) (now heads) (now nexts) (now seen) (now numbers) (now buffer)
         × (length (now points) ≤ length (now out))
         × (length (pairUp (now points)) ≤ length (now lengths)) ⌝ }
-    ensures { λ r. ⌜ (r .found ≡ foundOf (keep (isLarge «min_area») (bufferPoints [] [] (pairUp (now (points .entry))) .loops)))
+    ensures { λ r. ⌜ (r .found ≡ loopTotals (keep (isLarge «min_area») (bufferPoints [] [] (pairUp (now (points .entry))) .loops)))
         × (r .len ≡ length (bufferPoints [] [] (pairUp (now (points .entry))) .buffer))
-        × (front (r .len) (now (buffer .exit)) ≡ bufferPoints [] [] (pairUp (now (points .entry))) .buffer)
+        × (firstPoints (r .len) (now (buffer .exit)) ≡ bufferPoints [] [] (pairUp (now (points .entry))) .buffer)
         × Writes (keep (isLarge «min_area») (bufferPoints [] [] (pairUp (now (points .entry))) .loops)) (now (out .entry)) (now (lengths .entry)) (now (out .exit)) (now (lengths .exit)) ⌝ }
 {
     let n = points.len() / 2;
-    let mut found = Found {
+    let mut found = LoopTotals {
         loops: 0,
         points: 0,
     };
@@ -153,8 +153,8 @@ fn add_rest(
     min_area: u64,
     out: &mut [i32],
     lengths: &mut [u32],
-    found: Found,
-) -> Found
+    found: LoopTotals,
+) -> LoopTotals
     requires { ⌜ Splittable (now buffer)
         × (2 * found .points + length (now buffer) ≤ length (now out))
         × (found .loops + length (pairUp (now buffer)) ≤ length (now lengths))
@@ -179,12 +179,12 @@ pub fn split_loops(
     buffer: &mut [i32],
     out: &mut [i32],
     lengths: &mut [u32],
-) -> Found
+) -> LoopTotals
     requires { ⌜ Splittable (now points)
         × Working (length (pairUp (now points))) (now heads) (now nexts) (now seen) (now numbers) (now buffer)
         × (length (now points) ≤ length (now out))
         × (length (pairUp (now points)) ≤ length (now lengths)) ⌝ }
-    ensures { λ r. ⌜ (r ≡ foundOf (splitLoops «min_area» (pairUp (now (points .entry)))))
+    ensures { λ r. ⌜ (r ≡ loopTotals (splitLoops «min_area» (pairUp (now (points .entry)))))
         × Writes (splitLoops «min_area» (pairUp (now (points .entry)))) (now (out .entry)) (now (lengths .entry)) (now (out .exit)) (now (lengths .exit)) ⌝ }
 {
     let bins = points.len() / 2 + 1;

@@ -3,27 +3,38 @@
 // memory that is lent.
 mod buffer;
 
-pub use buffer::Found;
+pub use buffer::LoopTotals;
 pub use buffer::split_loops;
-use checks::Verdict;
+use refusal::Verdict;
 ghost use mathlib.Core.Path.{_≡_};
-ghost use Prim.Native.Nat.{_≤_};
 ghost use lib.ListN.{length};
-ghost use Rattle.refusal.specs.Order.{firstFrom};
-ghost use Rattle.contour.specs.Points.{pairUp, Writes};
-ghost use Rattle.string_split.specs.Loops.{splitLoops};
-ghost use Rattle.string_split.specs.Run.{outAt, splitVerdict, foundOf, outcome, splitOutcome};
-ghost use Rattle.string_split.specs.Splitting.{Splittable};
+ghost use Rattle.refusal.specs.Order.{first};
+ghost use Rattle.contour.specs.Points.{pairUp};
+ghost use Rattle.string_split.specs.Run.{outOfRangeAt, splitVerdict, lists, outcome, splitOutcome};
+
+// How many points are split at most, how many coordinates these have, and how many bins there are for them: one more, so that there is always one.
+pub const MOST: usize = 2048;
+
+pub const COORDINATES: usize = 2 * MOST;
+
+pub const HEADS: usize = MOST + 1;
+
+// The same for as many points as a small drawing has ends.
+pub const SMALL: usize = 2 * segm::SMALL;
+
+pub const SMALL_COORDINATES: usize = 2 * SMALL;
+
+pub const SMALL_HEADS: usize = SMALL + 1;
 
 // What a split run answers: what it found, or a refusal's number and place.
 pub enum Loops {
-    Done(Found),
+    Done(LoopTotals),
     Refused(u32, usize),
 }
 
 // The first point that is out of range.
 fn find_out(points: &[i32]) -> Verdict
-    ensures { λ r. ⌜ r ≡ firstFrom (outAt (pairUp (now (points .entry)))) (length (pairUp (now (points .entry)))) 0 ⌝ }
+    ensures { λ r. ⌜ r ≡ first (outOfRangeAt (pairUp (now (points .entry)))) (length (pairUp (now (points .entry)))) ⌝ }
 {
     let n = points.len() / 2;
     let mut i: usize = 0;
@@ -41,34 +52,30 @@ fn check_split(points: &[i32], out: usize, lengths: usize) -> Verdict
     ensures { λ r. ⌜ r ≡ splitVerdict (now (points .entry)) out lengths ⌝ }
 {
     let n = points.len() / 2;
-    if points.len() % 2 != 0 {
+    if refusal::is_wrong_length(points.len(), 2, MOST) {
         return Verdict::Refused(2, 0);
     }
-    if 2048 < n {
-        return Verdict::Refused(2, 0);
-    }
-    if out < points.len() {
-        return Verdict::Refused(11, 0);
-    }
-    if lengths < n {
+    if refusal::is_short(out, 2, n) | refusal::is_short(lengths, 1, n) {
         return Verdict::Refused(11, 0);
     }
     find_out(points)
 }
 
-// Splits points, with memory for as many as a small drawing has ends or for any.
-fn split_points(points: &[i32], min_area: u64, out: &mut [i32], lengths: &mut [u32]) -> Found
-    requires { ⌜ Splittable (now points) × (length (now points) ≤ length (now out)) × (length (pairUp (now points)) ≤ length (now lengths)) ⌝ }
-    ensures { λ r. ⌜ (r ≡ foundOf (splitLoops «min_area» (pairUp (now (points .entry)))))
-        × Writes (splitLoops «min_area» (pairUp (now (points .entry)))) (now (out .entry)) (now (lengths .entry)) (now (out .exit)) (now (lengths .exit)) ⌝ }
+// The loops of up to 2,048 points, as x, y pairs and one length a loop, or the refusal. It owns the run's memory, for as many points as a small drawing has ends
+// or for any.
+pub fn split(points: &[i32], min_area: u64, out: &mut [i32], lengths: &mut [u32]) -> Loops
+    ensures { λ r. ⌜ outcome r (lists (now (out .exit)) (now (lengths .exit))) ≡ splitOutcome (now (points .entry)) «min_area» (lists (now (out .entry)) (now (lengths .entry))) ⌝ }
 {
-    if points.len() <= 4 * segm::SMALL {
-        let mut heads = [0u16; 257];
-        let mut nexts = [0u16; 256];
-        let mut seen = [0i32; 512];
-        let mut numbers = [0u16; 256];
-        let mut buffer = [0i32; 512];
-        return split_loops(
+    if let Verdict::Refused(number, place) = check_split(points, out.len(), lengths.len()) {
+        return Loops::Refused(number, place);
+    }
+    if points.len() <= SMALL_COORDINATES {
+        let mut heads = [0u16; SMALL_HEADS];
+        let mut nexts = [0u16; SMALL];
+        let mut seen = [0i32; SMALL_COORDINATES];
+        let mut numbers = [0u16; SMALL];
+        let mut buffer = [0i32; SMALL_COORDINATES];
+        return Loops::Done(split_loops(
             points,
             min_area,
             &mut heads,
@@ -78,14 +85,14 @@ fn split_points(points: &[i32], min_area: u64, out: &mut [i32], lengths: &mut [u
             &mut buffer,
             out,
             lengths,
-        );
+        ));
     }
-    let mut heads = [0u16; 2049];
-    let mut nexts = [0u16; 2048];
-    let mut seen = [0i32; 4096];
-    let mut numbers = [0u16; 2048];
-    let mut buffer = [0i32; 4096];
-    split_loops(
+    let mut heads = [0u16; HEADS];
+    let mut nexts = [0u16; MOST];
+    let mut seen = [0i32; COORDINATES];
+    let mut numbers = [0u16; MOST];
+    let mut buffer = [0i32; COORDINATES];
+    Loops::Done(split_loops(
         points,
         min_area,
         &mut heads,
@@ -95,15 +102,5 @@ fn split_points(points: &[i32], min_area: u64, out: &mut [i32], lengths: &mut [u
         &mut buffer,
         out,
         lengths,
-    )
-}
-
-// The loops of up to 2,048 points, as x, y pairs and one length a loop, or the refusal.
-pub fn split(points: &[i32], min_area: u64, out: &mut [i32], lengths: &mut [u32]) -> Loops
-    ensures { λ r. ⌜ outcome r (now (out .exit)) (now (lengths .exit)) ≡ splitOutcome (now (points .entry)) «min_area» (now (out .entry)) (now (lengths .entry)) ⌝ }
-{
-    match check_split(points, out.len(), lengths.len()) {
-        Verdict::Accepted => Loops::Done(split_points(points, min_area, out, lengths)),
-        Verdict::Refused(number, place) => Loops::Refused(number, place),
-    }
+    ))
 }

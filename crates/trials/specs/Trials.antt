@@ -46,11 +46,11 @@ verdictOn n numbers = verdict (clipRun numbers (pos 1) (pos 0) (pos 1) (8 * n) (
 
 -- a split run over n points, with minimum area 0 and lists exactly long enough
 abbrev pub splitOf : ℕ → List ℤ → split.Outcome
-splitOf n points = split.splitOutcome points 0 (heldNumbers (2 * n)) (held n)
+splitOf n points = split.splitOutcome points 0 (split.lists (heldNumbers (2 * n)) (held n))
 
 -- it finds one loop
 abbrev pub findsLoop : ℕ → (points : ℕ) → List ℤ → split.Outcome
-findsLoop n points numbers = split.outcome (loops-are.Done (record { loops = 1; points = points })) (numbers ++ drop (2 * points) (heldNumbers (2 * n))) (points ∷ drop 1 (held n))
+findsLoop n points numbers = split.outcome (loops-are.Done (record { loops = 1; points = points })) (split.lists (numbers ++ drop (2 * points) (heldNumbers (2 * n))) (points ∷ drop 1 (held n)))
 
 -- ---- the trial drawings
 pub record Trials : Type 0 where

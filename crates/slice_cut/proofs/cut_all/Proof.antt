@@ -11,9 +11,9 @@ use Rattle.geom.specs.declared.Point.{Point}
 use Rattle.lists.specs.Sums.{tally}
 use Rattle.contour.specs.Points.{pairUp}
 use Rattle.contour.proofs.Coordinates.{length-pairs}
-use Rattle.string_split.specs.declared.buffer.Found.{Found}
+use Rattle.string_split.specs.declared.buffer.LoopTotals.{LoopTotals}
 use Rattle.string_split.specs.Loops.{splitLoops}
-use Rattle.string_split.specs.Run.{foundOf}
+use Rattle.string_split.specs.Run.{loopTotals}
 use Rattle.string_split.proofs.Fits.{loops-fit, loops-few}
 use Rattle.slice_cut.specs.Cutting.{walkContours, pathsIn, Stand, Holds}
 use Rattle.slice_cut.proofs.InLists.{length-cut, points-passed, points-in-all, next-place, path-few, path-fits, path-is, length-path, splittable}
@@ -219,14 +219,14 @@ module _ (w : tie.After-cut-walk Inv-loop μ-loop) where
   abbrev loops : List (List Point)
   loops = splitLoops (s i .args .min-area) (getD (walks i) (k i) [])
 
-  found-is : w .cut-walk .result ≡ foundOf loops
-  found-is = w .cut-walk .ensures .0 ∙ ap (λ (p : List Point). foundOf (splitLoops (s i .args .min-area) p)) (walk-is i)
+  found-is : w .cut-walk .result ≡ loopTotals loops
+  found-is = w .cut-walk .ensures .0 ∙ ap (λ (p : List Point). loopTotals (splitLoops (s i .args .min-area) p)) (walk-is i)
 
   loops-are : w .cut-walk .result .loops ≡ length loops
-  loops-are = ap (λ (f : Found). f .loops) found-is
+  loops-are = ap (λ (f : LoopTotals). f .loops) found-is
 
   points-are : w .cut-walk .result .points ≡ length (flatten loops)
-  points-are = ap (λ (f : Found). f .points) found-is
+  points-are = ap (λ (f : LoopTotals). f .points) found-is
 
   few-found : (w .cut-walk .result .loops ≤ n i) × (w .cut-walk .result .points ≤ n i)
   few-found =

@@ -9,7 +9,7 @@ use lib.IntN.{ℤ}
 use Rattle.geom.specs.declared.Point.{Point}
 use Rattle.contour.specs.Points.{pairUp, Writes}
 use Rattle.contour.proofs.Coordinates.{length-pairs}
-use Rattle.string_split.specs.declared.buffer.Found.{Found}
+use Rattle.string_split.specs.declared.buffer.LoopTotals.{LoopTotals}
 use Rattle.string_split.specs.Loops.{splitLoops}
 use Rattle.string_split.proofs.Fits.{loops-fit, loops-few, loops-near}
 use Rattle.slice_cut.specs.Cutting.{walkContours, Stand}
@@ -40,7 +40,7 @@ module _ (a : tie.After-split-loops) where
   n = a .split-loops .result .loops
 
   number : n ≡ length loops
-  number = ap (λ (f : Found). f .loops) (a .split-loops .ensures .0)
+  number = ap (λ (f : LoopTotals). f .loops) (a .split-loops .ensures .0)
 
   writes : Writes loops (s .args .points .now) (s .args .lengths .now) points lengths
   writes = a .split-loops .ensures .1

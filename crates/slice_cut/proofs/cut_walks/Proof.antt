@@ -2,12 +2,9 @@
 use borrow.Author.Needs.{needs}
 use native.Mathlib.Omega.{arith}
 use Rattle.lists.specs.Sums.{tally}
-use Rattle.string_split.proofs.Memory.{small-memory, any-memory}
+use Rattle.string_split.proofs.Splitting.{small-working, any-working}
 use Rattle.slice_cut.proofs.cut_walks.Statement.{statement}
 use Rattle.slice_cut.proofs.cut_walks.Tie as tie
-
-mul-if1 : tie.Need-mul-if1
-mul-if1 c = search needs
 
 slice-aggregate-cut-all : tie.Need-slice-aggregate-cut-all
 slice-aggregate-cut-all c = search needs
@@ -29,7 +26,7 @@ cut-all-requires c κs =
     let t = c .before .before .before .before .before .before .before .before in
     let s = t .before .before .before .before .before in
     let p = s .pre in
-    (p .0, p .1, small-memory (tally (λ n. n) (s .args .walk-lengths .now)) (omega (arith, p .0 .inside, t .if1 .taken)), p .2, p .3, p .4)
+    (p .0, p .1, small-working (tally (λ n. n) (s .args .walk-lengths .now)) (omega (arith, p .0 .inside, t .if1 .taken)), p .2, p .3, p .4)
 
 same-length : tie.Need-same-length
 same-length c = search needs
@@ -62,7 +59,7 @@ cut-all-requires-2 : tie.Need-cut-all-requires-2
 cut-all-requires-2 c κs =
     let s = c .before .before .before .before .before .before .before .before .before .before .before .before .before in
     let p = s .pre in
-    (p .0, p .1, any-memory (tally (λ n. n) (s .args .walk-lengths .now)) (p .0 .few), p .2, p .3, p .4)
+    (p .0, p .1, any-working (tally (λ n. n) (s .args .walk-lengths .now)) (p .0 .few), p .2, p .3, p .4)
 
 same-length-4 : tie.Need-same-length-4
 same-length-4 c = search needs
@@ -80,7 +77,6 @@ pub cut-walks-spec : {M : Type 1} → statement M
 cut-walks-spec =
     tie.close
     (tie.spec
-    mul-if1
     slice-aggregate-cut-all
     slice-aggregate-cut-all-2
     slice-aggregate-cut-all-3

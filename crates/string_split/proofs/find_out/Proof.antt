@@ -12,23 +12,24 @@ use Rattle.geom.specs.Points.{inRange}
 use Rattle.contour.specs.Points.{pairUp}
 use Rattle.contour.proofs.Coordinates.{length-pairs}
 use Rattle.refusal.specs.declared.Verdict.the-variants.{Refused}
-use Rattle.refusal.specs.Order.{firstFrom}
+use Rattle.refusal.specs.Order.{firstFrom, first}
 use Rattle.refusal.proofs.Order.{step-none, step-some, step-end}
-use Rattle.string_split.specs.Run.{outAt}
+use Rattle.string_split.specs.Run.{outOfRangeAt}
 use Rattle.string_split.proofs.find_out.Statement.{statement}
 use Rattle.string_split.proofs.find_out.Tie as tie
 
 abbrev Inv-loop : tie.InvT-loop
-Inv-loop points n i₀ i = (i ≤ n) × (firstFrom (outAt (pairUp points)) (length (pairUp points)) 0 ≡ firstFrom (outAt (pairUp points)) (n - i) i)
+Inv-loop points n i₀ i = (i ≤ n) × (first (outOfRangeAt (pairUp points)) (length (pairUp points)) ≡ firstFrom (outOfRangeAt (pairUp points)) (n - i) i)
 
 abbrev μ-loop : tie.MeasureT-loop
 μ-loop points n i₀ i = n - i
 
 loop-holds : tie.Need-loop-holds Inv-loop μ-loop
+unfolding first
 loop-holds c =
     let l = c .args .points .now in
     let all : length (pairUp l) ≡ length l / 2 - 0 = omega (arith, length-pairs l) in
-    (omega arith, ap (λ n. firstFrom (outAt (pairUp l)) n 0) all)
+    (omega arith, ap (λ n. firstFrom (outOfRangeAt (pairUp l)) n 0) all)
 
 point-at-requires : tie.Need-point-at-requires Inv-loop μ-loop
 point-at-requires c κs = search needs
@@ -44,8 +45,8 @@ module _ (r : tie.After-is-in-range Inv-loop μ-loop) where
   abbrev points : List Point
   points = pairUp (l .before .args .points .now)
 
-  tested : {b : Bool} → r .is-in-range .result ≡ b → outAt points (l .loop .i) ≡ cond b 0 3
-  unfolding outAt
+  tested : {b : Bool} → r .is-in-range .result ≡ b → outOfRangeAt points (l .loop .i) ≡ cond b 0 3
+  unfolding outOfRangeAt
   tested e = ap (λ (b : Bool). cond b 0 3) (ap inRange (sym (r .before .point-at .ensures)) ∙ sym (r .is-in-range .ensures) ∙ e)
 
 returns : tie.Need-returns Inv-loop μ-loop
@@ -54,7 +55,7 @@ returns c =
     let e = tested r (not-true (r .is-in-range .result) (c .if1 .taken)) in
     let i = l r .loop .i in
     let n = length (l r .before .args .points .now) / 2 in
-    sym (l r .loop .inv .1 ∙ step-some (outAt (points r)) n i (r .before .before .loop-test .taken) (λ o. three (sym e ∙ o)) ∙ ap (λ m. Refused m i) e)
+    sym (l r .loop .inv .1 ∙ step-some (outOfRangeAt (points r)) n i (r .before .before .loop-test .taken) (λ o. three (sym e ∙ o)) ∙ ap (λ m. Refused m i) e)
   where
     three : _≡_ {A = ℕ} 3 0 → ⊥
     three e = omega arith
@@ -69,13 +70,13 @@ loop-again : tie.Need-loop-again Inv-loop μ-loop
 loop-again c =
     let r = c .before in
     let n = length (l r .before .args .points .now) / 2 in
-    (omega (arith, r .before .before .loop-test .taken), l r .loop .inv .1 ∙ step-none (outAt (points r)) n (l r .loop .i) (r .before .before .loop-test .taken) (tested r (not-false (r .is-in-range .result) (c .if1 .left))))
+    (omega (arith, r .before .before .loop-test .taken), l r .loop .inv .1 ∙ step-none (outOfRangeAt (points r)) n (l r .loop .i) (r .before .before .loop-test .taken) (tested r (not-false (r .is-in-range .result) (c .if1 .left))))
 
 returns-2 : tie.Need-returns-2 Inv-loop μ-loop
 returns-2 c =
     let l = c .before in
     let s = l .before in
-    sym (l .loop .inv .1 ∙ step-end (outAt (pairUp (s .args .points .now))) (length (s .args .points .now) / 2) (l .loop .i) (omega (arith, c .loop-test .left)))
+    sym (l .loop .inv .1 ∙ step-end (outOfRangeAt (pairUp (s .args .points .now))) (length (s .args .points .now) / 2) (l .loop .i) (omega (arith, c .loop-test .left)))
 
 pub find-out-spec : {M : Type 1} → statement M
 find-out-spec =

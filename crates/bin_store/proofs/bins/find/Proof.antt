@@ -56,7 +56,7 @@ returns c =
     let l = c .before .before .before .before in
     let s = l .before .before .before .before .before in
     record {
-      inside = l .loop .inv .0;
+      among-items = l .loop .inv .0;
       none = λ e. absurd (omega arith);
       holds = λ j e. let f : j ≡ l .loop .j - 1 = omega arith in ap (λ i. eqP (pointOf (s .args .seen .now) i) (s .args .p)) f ∙ tested (c .before) ∙ c .if1 .taken;
     }
@@ -92,7 +92,7 @@ returns-2 c =
     let l = c .before in
     let s = l .before .before .before .before .before in
     record {
-      inside = omega arith;
+      among-items = omega arith;
       none = λ _. ahead-none (s .args .nexts .now) (s .args .seen .now) (s .args .p) (s .args .count) (l .loop .j) (c .loop-test .left) (l .loop .inv .1);
       holds = λ j e. absurd (omega arith);
     }

@@ -11,7 +11,7 @@ use lib.Seq.{length-take-le, take-at}
 use Rattle.bin_store.specs.Sightings.{Sighting, sighting, isSighted, numberOf}
 use Rattle.bin_store.specs.Bins.{memory, Binned}
 use Rattle.bin_store.proofs.Items.{not-there, is-there, its-number}
-use Rattle.bin_store.proofs.Sightings.{again, first, number-first, number-own}
+use Rattle.bin_store.proofs.Sightings.{sight-again, sight-first, number-first, number-own}
 use Rattle.bin_store.proofs.store.insert.Statement.{statement}
 use Rattle.bin_store.proofs.store.insert.Tie as tie
 
@@ -51,14 +51,14 @@ returns c =
     let f = c .before .before in
     let s = f .before .before .before .before .before .before .before in
     let a = s .args in
-    let k : f .find .result - 1 < a .store .count = omega (arith, f .find .ensures .inside, c .before .if1 .taken) in
+    let k : f .find .result - 1 < a .store .count = omega (arith, f .find .ensures .among-items, c .before .if1 .taken) in
     let e = f .find .ensures .holds (f .find .result - 1) (omega (arith, c .before .if1 .taken)) in
     record {
-      holds = again _ (a .p) (a .number) (is-there (a .store .count) (a .seen .now) (a .numbers .now) (f .find .result - 1) k (a .p) e);
+      holds = sight-again _ (a .p) (a .number) (is-there (a .store .count) (a .seen .now) (a .numbers .now) (f .find .result - 1) k (a .p) e);
       tells = sym (its-number (a .store .count) (a .seen .now) (a .numbers .now) (f .find .result - 1) k (a .p) e (s .pre .0 .binned .linked .apart));
       same-bins = refl;
       one-more = omega arith;
-      sound = s .pre .0;
+      bins-in-use = s .pre .0;
     }
 
 slice-relend-prefix-store : tie.Need-slice-relend-prefix-store
@@ -99,11 +99,11 @@ returns-2 c =
     let more : memory (a .store .count + 1) (d .store .last .1 .1 .0) (d .store .last .1 .1 .1 .0) ≡ m ++ (sighting (a .p) (a .number) ∷ []) = rw add-one (d .store .ensures .0) in
     let lent = take-at (d .store .last .0) (drop (a .store .bins) (a .heads .now)) (a .store .bins) (d .store .kept .0 ∙ part s) in
     record {
-      holds = more ∙ sym (first m (a .p) (a .number) new);
+      holds = more ∙ sym (sight-first m (a .p) (a .number) new);
       tells = sym (ap (λ (l : List Sighting). numberOf l (a .p)) more ∙ number-first m (a .p) (sighting (a .p) (a .number) ∷ []) new ∙ number-own (a .p) (a .number));
       same-bins = refl;
       one-more = omega arith;
-      sound = record {
+      bins-in-use = record {
         bins-fit = omega (arith, d .store .kept .0, part s, length-append (d .store .last .0) (drop (a .store .bins) (a .heads .now)));
         binned = subst (λ h. Binned (a .store .count + 1) h (d .store .last .1 .0) (d .store .last .1 .1 .0) (d .store .last .1 .1 .1 .0)) (sym lent) (rw add-one (d .store .ensures .1));
       };

@@ -45,7 +45,7 @@ use denote.Triple.Clauses.{Lasts, ensured, lasts}
 use denote.Triple.Table.{entered, cited}
 use denote.Triple.Walked.{says, needs, Stays, walkOf, Walks, ends-at, walked, walk-meets}
 use Rattle.geom.specs.Points.{inRange}
-use Rattle.bin_store.specs.Bins.{Binned, Room}
+use Rattle.bin_store.specs.Bins.{Binned, RoomForItem}
 use Rattle.bin_store.specs.declared.store.BinStore.{BinStore}
 use Rattle.bin_store.specs.declared.store.Seen.{Seen}
 use Rattle.bin_store.proofs.GivenUp.{given-up, go-given-up}
@@ -86,14 +86,14 @@ module _ {M : Type 1} (𝓤 : URA M) (H : Heap 𝓤) (A : Atoms 𝓤) (W : Given
 
   -- what is asked of the lists, which is what is asked of the memory: its bins are all the heads
   abbrev Asked : Type 0
-  Asked = Binned n (xs .0 .now) (xs .1 .0 .now) (xs .1 .1 .0 .now) (xs .1 .1 .1 .0 .now) × Room n (xs .1 .0 .now) (xs .1 .1 .0 .now) (xs .1 .1 .1 .0 .now) × (inRange (xs .1 .1 .1 .1 .0) ≡ true)
+  Asked = Binned n (xs .0 .now) (xs .1 .0 .now) (xs .1 .1 .0 .now) (xs .1 .1 .1 .0 .now) × RoomForItem n (xs .1 .0 .now) (xs .1 .1 .0 .now) (xs .1 .1 .1 .0 .now) × (inRange (xs .1 .1 .1 .1 .0) ≡ true)
 
   asks : Asked → Asks h xs
   asks a = (record { bins-fit = omega arith; binned = subst (λ (l : List ℕ). Binned n l (xs .1 .0 .now) (xs .1 .1 .0 .now) (xs .1 .1 .1 .0 .now)) (sym (take-all (length (xs .0 .now)) (xs .0 .now) (omega arith))) (a .0) }, a .1, a .2)
 
   -- and they are all the heads at exit
   binned : (s : BinStore) (zs : Left) (r : ℕ) → Leaves h xs s zs r → length (zs .0) ≡ length (xs .0 .now) → Binned (s .count) (zs .0) (zs .1 .0) (zs .1 .1 .0) (zs .1 .1 .1 .0)
-  binned s zs r e l = subst (λ (k : List ℕ). Binned (s .count) k (zs .1 .0) (zs .1 .1 .0) (zs .1 .1 .1 .0)) (take-all (s .bins) (zs .0) (omega (arith, e .same-bins, l))) (e .sound .binned)
+  binned s zs r e l = subst (λ (k : List ℕ). Binned (s .count) k (zs .1 .0) (zs .1 .1 .0) (zs .1 .1 .1 .0)) (take-all (s .bins) (zs .0) (omega (arith, e .same-bins, l))) (e .bins-in-use .binned)
 
   -- the machine values
   h-is : length (xs .0 .now) < 2 ^ 64 → n < 2 ^ 64 → Is T.the-row h (mach h ∷ [])

@@ -11,9 +11,9 @@ use Rattle.geom.specs.declared.Point.{Point}
 use Rattle.lists.specs.Members.{keep}
 use Rattle.contour.specs.Points.{pairUp}
 use Rattle.contour.specs.Area.{isLarge}
-use Rattle.string_split.specs.declared.buffer.Found.{Found}
+use Rattle.string_split.specs.declared.buffer.LoopTotals.{LoopTotals}
 use Rattle.string_split.specs.Splitting.{Adds}
-use Rattle.string_split.proofs.Adding.{keep-one, adds-none, adds-one}
+use Rattle.string_split.proofs.Splitting.{keep-one, adds-none, adds-one}
 use Rattle.string_split.proofs.buffer.add_loop.Statement.{statement}
 use Rattle.string_split.proofs.buffer.add_loop.Tie as tie
 
@@ -83,7 +83,7 @@ returns-2 c =
     let p = s r .pre in
     let d = 2 * a .found .points in
     let n = length (a .contour .now) / 2 in
-    let after : Found = record { loops = a .found .loops + 1; points = a .found .points + n } in
+    let after : LoopTotals = record { loops = a .found .loops + 1; points = a .found .points + n } in
     let out : List ℤ → List ℤ = λ (l : List ℤ). take d (a .out .now) ++ (l ++ drop (length (a .out .now) - d) (drop d (a .out .now))) in
     let lengths = set (a .lengths .now) (a .found .loops) n in
     subst (λ (l : List (List Point)). Adds l (a .found) after (a .out .now) (a .lengths .now) (out (k .copy .last .1 .0)) lengths) (kept r (not-false (r .is-large .result) (e .if1 .left)))

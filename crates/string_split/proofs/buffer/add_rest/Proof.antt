@@ -11,7 +11,7 @@ use Rattle.contour.specs.Points.{pairUp}
 use Rattle.contour.specs.Area.{isLarge}
 use Rattle.contour.proofs.Coordinates.{length-pairs}
 use Rattle.string_split.specs.Splitting.{Adds}
-use Rattle.string_split.proofs.Adding.{adds-none}
+use Rattle.string_split.proofs.Splitting.{adds-none}
 use Rattle.string_split.proofs.OnePoint.{no-rest, one-rest}
 use Rattle.string_split.proofs.buffer.add_rest.Statement.{statement}
 use Rattle.string_split.proofs.buffer.add_rest.Tie as tie

@@ -12,10 +12,10 @@ use Rattle.lists.specs.Members.{keep}
 use Rattle.contour.specs.Points.{pairUp, AllInRange}
 use Rattle.contour.specs.Area.{isLarge}
 use Rattle.string_split.specs.Loops.{bufferPoint}
-use Rattle.string_split.specs.Splitting.{front, Adds, Splittable}
-use Rattle.string_split.proofs.Adding.{adds-none}
+use Rattle.string_split.specs.Splitting.{firstPoints, Adds, Splittable}
+use Rattle.string_split.proofs.Splitting.{adds-none, length-firstPoints, put-firstPoints, part-firstPoints}
 use Rattle.string_split.proofs.Fits.{near-more, near-drop}
-use Rattle.string_split.proofs.OnePoint.{length-front, put-front, part-front, buffer-front, none-closed, one-closed}
+use Rattle.string_split.proofs.OnePoint.{buffer-front, none-closed, one-closed}
 use Rattle.string_split.proofs.buffer.close.Statement.{statement}
 use Rattle.string_split.proofs.buffer.close.Tie as tie
 
@@ -37,19 +37,19 @@ module _ (q : tie.After-put-point) where
   len = s .args .len
 
   abbrev buffer : List Point
-  buffer = front len (s .args .buffer .now)
+  buffer = firstPoints len (s .args .buffer .now)
 
   abbrev put : List ℤ
   put = q .put-point .last .0
 
   as-many : length buffer ≡ len
-  as-many = length-front len (s .args .buffer .now) (omega (arith, s .pre .2))
+  as-many = length-firstPoints len (s .args .buffer .now) (omega (arith, s .pre .2))
 
-  put-is : front (suc len) put ≡ buffer ++ (p ∷ [])
-  put-is = ap (front (suc len)) (q .put-point .ensures) ∙ put-front (s .args .buffer .now) len p (s .pre .2)
+  put-is : firstPoints (suc len) put ≡ buffer ++ (p ∷ [])
+  put-is = ap (firstPoints (suc len)) (q .put-point .ensures) ∙ put-firstPoints (s .args .buffer .now) len p (s .pre .2)
 
-  after : front (length (bufferPoint number buffer p .buffer)) put ≡ bufferPoint number buffer p .buffer
-  after = buffer-front number buffer p (pairUp put) (ap (λ n. front (suc n) put) as-many ∙ put-is)
+  after : firstPoints (length (bufferPoint number buffer p .buffer)) put ≡ bufferPoint number buffer p .buffer
+  after = buffer-front number buffer p (pairUp put) (ap (λ n. firstPoints (suc n) put) as-many ∙ put-is)
 
   -- the part that the point closes
   abbrev part : List ℤ
@@ -57,7 +57,7 @@ module _ (q : tie.After-put-point) where
 
   module _ (h : number + 2 ≤ len) where
     part-is : pairUp part ≡ drop number (buffer ++ (p ∷ []))
-    part-is = part-front put number (len + 1) (omega arith) ∙ ap (λ n. drop number (front n put)) (add-one len) ∙ ap (drop number) put-is
+    part-is = part-firstPoints put number (len + 1) (omega arith) ∙ ap (λ n. drop number (firstPoints n put)) (add-one len) ∙ ap (drop number) put-is
 
     part-length : length part ≡ 2 * (len + 1 - number)
     part-length = omega (arith, length-take (2 * (len + 1) - 2 * number) (drop (2 * number) put), length-drop (2 * number) put, q .put-point .kept .0, s .pre .2)

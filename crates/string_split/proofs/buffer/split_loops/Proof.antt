@@ -14,11 +14,11 @@ use Rattle.contour.specs.Points.{pairUp, AllInRange, Writes}
 use Rattle.contour.specs.Area.{isLarge}
 use Rattle.contour.proofs.Coordinates.{length-pairs, pairUp-take}
 use Rattle.bin_store.specs.Bins.{Binned}
-use Rattle.string_split.specs.declared.buffer.Found.{Found}
+use Rattle.string_split.specs.declared.buffer.LoopTotals.{LoopTotals}
 use Rattle.string_split.specs.Loops.{Buffered, bufferPoints, rest, allLoops, splitLoops}
-use Rattle.string_split.specs.Run.{foundOf}
+use Rattle.string_split.specs.Run.{loopTotals}
 use Rattle.string_split.specs.Splitting.{Splittable}
-use Rattle.string_split.proofs.Adding.{found-on, writes-on}
+use Rattle.string_split.proofs.Splitting.{totals-on, writes-on}
 use Rattle.string_split.proofs.Fits.{buffers-fit, buffers-near, length-flatten-keep}
 use Rattle.string_split.proofs.buffer.split_loops.Statement.{statement}
 use Rattle.string_split.proofs.buffer.split_loops.Tie as tie
@@ -96,7 +96,7 @@ module _ (t : tie.After-take-points) where
   abbrev large : List (List Point) → List (List Point)
   large l = keep (isLarge (s k .args .min-area)) l
 
-  abbrev found : Found
+  abbrev found : LoopTotals
   found = t .take-points .result .found
 
   abbrev len : ℕ
@@ -105,7 +105,7 @@ module _ (t : tie.After-take-points) where
   abbrev buffer : List ℤ
   buffer = t .take-points .last .1 .1 .1 .1 .1 .1 .0
 
-  found-is : found ≡ foundOf (large (all .loops))
+  found-is : found ≡ loopTotals (large (all .loops))
   found-is = t .take-points .ensures .0
 
   few : length points ≤ 2048
@@ -114,7 +114,7 @@ module _ (t : tie.After-take-points) where
   points-fit : found .points + len ≤ length points
   points-fit = omega (
     arith,
-    ap (λ (f : Found). f .points) found-is,
+    ap (λ (f : LoopTotals). f .points) found-is,
     t .take-points .ensures .1,
     length-flatten-keep (isLarge (s k .args .min-area)) (all .loops),
     buffers-fit [] [] points .points,
@@ -123,7 +123,7 @@ module _ (t : tie.After-take-points) where
   loops-fit : found .loops + len ≤ length points
   loops-fit = omega (
     arith,
-    ap (λ (f : Found). f .loops) found-is,
+    ap (λ (f : LoopTotals). f .loops) found-is,
     t .take-points .ensures .1,
     length-keep (isLarge (s k .args .min-area)) (all .loops),
     buffers-fit [] [] points .loops,
@@ -205,7 +205,7 @@ returns c =
     let a = s (k t) .args in
     let done = large t (all t .loops) in
     let more = large t (rest (pairUp (part t))) in (
-      found-on done more (found-is t) (n .add-rest .ensures) ∙ ap foundOf (loops-are t),
+      totals-on done more (found-is t) (n .add-rest .ensures) ∙ ap loopTotals (loops-are t),
       subst (λ (l : List (List Point)). Writes l (a .out .now) (a .lengths .now) (n .add-rest .last .1 .1 .0) (n .add-rest .last .1 .1 .1 .0)) (loops-are t) (writes-on done more (found-is t) (t .take-points .ensures .3) (n .add-rest .ensures)),
     )
 

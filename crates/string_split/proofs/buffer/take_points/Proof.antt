@@ -19,19 +19,19 @@ use Rattle.contour.proofs.Coordinates.{length-pairs}
 use Rattle.bin_store.specs.Sightings.{Sighting, numberOf, sight}
 use Rattle.bin_store.specs.Bins.{memory, Binned}
 use Rattle.bin_store.proofs.Items.{none-sighted}
-use Rattle.string_split.specs.declared.buffer.Found.{Found}
+use Rattle.string_split.specs.declared.buffer.LoopTotals.{LoopTotals}
 use Rattle.string_split.specs.Loops.{Buffered, bufferPoint}
-use Rattle.string_split.specs.Run.{foundOf}
-use Rattle.string_split.specs.Splitting.{front, Adds}
+use Rattle.string_split.specs.Run.{loopTotals}
+use Rattle.string_split.specs.Splitting.{firstPoints, Adds}
 use Rattle.string_split.proofs.OnePoint.{length-buffered}
 use Rattle.string_split.proofs.Taking.{Taking, none-taken, few-points, few-loops, taken-more, all-taken}
 use Rattle.string_split.proofs.buffer.take_points.Statement.{statement}
 use Rattle.string_split.proofs.buffer.take_points.Tie as tie
 
-record State (least : ℕ) (points : List Point) (heads₀ nexts₀ : List ℕ) (seen₀ : List ℤ) (numbers₀ : List ℕ) (buffer₀ out₀ : List ℤ) (lengths₀ heads nexts : List ℕ) (seen : List ℤ) (numbers : List ℕ) (buffer out : List ℤ) (lengths : List ℕ) (found : Found) (count len i : ℕ) : Type 0 where
-  taking : Taking least points out₀ lengths₀ (memory count seen numbers) (front len buffer) out lengths found i
+record State (least : ℕ) (points : List Point) (heads₀ nexts₀ : List ℕ) (seen₀ : List ℤ) (numbers₀ : List ℕ) (buffer₀ out₀ : List ℤ) (lengths₀ heads nexts : List ℕ) (seen : List ℤ) (numbers : List ℕ) (buffer out : List ℤ) (lengths : List ℕ) (found : LoopTotals) (count len i : ℕ) : Type 0 where
+  taking : Taking least points out₀ lengths₀ (memory count seen numbers) (firstPoints len buffer) out lengths found i
   inside : i ≤ length points
-  len-is : len ≡ length (front len buffer)
+  len-is : len ≡ length (firstPoints len buffer)
   binned : Binned count heads nexts seen numbers
   few : count ≤ i
   heads-room : length heads ≡ length heads₀
@@ -53,7 +53,7 @@ loop-holds : tie.Need-loop-holds Inv-loop μ-loop
 loop-holds c =
     let s = c .before .before .before .before in
     let a = s .args in
-    let zero : Found = record { loops = 0; points = 0 } in
+    let zero : LoopTotals = record { loops = 0; points = 0 } in
     record {
       taking = subst (λ (m : List Sighting). Taking (a .min-area) (pairUp (a .points .now)) (a .out .now) (a .lengths .now) m [] (a .out .now) (a .lengths .now) zero 0) (sym (none-sighted (a .seen .now) (a .numbers .now))) (none-taken (a .min-area) (pairUp (a .points .now)) (a .out .now) (a .lengths .now));
       inside = omega arith;
@@ -83,7 +83,7 @@ module _ (c : tie.In-loop Inv-loop μ-loop) where
   points = pairUp (s .args .points .now)
 
   abbrev buffer : List Point
-  buffer = front (l .loop .len) (l .loop .buffer)
+  buffer = firstPoints (l .loop .len) (l .loop .buffer)
 
   inside : l .loop .i < length points
   inside = omega (arith, c .loop-test .taken, length-pairs (s .args .points .now))
@@ -198,8 +198,8 @@ module _ (n : tie.After-length-after Inv-loop μ-loop) where
       n .length-after .ensures ∙ ap (λ (m : ℕ). cond (ltb (e k .sight-point .result .number) m) (e k .sight-point .result .number) (suc m)) (l (c (e k)) .loop .inv .len-is)
       ∙ sym (length-buffered (e k .sight-point .result .number) (buffer (c (e k))) (p (e k) .point-at .result))
 
-  front-is : front (n .length-after .result) put ≡ one k (e k .sight-point .result .number) .buffer
-  front-is = ap (λ (m : ℕ). front m put) len-is ∙ k .close .ensures .0
+  front-is : firstPoints (n .length-after .result) put ≡ one k (e k .sight-point .result .number) .buffer
+  front-is = ap (λ (m : ℕ). firstPoints m put) len-is ∙ k .close .ensures .0
 
 add-i : tie.Need-add-i Inv-loop μ-loop
 add-i n = let d = c (e (k n)) in record { fits = omega (arith, inside d, few d) }
@@ -256,7 +256,7 @@ returns c =
     let a = l .before .before .before .before .before .args in
     let t = l .loop .inv .taking in
     let all = sym (all-taken t (omega (arith, c .loop-test .left, length-pairs (a .points .now)))) in (
-      t .found-is ∙ ap (λ (u : Buffered). foundOf (keep (isLarge (a .min-area)) (u .loops))) all,
+      t .found-is ∙ ap (λ (u : Buffered). loopTotals (keep (isLarge (a .min-area)) (u .loops))) all,
       l .loop .inv .len-is ∙ ap (λ (u : Buffered). length (u .buffer)) all,
       ap (λ (u : Buffered). u .buffer) all,
       subst (λ (u : Buffered). Writes (keep (isLarge (a .min-area)) (u .loops)) (a .out .now) (a .lengths .now) (l .loop .out) (l .loop .lengths)) all (t .writes),
