@@ -143,19 +143,25 @@ fn check_ends(
     find_by_ends(s, flat, nodes, sums, tops)
 }
 
-// The same of a small drawing, with memory for that.
-fn check_small(
+// The verdict on a small drawing, unless something was refused before. An accepted drawing's nodes and top counts are left in the lists, which are working
+// memory of the run that comes; after a refusal they hold anything. What only the check needs it owns, by size: a run calls this one or the next, so that a small
+// drawing has only the memory of its size on the stack.
+pub fn check_small(
+    before: Verdict,
     s: &[i32],
     flat: &mut [u16],
     starts: &mut [u16],
     nodes: &mut [u16],
     tops: &mut [i32],
 ) -> Verdict
-    requires { ⌜ (let d = segments (now s) in
-        Faultless d × (length d ≤ 128) × DrawingRoom d (now flat) (now starts) (now nodes) (now tops)) ⌝ }
+    requires { ⌜ (let d = segments (now s) in (length d ≤ 128) × DrawingRoom d (now flat) (now starts) (now nodes) (now tops)) ⌝ }
     ensures { λ r. ⌜ (let d = segments (now (s .entry)) in
-        Checked (meetingsOf d then unbalancedOf d) d r (now (flat .exit)) (now (starts .exit)) (now (nodes .exit)) (now (tops .exit))) ⌝ }
+        Checked (before then drawingVerdict d) d r (now (flat .exit)) (now (starts .exit)) (now (nodes .exit)) (now (tops .exit))) ⌝ }
 {
+    let faults = faults::find_fault(before, s);
+    let Verdict::Accepted = faults else {
+        return faults;
+    };
     let mut keys = [0u64; ends::SMALL];
     let mut scratch = [0u64; segm::SMALL];
     let mut sums = [0i32; ends::SMALL];
@@ -172,7 +178,8 @@ fn check_small(
 }
 
 // The same of any drawing.
-fn check_any(
+pub fn check_any(
+    before: Verdict,
     s: &[i32],
     flat: &mut [u16],
     starts: &mut [u16],
@@ -180,10 +187,14 @@ fn check_any(
     tops: &mut [i32],
 ) -> Verdict
     requires { ⌜ (let d = segments (now s) in
-        Faultless d × DrawingRoom d (now flat) (now starts) (now nodes) (now tops)) ⌝ }
+        (before ≡ Accepted → length d ≤ 1024) × DrawingRoom d (now flat) (now starts) (now nodes) (now tops)) ⌝ }
     ensures { λ r. ⌜ (let d = segments (now (s .entry)) in
-        Checked (meetingsOf d then unbalancedOf d) d r (now (flat .exit)) (now (starts .exit)) (now (nodes .exit)) (now (tops .exit))) ⌝ }
+        Checked (before then drawingVerdict d) d r (now (flat .exit)) (now (starts .exit)) (now (nodes .exit)) (now (tops .exit))) ⌝ }
 {
+    let faults = faults::find_fault(before, s);
+    let Verdict::Accepted = faults else {
+        return faults;
+    };
     let mut keys = [0u64; ends::MOST];
     let mut scratch = [0u64; segm::MOST];
     let mut sums = [0i32; ends::MOST];
@@ -197,35 +208,6 @@ fn check_any(
         &mut scratch,
         &mut sums,
     )
-}
-
-// The verdict on a drawing, unless something was refused before. An accepted drawing's nodes and top counts are left in the lists, which are working memory of
-// the run that comes; after a refusal they hold anything. What needs memory of its own is called last, so that a small drawing has only that of its size on the
-// stack.
-pub fn check_drawing(
-    before: Verdict,
-    s: &[i32],
-    flat: &mut [u16],
-    starts: &mut [u16],
-    nodes: &mut [u16],
-    tops: &mut [i32],
-) -> Verdict
-    requires { ⌜ (let d = segments (now s) in
-        (before ≡ Accepted → length d ≤ 1024) × DrawingRoom d (now flat) (now starts) (now nodes) (now tops)) ⌝ }
-    ensures { λ r. ⌜ (let d = segments (now (s .entry)) in
-        Checked (before then drawingVerdict d) d r (now (flat .exit)) (now (starts .exit)) (now (nodes .exit)) (now (tops .exit))) ⌝ }
-{
-    let Verdict::Accepted = before else {
-        return before;
-    };
-    let faults = faults::find_fault(s);
-    let Verdict::Accepted = faults else {
-        return faults;
-    };
-    if segm::count(s) <= segm::SMALL {
-        return check_small(s, flat, starts, nodes, tops);
-    }
-    check_any(s, flat, starts, nodes, tops)
 }
 
 // Whether numbers are no whole segments, or too many.
@@ -297,7 +279,7 @@ fn check_alone(before: Verdict, numbers: &[i32]) -> Verdict
         let mut starts = [0u16; graph::SMALL_STARTS];
         let mut nodes = [0u16; ends::SMALL];
         let mut tops = [0i32; segm::SMALL];
-        return check_drawing(
+        return check_small(
             before,
             numbers,
             &mut flat,
@@ -310,7 +292,7 @@ fn check_alone(before: Verdict, numbers: &[i32]) -> Verdict
     let mut starts = [0u16; graph::STARTS];
     let mut nodes = [0u16; ends::MOST];
     let mut tops = [0i32; segm::MOST];
-    check_drawing(
+    check_any(
         before,
         numbers,
         &mut flat,

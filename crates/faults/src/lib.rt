@@ -4,6 +4,7 @@ use refusal::Verdict;
 use segm::Segment;
 ghost use mathlib.Core.Path.{_≡_};
 ghost use Prim.Native.Nat.{_-_};
+ghost use Rattle.refusal.specs.Order.{_then_};
 ghost use Rattle.segm.specs.Segments.{segments};
 ghost use Rattle.faults.specs.Faults.{fault, faultAt, faultsOf};
 
@@ -51,7 +52,7 @@ fn fault_at(s: &[i32], i: usize) -> u32
 }
 
 // The first place with a fault.
-pub fn find_fault(s: &[i32]) -> Verdict
+fn first_fault(s: &[i32]) -> Verdict
     ensures { λ r. ⌜ r ≡ faultsOf (segments (now (s .entry))) ⌝ }
 {
     let n = segm::count(s);
@@ -64,4 +65,14 @@ pub fn find_fault(s: &[i32]) -> Verdict
         i += 1;
     }
     Verdict::Accepted
+}
+
+// The same, unless something was refused before.
+pub fn find_fault(before: Verdict, s: &[i32]) -> Verdict
+    ensures { λ r. ⌜ r ≡ (before then faultsOf (segments (now (s .entry)))) ⌝ }
+{
+    let Verdict::Accepted = before else {
+        return before;
+    };
+    first_fault(s)
 }

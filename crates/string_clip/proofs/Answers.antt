@@ -72,7 +72,7 @@ module _ (numbers : List ℤ) (rule boundary : ℤ) (ls₀ ls₁ : Lists) (r₀ 
   unfolding any unknownChoice within
   as-known = refl
 
-  one-verdict : said numbers rule (pos 1) boundary ls₁ ≡ said numbers rule (pos 0) boundary ls₀
+  pub one-verdict : said numbers rule (pos 1) boundary ls₁ ≡ said numbers rule (pos 0) boundary ls₀
   unfolding verdict asked clipRun
   one-verdict = ap₂ (λ (unknown short : Bool). askedFirst (wrongLength width 1024 (length numbers)) unknown short then drawingVerdict (segments numbers)) as-known (room-long numbers ls₁ r₁ ∙ sym (room-long numbers ls₀ r₀))
 

@@ -13,14 +13,14 @@ ghost use mathlib.Core.Logic.{_↔_};
 ghost use Prim.Native.Nat.{_*_, _≤_};
 ghost use lib.ListN.{length};
 ghost use lib.IntN.{pos};
+ghost use Rattle.refusal.specs.declared.Verdict.the-variants.{Accepted};
 ghost use Rattle.segm.specs.Segments.{segments};
 ghost use Rattle.contour.specs.Points.{Writes};
 ghost use Rattle.checks.specs.Accepted.{Good};
-ghost use Rattle.checks.specs.Memory.{DrawingRoom, Prepared};
-ghost use Rattle.string_clip.specs.declared.Totals.{Totals};
-ghost use Rattle.string_clip.specs.declared.Clipped.the-variants.{Done};
+ghost use Rattle.checks.specs.Runs.{verdict};
+ghost use Rattle.checks.specs.Memory.{Prepared};
 ghost use Rattle.string_clip.specs.Paths.{clipPaths};
-ghost use Rattle.string_clip.specs.Run.{totals, lists, outcome, clipOutcome};
+ghost use Rattle.string_clip.specs.Run.{totals, lists, runOf, outcome, clipOutcome};
 ghost use Rattle.string_clip.specs.Claim.{Room, Together};
 ghost use Rattle.string_clip.specs.Writing.{ClipRoom};
 
@@ -82,28 +82,30 @@ fn clip_accepted(
     )
 }
 
-// The clip run in working memory: all lists from `flat` to `moves`. An accepted drawing's nodes and top counts are left there.
-fn clip_in(
+// The paths of a drawing with this verdict on the run, by its nodes and top counts. The lists `bits` and `moves` are working memory.
+fn clip_by(
+    checked: Verdict,
     s: &[i32],
     rule: i32,
     invert: i32,
     boundary: i32,
-    flat: &mut [u16],
-    starts: &mut [u16],
-    nodes: &mut [u16],
-    tops: &mut [i32],
+    flat: &[u16],
+    starts: &[u16],
+    nodes: &[u16],
+    tops: &[i32],
     bits: &mut [u8],
     moves: &mut [u16],
     points: &mut [i32],
     lengths: &mut [u32],
 ) -> Clipped
     requires { ⌜ (let d = segments (now s) in
-        DrawingRoom d (now flat) (now starts) (now nodes) (now tops) × ClipRoom d (now bits) (now moves)) ⌝ }
-    ensures { λ r. ⌜ (outcome r (lists (now (points .exit)) (now (lengths .exit))) ≡ clipOutcome (now (s .entry)) rule invert boundary (lists (now (points .entry)) (now (lengths .entry))))
-        × ((t : Totals) → r ≡ Done t → Prepared (segments (now (s .entry))) (now (flat .exit)) (now (starts .exit)) (now (nodes .exit)) (now (tops .exit))) ⌝ }
+        (checked ≡ verdict (runOf (now s) rule invert boundary (lists (now points) (now lengths))))
+        × (checked ≡ Accepted → Prepared d (now flat) (now starts) (now nodes) (now tops))
+        × (length d ≤ 1024 → length d ≤ length (now tops))
+        × ClipRoom d (now bits) (now moves)) ⌝ }
+    ensures { λ r. ⌜ outcome r (lists (now (points .exit)) (now (lengths .exit))) ≡ clipOutcome (now (s .entry)) rule invert boundary (lists (now (points .entry)) (now (lengths .entry))) ⌝ }
 {
-    let asked = checks::ask_clip(s, rule, invert, boundary, points.len(), lengths.len());
-    match checks::check_drawing(asked, s, flat, starts, nodes, tops) {
+    match checked {
         Verdict::Accepted => Clipped::Done(clip_accepted(
             s,
             fill_rule::rule_of(rule),
@@ -133,6 +135,7 @@ pub fn clip(
 ) -> Clipped
     ensures { λ r. ⌜ outcome r (lists (now (points .exit)) (now (lengths .exit))) ≡ clipOutcome (now (numbers .entry)) rule invert boundary (lists (now (points .entry)) (now (lengths .entry))) ⌝ }
 {
+    let asked = checks::ask_clip(numbers, rule, invert, boundary, points.len(), lengths.len());
     if segm::count(numbers) <= segm::SMALL {
         let mut flat = [0u16; ends::SMALL];
         let mut starts = [0u16; graph::SMALL_STARTS];
@@ -140,15 +143,24 @@ pub fn clip(
         let mut tops = [0i32; segm::SMALL];
         let mut bits = [0u8; segm::SMALL];
         let mut moves = [0u16; ends::SMALL];
-        return clip_in(
+        let checked = checks::check_small(
+            asked,
             numbers,
-            rule,
-            invert,
-            boundary,
             &mut flat,
             &mut starts,
             &mut nodes,
             &mut tops,
+        );
+        return clip_by(
+            checked,
+            numbers,
+            rule,
+            invert,
+            boundary,
+            &flat,
+            &starts,
+            &nodes,
+            &tops,
             &mut bits,
             &mut moves,
             points,
@@ -161,15 +173,24 @@ pub fn clip(
     let mut tops = [0i32; segm::MOST];
     let mut bits = [0u8; segm::MOST];
     let mut moves = [0u16; ends::MOST];
-    clip_in(
+    let checked = checks::check_any(
+        asked,
         numbers,
-        rule,
-        invert,
-        boundary,
         &mut flat,
         &mut starts,
         &mut nodes,
         &mut tops,
+    );
+    clip_by(
+        checked,
+        numbers,
+        rule,
+        invert,
+        boundary,
+        &flat,
+        &starts,
+        &nodes,
+        &tops,
         &mut bits,
         &mut moves,
         points,
@@ -185,15 +206,16 @@ fn has_room(s: &[i32], points: &[i32], lengths: &[u32]) -> bool
     !(refusal::is_short(points.len(), 8, n) | refusal::is_short(lengths.len(), 2, n))
 }
 
-// Both clip runs by one check, in working memory. No lent list is too short, so the runs have one verdict.
-fn both_in(
+// Both clip runs of a drawing with this verdict, by its nodes and top counts. No lent list is too short, so the runs have one verdict.
+fn both_by(
+    checked: Verdict,
     s: &[i32],
     rule: i32,
     boundary: i32,
-    flat: &mut [u16],
-    starts: &mut [u16],
-    nodes: &mut [u16],
-    tops: &mut [i32],
+    flat: &[u16],
+    starts: &[u16],
+    nodes: &[u16],
+    tops: &[i32],
     bits: &mut [u8],
     moves: &mut [u16],
     inside_points: &mut [i32],
@@ -202,14 +224,17 @@ fn both_in(
     outside_lengths: &mut [u32],
 ) -> Both
     requires { ⌜ (let d = segments (now s) in
-        DrawingRoom d (now flat) (now starts) (now nodes) (now tops)
+        (checked ≡ verdict (runOf (now s) rule (pos 0) boundary (lists (now «inside_points») (now «inside_lengths»))))
+        × (checked ≡ Accepted → Prepared d (now flat) (now starts) (now nodes) (now tops))
+        × (length d ≤ 1024 → length d ≤ length (now tops))
         × ClipRoom d (now bits) (now moves)
         × Room (now s) (lists (now «inside_points») (now «inside_lengths»))
         × Room (now s) (lists (now «outside_points») (now «outside_lengths»))) ⌝ }
     ensures { λ r. ⌜ (outcome (r .inside) (lists (now («inside_points» .exit)) (now («inside_lengths» .exit))) ≡ clipOutcome (now (s .entry)) rule (pos 0) boundary (lists (now («inside_points» .entry)) (now («inside_lengths» .entry))))
         × (outcome (r .outside) (lists (now («outside_points» .exit)) (now («outside_lengths» .exit))) ≡ clipOutcome (now (s .entry)) rule (pos 1) boundary (lists (now («outside_points» .entry)) (now («outside_lengths» .entry)))) ⌝ }
 {
-    let inside = clip_in(
+    let inside = clip_by(
+        checked,
         s,
         rule,
         0,
@@ -223,29 +248,28 @@ fn both_in(
         inside_points,
         inside_lengths,
     );
-    let outside = match inside {
-        Clipped::Done(_) => Clipped::Done(clip_accepted(
-            s,
-            fill_rule::rule_of(rule),
-            build::filter_of(1, boundary),
-            flat,
-            starts,
-            nodes,
-            tops,
-            bits,
-            moves,
-            outside_points,
-            outside_lengths,
-        )),
-        Clipped::Refused(number, place) => Clipped::Refused(number, place),
-    };
+    let outside = clip_by(
+        checked,
+        s,
+        rule,
+        1,
+        boundary,
+        flat,
+        starts,
+        nodes,
+        tops,
+        bits,
+        moves,
+        outside_points,
+        outside_lengths,
+    );
     Both {
         inside: inside,
         outside: outside,
     }
 }
 
-// The same. It owns the memory of the two runs, for a small drawing or for any.
+// The same by one check. It owns the memory of the two runs, for a small drawing or for any.
 fn both_at_once(
     numbers: &[i32],
     rule: i32,
@@ -259,6 +283,14 @@ fn both_at_once(
     ensures { λ r. ⌜ (outcome (r .inside) (lists (now («inside_points» .exit)) (now («inside_lengths» .exit))) ≡ clipOutcome (now (numbers .entry)) rule (pos 0) boundary (lists (now («inside_points» .entry)) (now («inside_lengths» .entry))))
         × (outcome (r .outside) (lists (now («outside_points» .exit)) (now («outside_lengths» .exit))) ≡ clipOutcome (now (numbers .entry)) rule (pos 1) boundary (lists (now («outside_points» .entry)) (now («outside_lengths» .entry)))) ⌝ }
 {
+    let asked = checks::ask_clip(
+        numbers,
+        rule,
+        0,
+        boundary,
+        inside_points.len(),
+        inside_lengths.len(),
+    );
     if segm::count(numbers) <= segm::SMALL {
         let mut flat = [0u16; ends::SMALL];
         let mut starts = [0u16; graph::SMALL_STARTS];
@@ -266,14 +298,23 @@ fn both_at_once(
         let mut tops = [0i32; segm::SMALL];
         let mut bits = [0u8; segm::SMALL];
         let mut moves = [0u16; ends::SMALL];
-        return both_in(
+        let checked = checks::check_small(
+            asked,
             numbers,
-            rule,
-            boundary,
             &mut flat,
             &mut starts,
             &mut nodes,
             &mut tops,
+        );
+        return both_by(
+            checked,
+            numbers,
+            rule,
+            boundary,
+            &flat,
+            &starts,
+            &nodes,
+            &tops,
             &mut bits,
             &mut moves,
             inside_points,
@@ -288,14 +329,23 @@ fn both_at_once(
     let mut tops = [0i32; segm::MOST];
     let mut bits = [0u8; segm::MOST];
     let mut moves = [0u16; ends::MOST];
-    both_in(
+    let checked = checks::check_any(
+        asked,
         numbers,
-        rule,
-        boundary,
         &mut flat,
         &mut starts,
         &mut nodes,
         &mut tops,
+    );
+    both_by(
+        checked,
+        numbers,
+        rule,
+        boundary,
+        &flat,
+        &starts,
+        &nodes,
+        &tops,
         &mut bits,
         &mut moves,
         inside_points,

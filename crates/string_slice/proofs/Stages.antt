@@ -19,7 +19,7 @@ use Rattle.segm.specs.Segments.{Drawing, segments}
 use Rattle.segm.proofs.Segments.{length-segments}
 use Rattle.refusal.specs.declared.Verdict.{Verdict}
 use Rattle.refusal.specs.declared.Verdict.the-variants as verdict-is
-use Rattle.checks.specs.Runs.{Run, verdict, sliceRun, asked}
+use Rattle.checks.specs.Runs.{Run, verdict, sliceRun}
 use Rattle.refusal.specs.Asked.{lent}
 use Rattle.checks.specs.Accepted.{Good}
 use Rattle.checks.proofs.Accepted.{verdict-good}
@@ -60,14 +60,13 @@ module _ (numbers : List ℤ) (rule direction : ℤ) (ls : Lists) (r : Walked) (
   abbrev found : Option (List (List Move))
   found = walks (segments numbers) (sideBits (ruleOf rule) (segments numbers))
 
-  pub staged : {n : ℕ} → WalkedOf numbers (asked (runOf numbers rule direction ls)) rule r points lengths dirs → r ≡ Done n → WalkRoom numbers points lengths dirs → Staged numbers rule direction ls n points lengths dirs
-  unfolding verdict sliceRun
+  pub staged : {n : ℕ} → WalkedOf numbers (verdict (runOf numbers rule direction ls)) rule r points lengths dirs → r ≡ Done n → WalkRoom numbers points lengths dirs → Staged numbers rule direction ls n points lengths dirs
   staged w e room =
       record { is-accepted = accepted (segments numbers) r points lengths dirs given found w e; walks-made = made (segments numbers) r points lengths dirs given found w e; room = room }
 
-  pub refused-outcome : (least : ℕ) {number place : ℕ} → WalkedOf numbers (asked (runOf numbers rule direction ls)) rule r points lengths dirs → r ≡ Refused number place
+  pub refused-outcome : (least : ℕ) {number place : ℕ} → WalkedOf numbers (verdict (runOf numbers rule direction ls)) rule r points lengths dirs → r ≡ Refused number place
       → outcome (sliced-is.Refused number place) ls ≡ sliceOutcome numbers rule direction least ls
-  unfolding sliceOutcome sliceContours verdict sliceRun
+  unfolding sliceOutcome sliceContours
   refused-outcome least w e = refused (segments numbers) r points lengths dirs (allContours (eqZ direction (pos 1)) least (segments numbers)) given found w e
 
 -- ---- the cut

@@ -8,8 +8,6 @@ use lib.IntN.{ℤ}
 use Rattle.segm.specs.Segments.{Drawing, segments}
 use Rattle.refusal.specs.declared.Verdict.{Verdict}
 use Rattle.refusal.specs.declared.Verdict.the-variants as verdict-is
-use Rattle.refusal.specs.Order.{_then_}
-use Rattle.checks.specs.Drawing.{drawingVerdict}
 use Rattle.fill_rule.specs.FillRule.{ruleOf}
 use Rattle.moves.specs.Moves.{Move}
 use Rattle.slice_walk.specs.Walk.{walks}
@@ -37,7 +35,6 @@ WalkedAre (verdict-is.Refused number place) links o r points lengths dirs = r �
 WalkedAre verdict-is.Accepted links none r points lengths dirs = r ≡ Refused 12 0
 WalkedAre verdict-is.Accepted links (some walks) r points lengths dirs = (r ≡ Done (length walks)) × Standing links walks points lengths dirs
 
--- the same for any numbers, unless something was refused before
+-- the same for any numbers that have this verdict
 abbrev pub WalkedOf : List ℤ → Verdict → (rule : ℤ) → Walked → (points : List ℤ) → (lengths directions : List ℕ) → Type 0
-WalkedOf numbers before rule =
-    WalkedAre (before then drawingVerdict (segments numbers)) (segments numbers) (walks (segments numbers) (sideBits (ruleOf rule) (segments numbers)))
+WalkedOf numbers v rule = WalkedAre v (segments numbers) (walks (segments numbers) (sideBits (ruleOf rule) (segments numbers)))

@@ -8,8 +8,10 @@ ghost use mathlib.Core.List.{map};
 ghost use Prim.Native.Nat.{_*_, _%_, _≤_};
 ghost use lib.ListN.{length};
 ghost use Rattle.refusal.specs.declared.Verdict.the-variants.{Accepted};
+ghost use Rattle.refusal.specs.Order.{_then_};
 ghost use Rattle.segm.specs.Segments.{segments};
-ghost use Rattle.checks.specs.Memory.{DrawingRoom, Prepared};
+ghost use Rattle.checks.specs.Drawing.{drawingVerdict};
+ghost use Rattle.checks.specs.Memory.{Prepared};
 ghost use Rattle.checks.specs.Accepted.{Good};
 ghost use Rattle.slice_walk.specs.Walk.{walks};
 ghost use Rattle.slice_walk.specs.Writing.{WalksAre};
@@ -73,28 +75,28 @@ fn walk_links(
     )
 }
 
-// Checks a drawing, unless something was refused before, and makes its walks where it is accepted. The lists from `flat` to `bits` are working memory.
-fn make_walks_in(
-    before: Verdict,
+// The walks of a drawing with this verdict, by its nodes and top counts. The list `bits` is working memory.
+fn walks_by(
+    checked: Verdict,
     s: &[i32],
     rule: i32,
-    flat: &mut [u16],
-    starts: &mut [u16],
-    nodes: &mut [u16],
-    tops: &mut [i32],
+    flat: &[u16],
+    starts: &[u16],
+    nodes: &[u16],
+    tops: &[i32],
     bits: &mut [u8],
     walks: &mut [i32],
     walk_lengths: &mut [u16],
     directions: &mut [u8],
 ) -> Walked
     requires { ⌜ (let d = segments (now s) in
-        (before ≡ Accepted → length d ≤ 1024)
-        × DrawingRoom d (now flat) (now starts) (now nodes) (now tops)
+        (checked ≡ Accepted → (Good d × Prepared d (now flat) (now starts) (now nodes) (now tops)))
+        × (length d ≤ 1024 → length d ≤ length (now tops))
         × (length d ≤ 1024 → length d ≤ length (now bits))
         × WalkRoom (now s) (now walks) (now «walk_lengths») (now directions)) ⌝ }
-    ensures { λ r. ⌜ WalkedOf (now (s .entry)) before rule r (now (walks .exit)) (now («walk_lengths» .exit)) (now (directions .exit)) ⌝ }
+    ensures { λ r. ⌜ WalkedOf (now (s .entry)) checked rule r (now (walks .exit)) (now («walk_lengths» .exit)) (now (directions .exit)) ⌝ }
 {
-    match checks::check_drawing(before, s, flat, starts, nodes, tops) {
+    match checked {
         Verdict::Accepted => match walk_links(
             s,
             fill_rule::rule_of(rule),
@@ -114,7 +116,8 @@ fn make_walks_in(
     }
 }
 
-// The same: the walks' points, how many each has, and its direction. It owns the memory of this stage, for a small drawing or for any.
+// Checks a drawing, unless something was refused before, and makes its walks where it is accepted: their points, how many each has, and its direction. It owns
+// the memory of this stage, for a small drawing or for any.
 pub fn make_walks(
     before: Verdict,
     s: &[i32],
@@ -124,7 +127,7 @@ pub fn make_walks(
     directions: &mut [u8],
 ) -> Walked
     requires { ⌜ (before ≡ Accepted → length (segments (now s)) ≤ 1024) × WalkRoom (now s) (now walks) (now «walk_lengths») (now directions) ⌝ }
-    ensures { λ r. ⌜ WalkedOf (now (s .entry)) before rule r (now (walks .exit)) (now («walk_lengths» .exit)) (now (directions .exit)) ⌝ }
+    ensures { λ r. ⌜ WalkedOf (now (s .entry)) (before then drawingVerdict (segments (now (s .entry)))) rule r (now (walks .exit)) (now («walk_lengths» .exit)) (now (directions .exit)) ⌝ }
 {
     if segm::count(s) <= segm::SMALL {
         let mut flat = [0u16; ends::SMALL];
@@ -132,14 +135,15 @@ pub fn make_walks(
         let mut nodes = [0u16; ends::SMALL];
         let mut tops = [0i32; segm::SMALL];
         let mut bits = [0u8; segm::SMALL];
-        return make_walks_in(
-            before,
+        let checked = checks::check_small(before, s, &mut flat, &mut starts, &mut nodes, &mut tops);
+        return walks_by(
+            checked,
             s,
             rule,
-            &mut flat,
-            &mut starts,
-            &mut nodes,
-            &mut tops,
+            &flat,
+            &starts,
+            &nodes,
+            &tops,
             &mut bits,
             walks,
             walk_lengths,
@@ -151,14 +155,15 @@ pub fn make_walks(
     let mut nodes = [0u16; ends::MOST];
     let mut tops = [0i32; segm::MOST];
     let mut bits = [0u8; segm::MOST];
-    make_walks_in(
-        before,
+    let checked = checks::check_any(before, s, &mut flat, &mut starts, &mut nodes, &mut tops);
+    walks_by(
+        checked,
         s,
         rule,
-        &mut flat,
-        &mut starts,
-        &mut nodes,
-        &mut tops,
+        &flat,
+        &starts,
+        &nodes,
+        &tops,
         &mut bits,
         walks,
         walk_lengths,

@@ -1,6 +1,6 @@
 -- The walks are made, then cut; what refuses before writes nothing. Assumes nothing.
 use borrow.Author.Needs.{needs}
-use mathlib.Core.Path.{_≡_, sym, subst, _∙_}
+use mathlib.Core.Path.{_≡_, refl, sym, subst, _∙_}
 use mathlib.Core.List.{List}
 use native.Mathlib.Omega.{arith}
 use Prim.Native.Nat.{ℕ, _≤_}
@@ -11,8 +11,8 @@ use mir.Facts.{toZ-ofZ}
 use Rattle.refusal.specs.declared.Verdict.{Verdict}
 use Rattle.refusal.specs.declared.Verdict.the-variants.{Accepted}
 use Rattle.segm.specs.Segments.{segments}
-use Rattle.checks.specs.Runs.{Run, sliceRun, asked}
-use Rattle.checks.proofs.Runs.{asked-few}
+use Rattle.checks.specs.Runs.{Run, sliceRun, asked, verdict}
+use Rattle.checks.proofs.Runs.{asked-few, checked-verdict}
 use Rattle.string_slice.specs.Run.{Lists, lists, runOf}
 use Rattle.string_slice.specs.Walking.{WalkRoom, WalkedOf}
 use Rattle.string_slice.proofs.Stages.{is-one, Staged, staged, refused-outcome, lengths-front, directions-front, as-many, stands, points-fit, lengths-fit, roles-fit, cut-outcome}
@@ -77,9 +77,10 @@ module _ (w : tie.After-make-walks) where
   abbrev directions : List ℕ
   directions = w .make-walks .last .1 .1 .1 .1 .1 .0
 
-  walked : WalkedOf (s .args .numbers .now) (asked (run k)) (s .args .rule) (w .make-walks .result) points lengths directions
+  walked : WalkedOf (s .args .numbers .now) (verdict (run k)) (s .args .rule) (w .make-walks .result) points lengths directions
+  unfolding sliceRun
   walked =
-      subst (λ (v : Verdict). WalkedOf (s .args .numbers .now) v (s .args .rule) (w .make-walks .result) points lengths directions) (asked-is k)
+      subst (λ (v : Verdict). WalkedOf (s .args .numbers .now) v (s .args .rule) (w .make-walks .result) points lengths directions) (checked-verdict (run k) (asked-is k) refl)
       (rw (toZ-ofZ (s .fits .rule)) at (w .make-walks .ensures))
 
   room : WalkRoom (s .args .numbers .now) points lengths directions
