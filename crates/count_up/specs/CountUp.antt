@@ -9,7 +9,7 @@ use Rattle.geom.specs.Points.{ltP}
 use Rattle.lists.specs.Members.{_∈_}
 use Rattle.segm.specs.Segments.{Drawing, segmentAt}
 use Rattle.strip.specs.Strip.{isVertical, spans}
-use Rattle.neighbours.specs.Neighbours.{Ordered}
+use Rattle.strip.specs.Neighbours.{Ordered}
 use Rattle.scan.specs.declared.Sought.the-variants.{At}
 use Rattle.scan.specs.Scan.{Changes, belowAt}
 

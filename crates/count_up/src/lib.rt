@@ -7,7 +7,7 @@ ghost use lib.IntN.{natAbs};
 ghost use Rattle.lists.specs.Members.{_∈_};
 ghost use Rattle.segm.specs.Segments.{segments};
 ghost use Rattle.faults.specs.Faultless.{Faultless};
-ghost use Rattle.neighbours.specs.Neighbours.{Known};
+ghost use Rattle.strip.specs.Neighbours.{Known};
 ghost use Rattle.count_up.specs.CountUp.{countUp, lastIn, Within, LowEnd, HighEnd, Climbed};
 
 // Down from a place of the list, the last place from which on all are `first` or more.

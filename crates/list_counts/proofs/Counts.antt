@@ -19,15 +19,15 @@ use Rattle.lists.proofs.Members.{in-right}
 use Rattle.meetings.specs.Meetings.{side}
 use Rattle.checks.specs.Accepted.{Good}
 use Rattle.strip.specs.Strip.{under}
-use Rattle.strip.proofs.Gap.{side-own-a}
-use Rattle.strip.proofs.Apart.{Apart, turned, Over, over-wide, side-less, under-irrefl, under-asym, under-trans}
-use Rattle.strip.proofs.Compare.{later-j}
-use Rattle.strip.proofs.Tiers.{Tier}
+use Rattle.strip.proofs.Strip.Gap.{side-own-a}
+use Rattle.strip.proofs.Strip.Apart.{Apart, turned, Over, over-wide, side-less, under-irrefl, under-asym, under-trans}
+use Rattle.strip.proofs.Strip.Compare.{later-j}
+use Rattle.strip.proofs.Strip.Tiers.{Tier}
 use Rattle.scan.specs.declared.Sought.the-variants.{At}
 use Rattle.scan.specs.Scan.{Changes, belowAt}
-use Rattle.neighbours.proofs.Upright.{Upright, vertical-upright}
+use Rattle.strip.proofs.Neighbours.Upright.{Upright, vertical-upright}
 use Rattle.count_up.specs.CountUp.{Held, lastOf, Counts}
-use Rattle.count_up.proofs.Lists.{held-over, held-tiers}
+use Rattle.count_up.proofs.CountUp.{held-over, held-tiers}
 use Rattle.ray.specs.Ray.{bottom, top}
 use Rattle.ray.proofs.Ray.{bottom-strip}
 use Rattle.ray.proofs.Invariance.{one-or-apart, proper, beneath}

@@ -18,12 +18,11 @@ use Rattle.lists.proofs.Members.{in-++, in-left, in-right}
 use Rattle.meetings.specs.Meetings.{sameEnds}
 use Rattle.checks.specs.Accepted.{Good}
 use Rattle.strip.specs.Strip.{spans, under}
-use Rattle.strip.proofs.Apart.{Apart, Over, over-wide, under-irrefl, sameEnds-off, sameEnds-on}
-use Rattle.strip.proofs.Above.{spans-on, spans-over}
-use Rattle.strip.proofs.Tiers.{Tier}
+use Rattle.strip.proofs.Strip.Apart.{Apart, Over, over-wide, under-irrefl, sameEnds-off, sameEnds-on}
+use Rattle.strip.proofs.Strip.Above.{spans-on, spans-over}
+use Rattle.strip.proofs.Strip.Tiers.{Tier}
 use Rattle.count_up.specs.CountUp.{Held, lastOf}
-use Rattle.count_up.proofs.Lists.{held-over, held-tiers}
-use Rattle.count_up.proofs.Stretch.{last-of}
+use Rattle.count_up.proofs.CountUp.{held-over, held-tiers, last-of}
 use Rattle.ray.specs.Ray.{top}
 use Rattle.ray.proofs.Ray.{once, bottom-strip}
 use Rattle.ray.proofs.Invariance.{one-or-apart, beneath, invariance}

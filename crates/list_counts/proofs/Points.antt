@@ -21,17 +21,17 @@ use Rattle.lists.proofs.Members.{in-at, in-take, in-drop, pairs-places, pairs-b
 use Rattle.segm.proofs.Segments.{total-cong}
 use Rattle.checks.specs.Accepted.{Good}
 use Rattle.strip.specs.Strip.{spans, above, clockwise, under}
-use Rattle.strip.proofs.Gap.{side-own-a}
-use Rattle.strip.proofs.Apart.{Apart, Over, over-wide, under-le, side-less}
-use Rattle.strip.proofs.Above.{spans-on, spans-over, spans-past, above-on, above-yes}
-use Rattle.strip.proofs.Tiers.{Tier}
+use Rattle.strip.proofs.Strip.Gap.{side-own-a}
+use Rattle.strip.proofs.Strip.Apart.{Apart, Over, over-wide, under-le, side-less}
+use Rattle.strip.proofs.Strip.Above.{spans-on, spans-over, spans-past, above-on, above-yes}
+use Rattle.strip.proofs.Strip.Tiers.{Tier}
 use Rattle.scan.specs.declared.Sought.the-variants.{At}
 use Rattle.scan.specs.Scan.{Changes, isBelow, belowAt}
-use Rattle.neighbours.specs.Neighbours.{Under}
-use Rattle.neighbours.proofs.Upright.{Upright, side-down}
-use Rattle.neighbours.proofs.Passes.{inner-a, foot-over}
+use Rattle.strip.specs.Neighbours.{Under}
+use Rattle.strip.proofs.Neighbours.Upright.{Upright, side-down}
+use Rattle.strip.proofs.Neighbours.Passes.{inner-a, foot-over}
 use Rattle.count_up.specs.CountUp.{Held, lastOf}
-use Rattle.count_up.proofs.Lists.{held-over, held-tiers}
+use Rattle.count_up.proofs.CountUp.{held-over, held-tiers}
 use Rattle.ray.specs.Ray.{met, bottom}
 use Rattle.ray.proofs.Ray.{met-off}
 use Rattle.ray.proofs.Invariance.{one-or-apart, beneathPoint}

@@ -27,7 +27,7 @@ ghost use Rattle.ends.specs.Ends.{endPoint, endBefore};
 ghost use Rattle.ends.specs.Ordering.{ordering};
 ghost use Rattle.meetings.specs.Meetings.{NoneMeetWrongly};
 ghost use Rattle.faults.specs.Faultless.{Faultless};
-ghost use Rattle.neighbours.specs.Neighbours.{Known, Ordered, Distinct};
+ghost use Rattle.strip.specs.Neighbours.{Known, Ordered, Distinct};
 ghost use Rattle.scan.specs.Scan.{Room};
 ghost use Rattle.count_up.specs.CountUp.{Within, Counted};
 ghost use Rattle.verticals.specs.Verticals.{Column};

@@ -10,7 +10,7 @@ use Rattle.lists.specs.Members.{_∈_}
 use Rattle.segm.specs.Segments.{Drawing, segmentAt}
 use Rattle.meetings.specs.Meetings.{NoneMeetWrongly}
 use Rattle.strip.specs.Strip.{isVertical, spans, Next}
-use Rattle.neighbours.specs.Neighbours.{Ordered, Distinct}
+use Rattle.strip.specs.Neighbours.{Ordered, Distinct}
 
 -- ---- neighbours
 -- i may stand right over the one before place k, if there is one

@@ -14,7 +14,7 @@ ghost use Rattle.lists.specs.Members.{_∈_};
 ghost use Rattle.segm.specs.Segments.{segments, segmentAt};
 ghost use Rattle.faults.specs.Faultless.{Proper, Faultless};
 ghost use Rattle.strip.specs.Strip.{Next};
-ghost use Rattle.neighbours.specs.Neighbours.{Known, Ordered, Distinct};
+ghost use Rattle.strip.specs.Neighbours.{Known, Ordered, Distinct};
 ghost use Rattle.scan.specs.Scan.{Room, Listed};
 ghost use Rattle.open_list.specs.OpenList.{StandsOver, StandsUnder, FitsAt, ClosesAt, Spanning, CanLeave, CanEnter, Left, Entered, Older, Marked, Marks};
 

@@ -18,10 +18,10 @@ use Rattle.segm.proofs.Segments.{only-cong, total-cong, total-none}
 use Rattle.meetings.specs.Meetings.{side, sameEnds, meetsWrongly}
 use Rattle.checks.specs.Accepted.{Good}
 use Rattle.strip.specs.Strip.{spans, above, clockwise, gap, falls, under}
-use Rattle.strip.proofs.Signs.{Sign, minus, nil, plus, sign, up-pos, up-neg, up-nil, neg-pos, neg-neg, neg-nil, nil-le, falls-minus, falls-plus, falls-nil}
-use Rattle.strip.proofs.Gap.{gap-at-a, gap-turn, side-own-a}
-use Rattle.strip.proofs.Apart.{Apart, turned, apart, Wide, wide, Over, under-irrefl, sameEnds-off, sameEnds-on}
-use Rattle.strip.proofs.Above.{spans-over, above-on, above-off, above-own-a, above-own-b, start-on, start-turn}
+use Rattle.strip.proofs.Strip.Signs.{Sign, minus, nil, plus, sign, up-pos, up-neg, up-nil, neg-pos, neg-neg, neg-nil, nil-le, falls-minus, falls-plus, falls-nil}
+use Rattle.strip.proofs.Strip.Gap.{gap-at-a, gap-turn, side-own-a}
+use Rattle.strip.proofs.Strip.Apart.{Apart, turned, apart, Wide, wide, Over, under-irrefl, sameEnds-off, sameEnds-on}
+use Rattle.strip.proofs.Strip.Above.{spans-over, above-on, above-off, above-own-a, above-own-b, start-on, start-turn}
 use Rattle.ray.specs.Ray.{met, bottom}
 use Rattle.ray.proofs.Invariance.{one-or-apart, beneath}
 

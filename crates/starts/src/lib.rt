@@ -7,7 +7,7 @@ ghost use Prim.Native.Nat.{_*_, _≤_, _<_};
 ghost use lib.ListN.{length, take};
 ghost use Rattle.segm.specs.Segments.{segments};
 ghost use Rattle.faults.specs.Faultless.{Faultless};
-ghost use Rattle.neighbours.specs.Neighbours.{Known, Ordered};
+ghost use Rattle.strip.specs.Neighbours.{Known, Ordered};
 ghost use Rattle.scan.specs.Scan.{Room};
 ghost use Rattle.count_up.specs.CountUp.{Within};
 ghost use Rattle.starts.specs.Starts.{Splits, NodeEnd, Started, CanStart};

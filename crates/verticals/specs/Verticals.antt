@@ -15,7 +15,7 @@ use Rattle.segm.specs.Segments.{Drawing, segmentAt}
 use Rattle.ends.specs.Ends.{endPoint}
 use Rattle.meetings.specs.Meetings.{side}
 use Rattle.strip.specs.Strip.{isVertical, above}
-use Rattle.neighbours.specs.Neighbours.{Cut, Distinct}
+use Rattle.strip.specs.Neighbours.{Cut, Distinct}
 use Rattle.count_up.specs.CountUp.{lastIn}
 
 -- t lies under p: strictly, or with its start there

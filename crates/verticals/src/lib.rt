@@ -14,7 +14,7 @@ ghost use Rattle.geom.specs.Points.{inRange};
 ghost use Rattle.segm.specs.Segments.{segments, segmentAt};
 ghost use Rattle.ends.specs.Ends.{endPoint};
 ghost use Rattle.faults.specs.Faultless.{Proper, Faultless};
-ghost use Rattle.neighbours.specs.Neighbours.{Known};
+ghost use Rattle.strip.specs.Neighbours.{Known};
 ghost use Rattle.scan.specs.Scan.{Listed};
 ghost use Rattle.count_up.specs.CountUp.{lastIn, Within};
 ghost use Rattle.verticals.specs.Verticals.{liesUnder, liesAbove, CutAt, AllStand, Column, Stands, Beyond, Unbroken, ClearIn, Clears};

@@ -6,7 +6,7 @@ use native.Mathlib.Omega.{arith}
 use Prim.Native.Nat.{ℕ, _+_, _-_, _≤_}
 use Rattle.balance.specs.Balance.{firstPlace}
 use Rattle.balance.specs.Sums.{endsUnbalanced}
-use Rattle.balance.proofs.Places.{step-passed, step-failed, step-end}
+use Rattle.balance.proofs.Balance.{step-passed, step-failed, step-end}
 use Rattle.balance.proofs.find_first.Statement.{statement}
 use Rattle.balance.proofs.find_first.Tie as tie
 

@@ -8,7 +8,7 @@ use lib.Seq.{length-take-le}
 use lib.IntN.{natAbs}
 use Rattle.segm.specs.Segments.{Drawing, segments}
 use Rattle.graph.specs.Nodes.{Nodes}
-use Rattle.balance.proofs.Nodes.{numbered}
+use Rattle.balance.proofs.Balance.{numbered}
 use Rattle.checks.specs.Memory.{OrderedIn, NumberedIn}
 use Rattle.checks.proofs.check_ends.Statement.{statement}
 use Rattle.checks.proofs.check_ends.Tie as tie

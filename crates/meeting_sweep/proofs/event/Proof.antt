@@ -7,7 +7,7 @@ use lib.ListN.{take}
 use Rattle.integers.proofs.Booleans.{clash}
 use Rattle.segm.specs.Segments.{segments}
 use Rattle.open_list.specs.OpenList.{Left}
-use Rattle.open_list.proofs.Laws.{left-known}
+use Rattle.open_list.proofs.OpenList.{left-known}
 use Rattle.meeting_sweep.proofs.event.Statement.{statement}
 use Rattle.meeting_sweep.proofs.event.Tie as tie
 

@@ -11,9 +11,9 @@ use Rattle.integers.proofs.Booleans.{clash}
 use Rattle.segm.specs.Segments.{Drawing, segments}
 use Rattle.count_up.specs.CountUp.{Counts, Tops, Within}
 use Rattle.graph.proofs.Flat.{Ordered, ordered}
-use Rattle.meeting_sweep.proofs.Runs.{past-further}
-use Rattle.meeting_sweep.proofs.Sweeping.{Along, along-first, along-next, along-known, along-distinct, along-last, all-started, column, left-held, splits-before, splits-after, coming}
-use Rattle.meeting_sweep.proofs.ClearEvent.{clear-event}
+use Rattle.meeting_sweep.proofs.Events.Runs.{past-further}
+use Rattle.meeting_sweep.proofs.Events.Sweeping.{Along, along-first, along-next, along-known, along-distinct, along-last, all-started, column, left-held, splits-before, splits-after, coming}
+use Rattle.meeting_sweep.proofs.Events.ClearEvent.{clear-event}
 use Rattle.meeting_sweep.proofs.sweep.Statement.{statement}
 use Rattle.meeting_sweep.proofs.sweep.Tie as tie
 

@@ -6,7 +6,7 @@ use Prim.Native.Nat.{ℕ, suc, _-_, _+_}
 use lib.ListN.{getD}
 use Rattle.segm.specs.Segments.{segments, segmentAt}
 use Rattle.strip.specs.Strip.{Next}
-use Rattle.open_list.proofs.Laws.{listed}
+use Rattle.open_list.proofs.OpenList.{listed}
 use Rattle.open_list.proofs.closes_at.Statement.{statement}
 use Rattle.open_list.proofs.closes_at.Tie as tie
 

@@ -9,8 +9,7 @@ use lib.ListN.{length, take}
 use Rattle.integers.proofs.Booleans.{clash}
 use Rattle.segm.specs.Segments.{Drawing, segments}
 use Rattle.open_list.specs.OpenList.{Entered, Older, Marks}
-use Rattle.open_list.proofs.Laws.{none-entered, entered-more, entered-known, marks-more}
-use Rattle.open_list.proofs.Spanning.{can-enter-next}
+use Rattle.open_list.proofs.OpenList.{none-entered, entered-more, entered-known, marks-more, can-enter-next}
 use Rattle.open_list.proofs.enter_all.Statement.{statement}
 use Rattle.open_list.proofs.enter_all.Tie as tie
 

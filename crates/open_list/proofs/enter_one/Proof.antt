@@ -12,10 +12,9 @@ use lib.Seq.{length-take-le}
 use Rattle.integers.proofs.Booleans.{clash}
 use Rattle.segm.specs.Segments.{segments, segmentAt}
 use Rattle.strip.specs.Strip.{isVertical}
-use Rattle.scan.proofs.Laws.{length-put}
+use Rattle.scan.proofs.Scan.{length-put}
 use Rattle.open_list.specs.OpenList.{FitsAt, Entered}
-use Rattle.open_list.proofs.Laws.{none-enters, one-enters, put-at}
-use Rattle.open_list.proofs.Spanning.{spanning-with}
+use Rattle.open_list.proofs.OpenList.{none-enters, one-enters, put-at, spanning-with}
 use Rattle.open_list.proofs.enter_one.Statement.{statement}
 use Rattle.open_list.proofs.enter_one.Tie as tie
 

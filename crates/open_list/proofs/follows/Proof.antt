@@ -9,7 +9,7 @@ use mir.Val.{toZ, ofZ}
 use Rattle.integers.proofs.Machine.{got}
 use Rattle.geom.proofs.Points.{eqP-true}
 use Rattle.meetings.specs.Meetings.{side}
-use Rattle.open_list.proofs.Neighbours.{first-not, first-rest, first-beyond, first-end, second-not, second-rest, second-beyond, second-end, at-one-start, tells-next}
+use Rattle.open_list.proofs.NeighbourTest.{first-not, first-rest, first-beyond, first-end, second-not, second-rest, second-beyond, second-end, at-one-start, tells-next}
 use Rattle.open_list.proofs.follows.Statement.{statement}
 use Rattle.open_list.proofs.follows.Tie as tie
 

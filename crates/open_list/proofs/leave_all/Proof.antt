@@ -12,8 +12,7 @@ use Rattle.integers.proofs.Booleans.{clash}
 use Rattle.segm.specs.Segments.{Drawing, segments}
 use Rattle.lists.proofs.Members.{in-at}
 use Rattle.open_list.specs.OpenList.{Left}
-use Rattle.open_list.proofs.Laws.{none-left, left-more, left-known}
-use Rattle.open_list.proofs.Spanning.{can-leave-next}
+use Rattle.open_list.proofs.OpenList.{none-left, left-more, left-known, can-leave-next}
 use Rattle.open_list.proofs.leave_all.Statement.{statement}
 use Rattle.open_list.proofs.leave_all.Tie as tie
 

@@ -12,7 +12,7 @@ use Rattle.segm.specs.Segments.{segments, segmentAt}
 use Rattle.segm.proofs.Segments.{length-segments}
 use Rattle.strip.specs.Strip.{isVertical}
 use Rattle.open_list.specs.OpenList.{Left}
-use Rattle.open_list.proofs.Laws.{none-leaves}
+use Rattle.open_list.proofs.OpenList.{none-leaves}
 use Rattle.open_list.proofs.leave_one.Statement.{statement}
 use Rattle.open_list.proofs.leave_one.Tie as tie
 

@@ -8,7 +8,7 @@ use Rattle.faults.specs.Faultless.{Proper}
 use Rattle.faults.proofs.Faultless.{proper-at}
 use Rattle.scan.specs.declared.Sought.the-variants.{Along}
 use Rattle.scan.specs.Scan.{belowAt, Changes}
-use Rattle.open_list.proofs.Spanning.{fits}
+use Rattle.open_list.proofs.OpenList.{fits}
 use Rattle.open_list.proofs.place_to_enter.Statement.{statement}
 use Rattle.open_list.proofs.place_to_enter.Tie as tie
 

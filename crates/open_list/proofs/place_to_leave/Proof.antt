@@ -10,7 +10,7 @@ use Rattle.faults.specs.Faultless.{Proper}
 use Rattle.faults.proofs.Faultless.{proper-at}
 use Rattle.scan.specs.declared.Sought.the-variants.{Along}
 use Rattle.scan.specs.Scan.{belowAt, Changes}
-use Rattle.open_list.proofs.Spanning.{found}
+use Rattle.open_list.proofs.OpenList.{found}
 use Rattle.open_list.proofs.place_to_leave.Statement.{statement}
 use Rattle.open_list.proofs.place_to_leave.Tie as tie
 

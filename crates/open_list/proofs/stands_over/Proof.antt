@@ -7,7 +7,7 @@ use lib.ListN.{getD}
 use Rattle.segm.specs.Segments.{segments, segmentAt}
 use Rattle.faults.proofs.Faultless.{proper-at}
 use Rattle.strip.specs.Strip.{Next}
-use Rattle.open_list.proofs.Laws.{listed}
+use Rattle.open_list.proofs.OpenList.{listed}
 use Rattle.open_list.proofs.stands_over.Statement.{statement}
 use Rattle.open_list.proofs.stands_over.Tie as tie
 

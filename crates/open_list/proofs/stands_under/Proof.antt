@@ -3,7 +3,7 @@ use borrow.Author.Needs.{needs}
 use mathlib.Core.Path.{refl}
 use native.Mathlib.Omega.{arith}
 use Rattle.faults.proofs.Faultless.{proper-at}
-use Rattle.open_list.proofs.Laws.{listed}
+use Rattle.open_list.proofs.OpenList.{listed}
 use Rattle.open_list.proofs.stands_under.Statement.{statement}
 use Rattle.open_list.proofs.stands_under.Tie as tie
 

@@ -10,8 +10,7 @@ use borrow.Author.Tests.{not-false, not-true}
 use Rattle.integers.proofs.Booleans.{clash}
 use Rattle.segm.specs.Segments.{segments}
 use Rattle.open_list.specs.OpenList.{Left}
-use Rattle.open_list.proofs.Laws.{one-leaves}
-use Rattle.open_list.proofs.Spanning.{closes}
+use Rattle.open_list.proofs.OpenList.{one-leaves, closes}
 use Rattle.open_list.proofs.take_out.Statement.{statement}
 use Rattle.open_list.proofs.take_out.Tie as tie
 

@@ -8,7 +8,7 @@ use lib.ListN.{length, getD, take, set, length-set}
 use lib.Seq.{length-take-le}
 use Rattle.lists.specs.Written.{written}
 use Rattle.scan.specs.Scan.{putAt}
-use Rattle.scan.proofs.Moving.{put-over, move-up, unmoved, put-within}
+use Rattle.scan.proofs.Scan.{put-over, move-up, unmoved, put-within}
 use Rattle.scan.proofs.insert.Statement.{statement}
 use Rattle.scan.proofs.insert.Tie as tie
 

@@ -7,7 +7,7 @@ use Prim.Native.Nat.{ℕ, suc, _+_, _-_, _≤_, _<_}
 use lib.ListN.{length, take}
 use Rattle.lists.specs.Written.{written}
 use Rattle.scan.specs.Scan.{outAt}
-use Rattle.scan.proofs.Moving.{none-moved, move-down, out-within}
+use Rattle.scan.proofs.Scan.{none-moved, move-down, out-within}
 use Rattle.scan.proofs.remove.Statement.{statement}
 use Rattle.scan.proofs.remove.Tie as tie
 

@@ -10,9 +10,9 @@ use lib.IntN.{ℤ}
 use Rattle.integers.proofs.Booleans.{clash}
 use Rattle.segm.specs.Segments.{Drawing, segments}
 use Rattle.count_up.specs.CountUp.{Within}
-use Rattle.open_list.proofs.Laws.{entered-known}
+use Rattle.open_list.proofs.OpenList.{entered-known}
 use Rattle.starts.specs.Starts.{Splits, Started}
-use Rattle.starts.proofs.Onward.{none-started, started-more, can-start-next}
+use Rattle.starts.proofs.Starts.Onward.{none-started, started-more, can-start-next}
 use Rattle.starts.proofs.start_all.Statement.{statement}
 use Rattle.starts.proofs.start_all.Tie as tie
 

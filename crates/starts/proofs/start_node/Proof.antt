@@ -10,13 +10,13 @@ use lib.Seq.{length-take-le}
 use lib.IntN.{ℤ}
 use Rattle.integers.proofs.Booleans.{clash}
 use Rattle.segm.specs.Segments.{Drawing, segments, segmentAt}
-use Rattle.neighbours.specs.Neighbours.{Known}
+use Rattle.strip.specs.Neighbours.{Known}
 use Rattle.count_up.specs.CountUp.{Within, Climbed}
-use Rattle.count_up.proofs.Stretch.{climbed-within}
+use Rattle.count_up.proofs.CountUp.{climbed-within}
 use Rattle.open_list.specs.OpenList.{Entered, Older, Marks}
-use Rattle.open_list.proofs.Laws.{entered-known}
-use Rattle.verticals.proofs.Gaps.{cut-in}
-use Rattle.starts.proofs.Counting.{node-counting}
+use Rattle.open_list.proofs.OpenList.{entered-known}
+use Rattle.verticals.proofs.Verticals.Gaps.{cut-in}
+use Rattle.starts.proofs.Starts.Counting.{node-counting}
 use Rattle.starts.proofs.start_node.Statement.{statement}
 use Rattle.starts.proofs.start_node.Tie as tie
 

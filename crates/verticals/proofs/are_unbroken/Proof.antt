@@ -20,12 +20,12 @@ use Rattle.lists.proofs.Members.{in-at, in-take, pairs-before}
 use Rattle.faults.proofs.Faultless.{proper-at}
 use Rattle.ends.specs.Ends.{endPoint}
 use Rattle.ends.proofs.Ends.{end-near}
-use Rattle.neighbours.proofs.Upright.{vertical-upright}
+use Rattle.strip.proofs.Neighbours.Upright.{vertical-upright}
 use Rattle.verticals.specs.Verticals.{Stands, Beyond, Unbroken}
 use mir.Syntax.{w32}
 use mir.Val.{toZ, ofZ}
 use Rattle.segm.specs.Segments.{Drawing, segments, segmentAt}
-use Rattle.verticals.proofs.Columns.{Passed, none-passed, passes, not-between, not-below, stands?}
+use Rattle.verticals.proofs.Verticals.Columns.{Passed, none-passed, passes, not-between, not-below, stands?}
 use Rattle.verticals.proofs.are_unbroken.Statement.{statement}
 use Rattle.verticals.proofs.are_unbroken.Tie as tie
 

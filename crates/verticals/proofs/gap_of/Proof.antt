@@ -3,7 +3,7 @@ use borrow.Author.Needs.{needs}
 use mathlib.Core.Path.{refl}
 use Rattle.segm.specs.Segments.{segments}
 use Rattle.faults.proofs.Faultless.{proper-at}
-use Rattle.verticals.proofs.Gaps.{clear-cut}
+use Rattle.verticals.proofs.Verticals.Gaps.{clear-cut}
 use Rattle.verticals.proofs.gap_of.Statement.{statement}
 use Rattle.verticals.proofs.gap_of.Tie as tie
 

@@ -17,9 +17,9 @@ use Rattle.strip.specs.Strip.{isVertical}
 use Rattle.faults.specs.Faultless.{Faultless}
 use Rattle.faults.proofs.Faultless.{winding-at}
 use Rattle.count_up.specs.CountUp.{lastIn, Within}
-use Rattle.count_up.proofs.Stretch.{last-within, set-within}
+use Rattle.count_up.proofs.CountUp.{last-within, set-within}
 use Rattle.verticals.specs.Verticals.{CutAt, AllStand, ClearIn}
-use Rattle.verticals.proofs.Gaps.{stand-by, stand-on}
+use Rattle.verticals.proofs.Verticals.Gaps.{stand-by, stand-on}
 use Rattle.verticals.proofs.stand_all.Statement.{statement}
 use Rattle.verticals.proofs.stand_all.Tie as tie
 

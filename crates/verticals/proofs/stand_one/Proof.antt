@@ -15,7 +15,7 @@ use Rattle.lists.proofs.Members.{in-take}
 use Rattle.faults.specs.Faultless.{Proper}
 use Rattle.faults.proofs.Faultless.{proper-at, winding-at}
 use Rattle.count_up.specs.CountUp.{lastIn}
-use Rattle.count_up.proofs.Stretch.{last-within}
+use Rattle.count_up.proofs.CountUp.{last-within}
 use Rattle.verticals.proofs.stand_one.Statement.{statement}
 use Rattle.verticals.proofs.stand_one.Tie as tie
 

@@ -1,0 +1,48 @@
+-- What is asked of neighbours in a list of open segments, and of the vertical segments beside it. Assumes nothing.
+use mathlib.Core.Path.{_≡_}
+use mathlib.Core.List.{List}
+use mathlib.Core.Logic.{_⊎_}
+use Prim.Native.Nat.{ℕ, suc, _≤_, _<_}
+use lib.ListN.{length, getD}
+use lib.IntN.{pos}
+use lib.Signed.{_<ℤ_}
+use Rattle.geom.specs.declared.Point.{Point}
+use Rattle.segm.specs.declared.Segment.{Segment}
+use Rattle.lists.specs.Members.{_∈_, Pairs}
+use Rattle.lists.specs.Chain.{Chain}
+use Rattle.segm.specs.Segments.{Drawing, segmentAt}
+use Rattle.meetings.specs.Meetings.{side}
+use Rattle.strip.specs.Strip.{Next}
+
+-- ---- a vertical segment and the list, e being one of the two ends
+-- s lies under p: strictly, or with its end at p
+abbrev pub Under : (Segment → Point) → Point → Segment → Type 0
+Under e p s = (pos 0 <ℤ side s p) ⊎ (e s ≡ p)
+
+-- s lies above p: strictly, or with its end at p
+abbrev pub Above : (Segment → Point) → Point → Segment → Type 0
+Above e p s = (side s p <ℤ pos 0) ⊎ (e s ≡ p)
+
+-- s passes v: it lies under v's foot or above its head
+abbrev pub Passes : (Segment → Point) → Segment → Segment → Type 0
+Passes e v s = Under e (v .a) s ⊎ Above e (v .b) s
+
+-- v's cut in a list: the one before it lies under v's foot, the one after it above its head
+pub record Cut {A : Type 0} (e : Segment → Point) (seg : A → Segment) (z : A) (v : Segment) (l : List A) : Type 0 where
+  pub place : ℕ
+  pub inside : place ≤ length l
+  pub below : (k : ℕ) → suc k ≡ place → Under e (v .a) (seg (getD l k z))
+  pub above : place < length l → Above e (v .b) (seg (getD l place z))
+
+-- ---- a drawing and lists of its places
+-- all are places of the drawing
+abbrev pub Known : Drawing → List ℕ → Type 0
+Known d l = (i : ℕ) → i ∈ l → i < length d
+
+-- every two neighbours may stand side by side
+abbrev pub Ordered : Drawing → List ℕ → Type 0
+Ordered d l = Chain (λ i j. Next (segmentAt d i) (segmentAt d j)) l
+
+-- no place stands there twice
+abbrev pub Distinct : List ℕ → Type 0
+Distinct l = Pairs (λ i j. i ≡ j → ⊥) l

@@ -1,0 +1,99 @@
+-- The gaps of a list: what the tests at a place tell, and one place more.
+use mathlib.Core.Path.{_≡_, ap, subst, _∙_}
+use mathlib.Core.List.{List}
+use mathlib.Core.Bool.{true, false}
+use mathlib.Core.Logic.{inl, inr}
+use Prim.Native.Nat.{ℕ, suc, _+_, _-_, _<_, _≤_}
+use native.Mathlib.Omega.{arith}
+use native.Mathlib.Decide.{decLe}
+use lib.ListN.{length, getD, take, set}
+use lib.Seq.{getD-set-same, getD-set-other}
+use lib.IntN.{ℤ, pos, _+ℤ_}
+use lib.Signed.{ltZ}
+use Rattle.integers.proofs.Booleans.{clash, one-of}
+use Rattle.integers.proofs.Order.{ltZ-true}
+use Rattle.geom.specs.declared.Point.{Point}
+use Rattle.geom.specs.Points.{eqP}
+use Rattle.geom.proofs.Points.{eqP-true}
+use Rattle.segm.specs.declared.Segment.{Segment}
+use Rattle.segm.specs.Segments.{Drawing, segmentAt}
+use Rattle.lists.proofs.Members.{in-at, in-take, cases}
+use Rattle.meetings.specs.Meetings.{side}
+use Rattle.strip.specs.Strip.{isVertical, above}
+use Rattle.strip.proofs.Strip.Above.{above-yes}
+use Rattle.strip.specs.Neighbours.{Under, Above}
+use Rattle.count_up.specs.CountUp.{lastIn}
+use Rattle.count_up.proofs.CountUp.{last-cong}
+use Rattle.scan.specs.declared.Sought.the-variants.{At}
+use Rattle.scan.specs.Scan.{isBelow, belowAt, Changes}
+use Rattle.verticals.specs.Verticals.{liesUnder, liesAbove, CutAt, CutIn, ClearIn, Stood, AllStand}
+
+-- ---- the tests
+module _ (p : Point) (t : Segment) where
+  pub under-true : liesUnder p t ≡ true → Under (λ s. s .a) p t
+  unfolding liesUnder
+  under-true e = cases (λ h. inl (above-yes t p h)) (λ h. inr (eqP-true h)) (one-of (above t p) (eqP (t .a) p) e)
+
+  pub above-true : liesAbove p t ≡ true → Above (λ s. s .a) p t
+  unfolding liesAbove
+  above-true e = cases (λ h. inl (ltZ-true h)) (λ h. inr (eqP-true h)) (one-of (ltZ (side t p) (pos 0)) (eqP (t .a) p) e)
+
+-- where the tests at a place are passed, v stands in the gap there
+pub cut-in : (d : Drawing) (v : Segment) (l : List ℕ) (k : ℕ) → CutAt d v k l → CutIn d v l
+cut-in d v l k c =
+    record {
+      place = k;
+      inside = c .inside;
+      below = λ j e.
+          let last : k - 1 ≡ j = omega arith in
+          under-true (v .a) (segmentAt d (getD l j 0)) (subst (λ (n : ℕ). liesUnder (v .a) (segmentAt d (getD l n 0)) ≡ true) last (c .under (omega arith)));
+      above = λ m. above-true (v .b) (segmentAt d (getD l k 0)) (c .over m);
+    }
+
+-- where all are clear of v, they are passed at any place where the list changes from below to above v's head
+pub clear-cut : (d : Drawing) (v : Segment) (l : List ℕ) (k : ℕ) → Changes (belowAt d (At (v .b)) l) 0 (length l) k → ClearIn d v l → CutAt d v k l
+unfolding isBelow
+clear-cut d v l k c f = record {
+  inside = c .till;
+  under = λ h. f (getD l (k - 1) 0) (in-at l 0 (k - 1) (omega (arith, c .till))) .under (c .before h);
+  over = λ h. f (getD l k 0) (in-at l 0 k h) .over (c .after h);
+}
+
+-- ---- places: what holds from one up to i, and at i, holds up to i + 1
+pub one-more : (P : ℕ → Type 0) (from i : ℕ) → ((v : ℕ) → from ≤ v → v < i → P v) → P i → (v : ℕ) → from ≤ v → v < i + 1 → P v
+one-more P from i f h v l m = go (decLe (suc v) i)
+  where
+    go : Dec (suc v ≤ i) → P v
+    go (yes k) = f v l k
+    go (no k) = let e : i ≡ v = omega arith in subst P e h
+
+-- ---- those that stand, and one more
+module _ {d : Drawing} {from i : ℕ} {l : List ℕ} {old tops : List ℤ} (a : AllStand d from i l old tops) where
+  -- it is not vertical
+  pub stand-by : isVertical (segmentAt d i) ≡ false → AllStand d from (i + 1) l old tops
+  stand-by e = record {
+    each = one-more (λ v. isVertical (segmentAt d v) ≡ true → Stood d l old tops v) from i (a .each) (λ f. absurd (clash f e));
+    others = λ j f. a .others j (λ h m. f h (omega arith));
+  }
+
+  -- it is, and its count is written
+  pub stand-on : from ≤ i → i < length tops → isVertical (segmentAt d i) ≡ true → (k : ℕ) → CutAt d (segmentAt d i) k l
+      → AllStand d from (i + 1) l old (set tops i (lastIn tops (take k l) +ℤ segmentAt d i .winding))
+  stand-on since room e k c = record {
+    each = one-more (λ v. isVertical (segmentAt d v) ≡ true → Stood d l old (set tops i t) v) from i (λ v h m f. before v m (a .each v h m f)) (λ f. here);
+    others = λ j f. getD-set-other tops i j t (pos 0) (λ q. f (omega arith) (omega arith) (ap (λ (n : ℕ). isVertical (segmentAt d n)) q ∙ e)) ∙ a .others j (λ h m. f h (omega arith));
+  }
+    where
+      t : ℤ
+      t = lastIn tops (take k l) +ℤ segmentAt d i .winding
+
+      here : Stood d l old (set tops i t) i
+      here = record {
+        place = k;
+        cut = c;
+        top = λ slanted. getD-set-same tops i t (pos 0) room
+            ∙ ap (λ z. z +ℤ segmentAt d i .winding) (last-cong (λ j. getD tops j (pos 0)) (λ j. getD old j (pos 0)) (take k l) (λ j m. a .others j (λ _ _ f. clash f (slanted j (in-take k l j m)))));
+      }
+
+      before : (v : ℕ) → v < i → Stood d l old tops v → Stood d l old (set tops i t) v
+      before v m s = record { place = s .place; cut = s .cut; top = λ slanted. getD-set-other tops i v t (pos 0) (λ q. omega arith) ∙ s .top slanted }
