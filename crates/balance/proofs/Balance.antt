@@ -1,4 +1,4 @@
--- The laws of `Numbered` and `firstPlace`: the nodes that `graph` builds, and the first place that passes a test.
+-- The laws of `NodesByPoint` and `firstPlace`: the nodes that `graph` builds, and the first place that passes a test.
 use mathlib.Core.Path.{_≡_, refl, _∙_}
 use mathlib.Core.List.{List}
 use mathlib.Core.Bool.{Bool, true, false, cond}
@@ -8,10 +8,10 @@ use native.Mathlib.Omega.{arith}
 use lib.ListN.{length}
 use Rattle.segm.specs.Segments.{Drawing}
 use Rattle.graph.specs.Nodes.{Nodes}
-use Rattle.balance.specs.Balance.{Numbered, firstPlace}
+use Rattle.balance.specs.Balance.{NodesByPoint, firstPlace}
 
-pub numbered : {d : Drawing} {flat starts nodes : List ℕ} → Nodes d flat starts nodes → length nodes ≡ 2 * length d → Numbered d nodes
-numbered are each = record { each-end = each; known = are .few; same = are .same; at-one = are .at-one }
+pub nodes-by-point : {d : Drawing} {flat starts nodes : List ℕ} → Nodes d flat starts nodes → length nodes ≡ 2 * length d → NodesByPoint d nodes
+nodes-by-point are each = record { each-end = each; few = are .few; same = are .same; at-one = are .at-one }
 
 module _ (test : ℕ → Bool) where
   -- one place of the search

@@ -24,45 +24,45 @@ use Rattle.faults.specs.Faultless.{Faultless}
 use Rattle.faults.proofs.Faultless.{winding-at}
 use Rattle.meetings.specs.Meetings.{side}
 use Rattle.strip.specs.Strip.{gap}
-use Rattle.strip.specs.Neighbours.{Known, Distinct}
+use Rattle.strip.specs.Neighbours.{PlacesOf, Distinct}
 use Rattle.strip.proofs.Strip.Apart.{Over, Wide, wide, over-wide}
 use Rattle.strip.proofs.Strip.Above.{spans-on, spans-over}
 use Rattle.strip.proofs.Strip.Tiers.{Tier}
-use Rattle.strip.proofs.Neighbours.Lists.{Holds, holds-tiers}
+use Rattle.strip.proofs.Neighbours.Lists.{StripList, strip-tiers}
 use Rattle.strip.proofs.Strip.Signs.{Sign, minus, nil, plus, sign, up-nil, down-nil, join-both, join-l}
 use Rattle.strip.proofs.Strip.Gap.{gap-at-a, gap-trans, side-own-a}
 use Rattle.strip.proofs.Neighbours.Upright.{end-at}
-use Rattle.count_up.specs.CountUp.{Held, lastOf, lastIn, countUp, Counts, Within, Written, Climbed}
+use Rattle.count_up.specs.CountUp.{OpenAt, lastOf, lastIn, countUp, Counts, BoundedBy, CountsWritten, Climbed}
 
 -- ---- the list of a strip
-pub held-holds : (d : Drawing) (m : ℕ) {x : ℤ} {l : List ℕ} → Held d m x l → Holds (segmentAt d) (upFrom 0 m) x l
-held-holds d m h = record {
+pub open-strip-list : (d : Drawing) (m : ℕ) {x : ℤ} {l : List ℕ} → OpenAt d m x l → StripList (segmentAt d) (upFrom 0 m) x l
+open-strip-list d m h = record {
   chain = h .order;
   mine = λ i n. (upFrom-in i 0 m (omega arith) (let b = h .mine i n .0 in omega arith), spans-over (h .mine i n .1));
   every = λ i n o. h .every i (let b = in-upFrom i 0 m n .1 in omega arith) (spans-on o);
 }
 
-pub holds-held : (d : Drawing) (m : ℕ) {x : ℤ} {l : List ℕ} → Holds (segmentAt d) (upFrom 0 m) x l → Held d m x l
-holds-held d m h = record {
+pub strip-list-open : (d : Drawing) (m : ℕ) {x : ℤ} {l : List ℕ} → StripList (segmentAt d) (upFrom 0 m) x l → OpenAt d m x l
+strip-list-open d m h = record {
   order = h .chain;
   mine = λ i n. (let b = in-upFrom i 0 m (h .mine i n .0) .1 in omega arith, spans-on (h .mine i n .1));
   every = λ i n s. h .every i (upFrom-in i 0 m (omega arith) (omega arith)) (spans-over s);
 }
 
-module _ {d : Drawing} {m : ℕ} {x : ℤ} {l : List ℕ} (h : Held d m x l) where
-  pub held-over : (i : ℕ) → i ∈ l → Over x (segmentAt d i)
-  held-over i n = spans-over (h .mine i n .1)
+module _ {d : Drawing} {m : ℕ} {x : ℤ} {l : List ℕ} (h : OpenAt d m x l) where
+  pub open-over : (i : ℕ) → i ∈ l → Over x (segmentAt d i)
+  open-over i n = spans-over (h .mine i n .1)
 
-  pub held-tiers : Pairs (λ i j. Tier x (segmentAt d i) (segmentAt d j)) l
-  held-tiers = holds-tiers (segmentAt d) (upFrom 0 m) (held-holds d m h)
+  pub open-tiers : Pairs (λ i j. Tier x (segmentAt d i) (segmentAt d j)) l
+  open-tiers = strip-tiers (segmentAt d) (upFrom 0 m) (open-strip-list d m h)
 
 -- ---- those that start at one point stand side by side in the list: what stands between two of them starts there too
 module _ (p : Point) {s t u : Segment} (ws : Wide s) (wt : Wide t) (wu : Wide u) (lo : Tier (p .x) s t) (hi : Tier (p .x) t u) (es : s .a ≡ p) (eu : u .a ≡ p) where
   meet : gap s u (p .x) ≡ pos 0
   meet = subst (λ (q : Point). gap s u (q .x) ≡ pos 0) es (up-nil (wide ws) (gap-at-a s u) (subst (λ (q : Point). side u q ≡ pos 0) (eu ∙ sym es) (side-own-a u)))
 
-  pub between : t .a ≡ p
-  between = go (sign (gap s t (p .x))) (sign (gap t u (p .x)))
+  pub starts-between : t .a ≡ p
+  starts-between = go (sign (gap s t (p .x))) (sign (gap t u (p .x)))
     where
       go : Sign (gap s t (p .x)) → Sign (gap t u (p .x)) → t .a ≡ p
       go (nil m) n = end-at (λ i. i .a) (λ i. inl refl) wt (lo .left .level m .1)
@@ -73,15 +73,15 @@ module _ (p : Point) {s t u : Segment} (ws : Wide s) (wt : Wide t) (wu : Wide u)
       go (plus m) n = absurd (let k = lo .left .low in omega ints)
 
 -- by place
-pub node-places : {d : Drawing} {m : ℕ} (p : Point) {l : List ℕ} → Held d m (p .x) l → (i j k : ℕ) → i < j → j < k → k < length l
+pub node-places : {d : Drawing} {m : ℕ} (p : Point) {l : List ℕ} → OpenAt d m (p .x) l → (i j k : ℕ) → i < j → j < k → k < length l
     → segmentAt d (getD l i 0) .a ≡ p → segmentAt d (getD l k 0) .a ≡ p → segmentAt d (getD l j 0) .a ≡ p
-node-places {d} p {l} h i j k ij jk kl ei ek = between p (wide-at i (omega arith)) (wide-at j (omega arith)) (wide-at k kl) (tier i j ij (omega arith)) (tier j k jk kl) ei ek
+node-places {d} p {l} h i j k ij jk kl ei ek = starts-between p (wide-at i (omega arith)) (wide-at j (omega arith)) (wide-at k kl) (tier i j ij (omega arith)) (tier j k jk kl) ei ek
   where
     wide-at : (a : ℕ) → a < length l → Wide (segmentAt d (getD l a 0))
-    wide-at a u = over-wide (held-over h (getD l a 0) (in-at l 0 a u))
+    wide-at a u = over-wide (open-over h (getD l a 0) (in-at l 0 a u))
 
     tier : (a b : ℕ) → a < b → b < length l → Tier (p .x) (segmentAt d (getD l a 0)) (segmentAt d (getD l b 0))
-    tier a b ab bl = pairs-places (λ a b. Tier (p .x) (segmentAt d a) (segmentAt d b)) l 0 (held-tiers h) a (omega arith) (getD l b 0) (in-after l 0 a b ab bl)
+    tier a b ab bl = pairs-places (λ a b. Tier (p .x) (segmentAt d a) (segmentAt d b)) l 0 (open-tiers h) a (omega arith) (getD l b 0) (in-after l 0 a b ab bl)
 
 -- ---- counts written up a stretch of the list: every one there gets its own, and no other place changes
 -- what holds at all places but one, and at that
@@ -126,7 +126,7 @@ count-none d under [] tops h = refl
 count-none d under (i ∷ l) tops h = absurd (omega arith)
 
 -- ---- how great entries get
-pub set-within : {b : ℕ} (tops : List ℤ) (i : ℕ) (t : ℤ) → natAbs t ≤ b → Within b tops → Within b (set tops i t)
+pub set-within : {b : ℕ} (tops : List ℤ) (i : ℕ) (t : ℤ) → natAbs t ≤ b → BoundedBy b tops → BoundedBy b (set tops i t)
 set-within {b} tops i t small w j = go (ℕ-discrete j i) (decLt i (length tops))
   where
     go : Dec (j ≡ i) → Dec (i < length tops) → natAbs (getD (set tops i t) j (pos 0)) ≤ b
@@ -135,8 +135,8 @@ set-within {b} tops i t small w j = go (ℕ-discrete j i) (decLt i (length tops)
     go (yes e) (no h) = subst (λ (l : List ℤ). natAbs (getD l j (pos 0)) ≤ b) (sym (set-out tops i t (omega arith))) (w j)
 
 -- each step adds a winding
-pub count-within : {d : Drawing} {b : ℕ} (under : ℤ) (l : List ℕ) (tops : List ℤ) → Faultless d → Known d l → natAbs under ≤ b → Within (b + 1000 * length l) tops
-    → Within (b + 1000 * length l) (countUp d under l tops)
+pub count-within : {d : Drawing} {b : ℕ} (under : ℤ) (l : List ℕ) (tops : List ℤ) → Faultless d → PlacesOf d l → natAbs under ≤ b → BoundedBy (b + 1000 * length l) tops
+    → BoundedBy (b + 1000 * length l) (countUp d under l tops)
 unfolding countUp
 count-within under [] tops r k u w = w
 count-within {d} {b} under (i ∷ l) tops r k u w =
@@ -145,14 +145,14 @@ count-within {d} {b} under (i ∷ l) tops r k u w =
     let more = count-within {b = b + 1000} t l (set tops i t) r (λ j m. k j (inr m)) small (set-within tops i t (omega arith) (λ j. let h = w j in omega arith)) in
     λ j. let h = more j in omega arith
 
-pub last-within : {b : ℕ} (tops : List ℤ) (l : List ℕ) → Within b tops → natAbs (lastIn tops l) ≤ b
+pub last-within : {b : ℕ} (tops : List ℤ) (l : List ℕ) → BoundedBy b tops → natAbs (lastIn tops l) ≤ b
 unfolding lastOf
 last-within tops [] w = omega arith
 last-within tops (i ∷ []) w = w i
 last-within tops (i ∷ (j ∷ l)) w = last-within tops (j ∷ l) w
 
 -- a stretch of at most 1,024
-pub climbed-within : {d : Drawing} {first place high b : ℕ} {l : List ℕ} {tops tops′ : List ℤ} → Climbed d first place l tops tops′ high → Faultless d → Known d l → length l ≤ 1024 → Within b tops → Within (b + 1024000) tops′
+pub climbed-within : {d : Drawing} {first place high b : ℕ} {l : List ℕ} {tops tops′ : List ℤ} → Climbed d first place l tops tops′ high → Faultless d → PlacesOf d l → length l ≤ 1024 → BoundedBy b tops → BoundedBy (b + 1024000) tops′
 climbed-within {d} {first} {place} {high} {b} {l} {tops} {tops′} c r k few w i =
     let part = take (high - c .low) (drop (c .low) l) in
     let short : length part ≤ 1024 = omega (arith, length-take (high - c .low) (drop (c .low) l), length-drop (c .low) l) in
@@ -165,7 +165,7 @@ module _ (d : Drawing) (count : ℕ → ℤ) where
   Climbs under [] = Unit {0}
   Climbs under (i ∷ l) = (count i ≡ under +ℤ segmentAt d i .winding) × Climbs (count i) l
 
-  pub count-up : (under : ℤ) (l : List ℕ) (tops : List ℤ) → Distinct l → ((i : ℕ) → i ∈ l → i < length tops) → Climbs under l → Written count l tops (countUp d under l tops)
+  pub count-up : (under : ℤ) (l : List ℕ) (tops : List ℤ) → Distinct l → ((i : ℕ) → i ∈ l → i < length tops) → Climbs under l → CountsWritten count l tops (countUp d under l tops)
   unfolding countUp
   count-up under [] tops distinct room c = record { size = refl; here = λ k m. absurd m; others = λ k n. refl }
   count-up under (i ∷ l) tops distinct room c =
@@ -174,7 +174,7 @@ module _ (d : Drawing) (count : ℕ → ℤ) where
       t : ℤ
       t = under +ℤ segmentAt d i .winding
 
-      more : {new : List ℤ} → Written count l (set tops i t) new → Written count (i ∷ l) tops new
+      more : {new : List ℤ} → CountsWritten count l (set tops i t) new → CountsWritten count (i ∷ l) tops new
       more {new} r = record { size = r .size ∙ length-set tops i t; here = here; others = λ k n. r .others k (λ m. n (inr m)) ∙ getD-set-other tops i k t (pos 0) (λ e. n (inl e)) }
         where
           here : (k : ℕ) → (k ≡ i) ⊎ (k ∈ l) → getD new k (pos 0) ≡ count k
@@ -191,11 +191,11 @@ module _ (d : Drawing) (count : ℕ → ℤ) where
   )
 
   -- a node's stretch of the list, once all that start at its point p have entered: m places have, and all others start after p
-  pub node-climbs : Counts d count → (m : ℕ) (p : Point) (below l more : List ℕ) → m ≤ length d → Held d m (p .x) (below ++ (l ++ more)) → ((i : ℕ) → i ∈ l → segmentAt d i .a ≡ p)
+  pub node-climbs : Counts d count → (m : ℕ) (p : Point) (below l more : List ℕ) → m ≤ length d → OpenAt d m (p .x) (below ++ (l ++ more)) → ((i : ℕ) → i ∈ l → segmentAt d i .a ≡ p)
       → ((k : ℕ) → m ≤ k → k < length d → ltP p (segmentAt d k .a) ≡ true) → Climbs (lastOf count below) l
   node-climbs c m p below l more few h start after = climbs below l (λ first i rest e.
       let q = start i (subst (λ (k : List ℕ). i ∈ k) (sym e) (in-right i first (i ∷ rest) (inl refl))) in
       let stands : below ++ (l ++ more) ≡ (below ++ first) ++ (i ∷ (rest ++ more)) =
       ap (λ (k : List ℕ). below ++ (k ++ more)) e ∙ ap (λ (k : List ℕ). below ++ k) (append-assoc first (i ∷ rest) more) ∙ sym (append-assoc below first (i ∷ (rest ++ more))) in
-      c .entered m (below ++ first) i (rest ++ more) few (subst (λ (r : Point). Held d m (r .x) ((below ++ first) ++ (i ∷ (rest ++ more)))) (sym q) (subst (Held d m (p .x)) stands h))
+      c .entered m (below ++ first) i (rest ++ more) few (subst (λ (r : Point). OpenAt d m (r .x) ((below ++ first) ++ (i ∷ (rest ++ more)))) (sym q) (subst (OpenAt d m (p .x)) stands h))
       (λ k n u. subst (λ (r : Point). ltP r (segmentAt d k .a) ≡ true) (sym q) (after k n u)))

@@ -12,9 +12,9 @@
 // The top count of a segment is that of the one below it in the list, and its own winding; it is written when its node is complete, because all that starts at one
 // point stands side by side then. So a drawing that is clear has its top counts too.
 //
-// `flat` has the ordered ends (end e below n is the a of segment e, end n + i the b of segment i), `list[..count]` the open segments; `passed` ends and `started`
+// `flat` has the ordered ends (end e below n is the a of segment e, end n + i the b of segment i), `list[..used]` the open segments; `passed` ends and `started`
 // segments are behind the sweep, and `near` is a place to look at first.
-use open_list::Held;
+use open_list::Status;
 ghost use mathlib.Core.Path.{_≡_};
 ghost use mathlib.Core.Logic.{_↔_};
 ghost use mathlib.Core.Bool.{true, false};
@@ -27,9 +27,9 @@ ghost use Rattle.ends.specs.Ends.{endPoint, endBefore};
 ghost use Rattle.ends.specs.Ordering.{ordering};
 ghost use Rattle.meetings.specs.Meetings.{NoneMeetWrongly};
 ghost use Rattle.faults.specs.Faultless.{Faultless};
-ghost use Rattle.strip.specs.Neighbours.{Known, Ordered, Distinct};
-ghost use Rattle.scan.specs.Scan.{Room};
-ghost use Rattle.count_up.specs.CountUp.{Within, Counted};
+ghost use Rattle.strip.specs.Neighbours.{PlacesOf, InOrder, Distinct};
+ghost use Rattle.scan.specs.Scan.{RoomFor};
+ghost use Rattle.count_up.specs.CountUp.{BoundedBy, Counted};
 ghost use Rattle.verticals.specs.Verticals.{Column};
 ghost use Rattle.starts.specs.Starts.{Splits};
 ghost use Rattle.meeting_sweep.specs.Events.{Past, Happened, ClearEvent};
@@ -41,36 +41,36 @@ fn event(
     from: usize,
     to: usize,
     list: &mut [u16],
-    count: usize,
+    used: usize,
     guess: usize,
     tops: &mut [i32],
-) -> Held
-    requires { ⌜ (let d = segments (now s) in let l = take count (now list) in
+) -> Status
+    requires { ⌜ (let d = segments (now s) in let l = take used (now list) in
         Faultless d
         × Column d (now ends)
         × (from ≤ to)
         × (to ≤ length d)
-        × (count ≤ from)
-        × Room (length d) (now list)
+        × (used ≤ from)
+        × RoomFor (length d) (now list)
         × (length d ≤ length (now tops))
-        × Known d l
-        × Ordered d l
+        × PlacesOf d l
+        × InOrder d l
         × Distinct l
         × Splits d from
         × Splits d to
-        × Within (2048000 * from) (now tops)) ⌝ }
-    ensures { λ r. ⌜ (let d = segments (now (s .entry)) in let l = take count (now (list .entry)) in let l′ = take (r .count) (now (list .exit)) in
-        (r .clear ≡ true → ((r .count ≤ to) × Happened d (now (ends .entry)) from to l l′ (now (tops .entry)) (now (tops .exit)) × Within (2048000 * to) (now (tops .exit))))
+        × BoundedBy (2048000 * from) (now tops)) ⌝ }
+    ensures { λ r. ⌜ (let d = segments (now (s .entry)) in let l = take used (now (list .entry)) in let l′ = take (r .used) (now (list .exit)) in
+        (r .clear ≡ true → ((r .used ≤ to) × Happened d (now (ends .entry)) from to l l′ (now (tops .entry)) (now (tops .exit)) × BoundedBy (2048000 * to) (now (tops .exit))))
         × (ClearEvent d (now (ends .entry)) from to l → r .clear ≡ true)) ⌝ }
 {
     if !verticals::are_unbroken(s, ends) {
         return open_list::unclear();
     }
-    let left = open_list::leave_all(s, ends, list, count, guess);
+    let left = open_list::leave_all(s, ends, list, used, guess);
     if !left.clear {
         return open_list::unclear();
     }
-    starts::start_all(s, from, to, list, left.count, left.near, tops)
+    starts::start_all(s, from, to, list, left.used, left.near, tops)
 }
 
 // Whether ends e and f lie at one x.
@@ -116,18 +116,18 @@ fn starts_past(s: &[i32], k: usize, e: usize) -> usize
 }
 
 // The sweep, from x to x of the ordered ends. The list is working memory; the tops are 0 before it.
-fn sweep(s: &[i32], flat: &[u16], list: &mut [u16], tops: &mut [i32]) -> bool
+fn sweep_events(s: &[i32], flat: &[u16], list: &mut [u16], tops: &mut [i32]) -> bool
     requires { ⌜ (let d = segments (now s) in
         Faultless d
         × (now flat ≡ ordering (endBefore d) (upFrom 0 (2 * length d)))
-        × Room (length d) (now list)
+        × RoomFor (length d) (now list)
         × (length d ≤ length (now tops))
-        × Within 0 (now tops)) ⌝ }
+        × BoundedBy 0 (now tops)) ⌝ }
     ensures { λ r. ⌜ ((r ≡ true) ↔ NoneMeetWrongly (segments (now (s .entry)))) × (r ≡ true → Counted (segments (now (s .entry))) (now (tops .exit))) ⌝ }
 {
     let mut passed: usize = 0;
     let mut started: usize = 0;
-    let mut count: usize = 0;
+    let mut used: usize = 0;
     let mut near: usize = 0;
     while passed < flat.len() {
         let ends = ends_past(s, flat, passed);
@@ -138,7 +138,7 @@ fn sweep(s: &[i32], flat: &[u16], list: &mut [u16], tops: &mut [i32]) -> bool
             started,
             starts,
             list,
-            count,
+            used,
             near,
             tops,
         );
@@ -147,7 +147,7 @@ fn sweep(s: &[i32], flat: &[u16], list: &mut [u16], tops: &mut [i32]) -> bool
         }
         passed = ends;
         started = starts;
-        count = held.count;
+        used = held.used;
         near = held.near;
     }
     true
@@ -159,13 +159,13 @@ pub fn is_clear(s: &[i32], flat: &[u16], tops: &mut [i32]) -> bool
         Faultless d
         × (now flat ≡ ordering (endBefore d) (upFrom 0 (2 * length d)))
         × (length d ≤ length (now tops))
-        × Within 0 (now tops)) ⌝ }
+        × BoundedBy 0 (now tops)) ⌝ }
     ensures { λ r. ⌜ ((r ≡ true) ↔ NoneMeetWrongly (segments (now (s .entry)))) × (r ≡ true → Counted (segments (now (s .entry))) (now (tops .exit))) ⌝ }
 {
     if segm::count(s) <= segm::SMALL {
         let mut list = [0u16; 144];
-        return sweep(s, flat, &mut list, tops);
+        return sweep_events(s, flat, &mut list, tops);
     }
     let mut list = [0u16; 1040];
-    sweep(s, flat, &mut list, tops)
+    sweep_events(s, flat, &mut list, tops)
 }

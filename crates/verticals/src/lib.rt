@@ -14,14 +14,14 @@ ghost use Rattle.geom.specs.Points.{inRange};
 ghost use Rattle.segm.specs.Segments.{segments, segmentAt};
 ghost use Rattle.ends.specs.Ends.{endPoint};
 ghost use Rattle.faults.specs.Faultless.{Proper, Faultless};
-ghost use Rattle.strip.specs.Neighbours.{Known};
-ghost use Rattle.scan.specs.Scan.{Listed};
-ghost use Rattle.count_up.specs.CountUp.{lastIn, Within};
-ghost use Rattle.verticals.specs.Verticals.{liesUnder, liesAbove, CutAt, AllStand, Column, Stands, Beyond, Unbroken, ClearIn, Clears};
+ghost use Rattle.strip.specs.Neighbours.{PlacesOf};
+ghost use Rattle.scan.specs.Scan.{ProperAt};
+ghost use Rattle.count_up.specs.CountUp.{lastIn, BoundedBy};
+ghost use Rattle.verticals.specs.Verticals.{liesUnder, liesAbove, CutAt, AllStand, Column, VerticalStart, Beyond, Unbroken, ClearIn, Clears};
 
 // Whether the segment at place i lies under p: strictly, or with its start there.
 fn lies_under(s: &[i32], i: u16, p: Point) -> bool
-    requires { ⌜ Listed (segments (now s)) i × (inRange p ≡ true) ⌝ }
+    requires { ⌜ ProperAt (segments (now s)) i × (inRange p ≡ true) ⌝ }
     ensures { λ r. ⌜ r ≡ liesUnder p (segmentAt (segments (now (s .entry))) i) ⌝ }
 {
     let t = segm::segment_in(s, i as usize);
@@ -33,7 +33,7 @@ fn lies_under(s: &[i32], i: u16, p: Point) -> bool
 
 // The same, above.
 fn lies_above(s: &[i32], i: u16, p: Point) -> bool
-    requires { ⌜ Listed (segments (now s)) i × (inRange p ≡ true) ⌝ }
+    requires { ⌜ ProperAt (segments (now s)) i × (inRange p ≡ true) ⌝ }
     ensures { λ r. ⌜ r ≡ liesAbove p (segmentAt (segments (now (s .entry))) i) ⌝ }
 {
     let t = segm::segment_in(s, i as usize);
@@ -45,7 +45,7 @@ fn lies_above(s: &[i32], i: u16, p: Point) -> bool
 
 // Whether the one before place k of the list lies under v, and the one at place k above it.
 fn is_cut(s: &[i32], v: Segment, list: &[u16], k: usize) -> bool
-    requires { ⌜ Faultless (segments (now s)) × Proper v × Known (segments (now s)) (now list) × (k ≤ length (now list)) ⌝ }
+    requires { ⌜ Faultless (segments (now s)) × Proper v × PlacesOf (segments (now s)) (now list) × (k ≤ length (now list)) ⌝ }
     ensures { λ r. ⌜ (r ≡ true) ↔ CutAt (segments (now (s .entry))) v k (now (list .entry)) ⌝ }
 {
     let a = v.a;
@@ -69,7 +69,7 @@ struct Gap {
 
 // Where the vertical segment v stands in a gap of the list, if it does: at the guess, else by search.
 fn gap_of(s: &[i32], v: Segment, list: &[u16], guess: usize) -> Gap
-    requires { ⌜ Faultless (segments (now s)) × Proper v × Known (segments (now s)) (now list) ⌝ }
+    requires { ⌜ Faultless (segments (now s)) × Proper v × PlacesOf (segments (now s)) (now list) ⌝ }
     ensures { λ r. ⌜ (r .clear ≡ true → CutAt (segments (now (s .entry))) v (r .place) (now (list .entry)))
         × (ClearIn (segments (now (s .entry))) v (now (list .entry)) → r .clear ≡ true) ⌝ }
 {
@@ -95,9 +95,9 @@ fn stand_one(s: &[i32], v: Segment, i: usize, list: &[u16], guess: usize, tops: 
         Faultless d
         × (v ≡ segmentAt d i)
         × (i < length d)
-        × Known d (now list)
+        × PlacesOf d (now list)
         × (length d ≤ length (now tops))
-        × Within 2110000000 (now tops)) ⌝ }
+        × BoundedBy 2110000000 (now tops)) ⌝ }
     ensures { λ r. ⌜ (let d = segments (now (s .entry)) in let l = now (list .entry) in let tops₀ = now (tops .entry) in
         (r .clear ≡ true → (CutAt d v (r .place) l × (now (tops .exit) ≡ set tops₀ i (lastIn tops₀ (take (r .place) l) +ℤ v .winding))))
         × (r .clear ≡ false → now (tops .exit) ≡ tops₀)
@@ -123,12 +123,12 @@ pub fn stand_all(
     requires { ⌜ (let d = segments (now s) in
         Faultless d
         × (to ≤ length d)
-        × Known d (now list)
+        × PlacesOf d (now list)
         × (length d ≤ length (now tops))
-        × Within 2100000000 (now tops)) ⌝ }
+        × BoundedBy 2100000000 (now tops)) ⌝ }
     ensures { λ r. ⌜ (let d = segments (now (s .entry)) in let l = now (list .entry) in
         (r ≡ true → AllStand d from to l (now (tops .entry)) (now (tops .exit)))
-        × ((b : ℕ) → Within b (now (tops .entry)) → Within (b + 1000 * (to - from)) (now (tops .exit)))
+        × ((b : ℕ) → BoundedBy b (now (tops .entry)) → BoundedBy (b + 1000 * (to - from)) (now (tops .exit)))
         × (Clears d from to l → r ≡ true)) ⌝ }
 {
     let mut near = guess;
@@ -159,7 +159,7 @@ fn pass_end(s: &[i32], e: usize, foot: i32, top: i32) -> Last
     requires { ⌜ e < 2 * length (segments (now s)) ⌝ }
     ensures { λ r. ⌜ (let d = segments (now (s .entry)) in let y = endPoint d e .y in
         (r .clear ≡ true → Beyond d e foot top (r .foot) (r .top))
-        × ((foot <ℤ y → y <ℤ top → ⊥) → (Stands d e → y <ℤ top → ⊥) → r .clear ≡ true)) ⌝ }
+        × ((foot <ℤ y → y <ℤ top → ⊥) → (VerticalStart d e → y <ℤ top → ⊥) → r .clear ≡ true)) ⌝ }
 {
     let p = ends::end_point(s, e);
     let y = p.y;

@@ -24,7 +24,7 @@ sums-to-zero-requires c κs =
     let l = c .before in
     let s = l .before .before in
     let k = s .pre .1 in
-    (omega (arith, c .loop-test .taken, k .each-end), k .known (l .loop .i) (omega (arith, c .loop-test .taken)))
+    (omega (arith, c .loop-test .taken, k .each-end), k .has-sum (l .loop .i) (omega (arith, c .loop-test .taken)))
 
 add-sums-to-zero : tie.Need-add-sums-to-zero Inv-loop μ-loop
 add-sums-to-zero c = let l = c .before .before in record { fits = omega (arith, l .before .before .pre .0, c .before .loop-test .taken) }
@@ -34,7 +34,7 @@ sums-to-zero-requires-2 c κs =
     let l = c .before .before in
     let s = l .before .before in
     let k = s .pre .1 in
-    (omega (arith, c .before .loop-test .taken, k .each-end), k .known (s .args .n + l .loop .i) (omega (arith, c .before .loop-test .taken)))
+    (omega (arith, c .before .loop-test .taken, k .each-end), k .has-sum (s .args .n + l .loop .i) (omega (arith, c .before .loop-test .taken)))
 
 -- the test at place i
 module _ (c : tie.After-sums-to-zero2 Inv-loop μ-loop) where

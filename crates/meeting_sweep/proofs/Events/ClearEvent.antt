@@ -29,25 +29,25 @@ use Rattle.strip.proofs.Strip.Apart.{Apart, Between, Over, places-apart}
 use Rattle.strip.proofs.Strip.Vertical.{not-vertical-wide}
 use Rattle.strip.proofs.Strip.Above.{spans-on}
 use Rattle.faults.specs.Faultless.{Faultless}
-use Rattle.strip.specs.Neighbours.{Known}
+use Rattle.strip.specs.Neighbours.{PlacesOf}
 use Rattle.strip.proofs.Neighbours.Upright.{Upright, vertical-upright, in-line}
 use Rattle.strip.proofs.Neighbours.Passes.{stands-on}
-use Rattle.strip.proofs.Neighbours.Turn.{Coming, turn-quiet}
-use Rattle.open_list.specs.OpenList.{CanLeave, CanEnter, Left, Entered}
-use Rattle.verticals.specs.Verticals.{Clears, Stands, Unbroken}
+use Rattle.strip.proofs.Neighbours.NumberedPlaces.{Coming, event-quiet}
+use Rattle.open_list.specs.OpenList.{CanLeave, CanEnter, HasLeft, Entered}
+use Rattle.verticals.specs.Verticals.{Clears, VerticalStart, Unbroken}
 use Rattle.verticals.proofs.Verticals.ClearOf.{clear-of-starting}
 use Rattle.starts.specs.Starts.{CanStart}
 use Rattle.meeting_sweep.specs.Events.{Past, ClearEvent}
-use Rattle.meeting_sweep.proofs.Events.Sweeping.{Along, proper, rising, end-x, coming, block-at, left-later, starts-later, earlier, column, along-known}
+use Rattle.meeting_sweep.proofs.Events.Sweeping.{Progress, rises-at, rising, end-x, coming, block-at, left-later, starts-later, earlier, column, progress-places}
 
-module _ (d : Drawing) (flat : List ℕ) (ready : Faultless d) (ends : Ordered d flat) (apart : NoneMeetWrongly d) where
+module _ (d : Drawing) (flat : List ℕ) (faultless : Faultless d) (ends : Ordered d flat) (apart : NoneMeetWrongly d) where
   abbrev seg : ℕ → Segment
   seg = segmentAt d
 
   abbrev at : ℕ → ℤ
   at t = endPoint d (getD flat t 0) .x
 
-  module _ {passed started passed′ started′ : ℕ} {l : List ℕ} (a : Along d flat passed started l) (more : passed < length flat)
+  module _ {passed started passed′ started′ : ℕ} {l : List ℕ} (a : Progress d flat passed started l) (more : passed < length flat)
       (p : Past at passed (length flat) (at passed) passed′) (q : Past (λ i. endPoint d i .x) started (length d) (at passed) started′) where
     abbrev y : ℤ
     y = at passed
@@ -56,24 +56,24 @@ module _ (d : Drawing) (flat : List ℕ) (ready : Faultless d) (ends : Ordered d
     block = take (passed′ - passed) (drop passed flat)
 
     come : Coming seg (length d) (a .x) y started started′ l
-    come = coming d flat ready ends a more p q
+    come = coming d flat faultless ends a more p q
 
-    known : Known d l
-    known = along-known d flat ready ends a
+    known : PlacesOf d l
+    known = progress-places d flat faultless ends a
 
     over : (i : ℕ) → i ∈ l → Over (a .x) (seg i)
-    over i m = a .swept .holds .mine i m .1
+    over i m = a .swept .list .mine i m .1
 
     inside : (v : ℕ) → v < started′ → v < length d
     inside v h = omega (arith, q .till)
 
     upright : (v : ℕ) → v < started′ → isVertical (seg v) ≡ true → Upright (seg v)
-    upright v h e = vertical-upright (proper d flat ready ends v (inside v h)) e
+    upright v h e = vertical-upright (rises-at d flat faultless ends v (inside v h)) e
 
     -- ---- what leaves
     -- what ends at y is open
     ending : (i : ℕ) → length d + i ∈ block → isVertical (seg i) ≡ false → i ∈ l
-    ending i m v = go (turn-quiet seg (length d) (proper d flat ready ends) come (a .swept .holds) i known-i .0)
+    ending i m v = go (event-quiet seg (length d) (rises-at d flat faultless ends) come (a .swept .list) i known-i .0)
       where
         i-inside : i < length d
         i-inside = let b = ends .below (length d + i) (in-drop passed flat (length d + i) (in-take (passed′ - passed) (drop passed flat) (length d + i) m)) in omega arith
@@ -82,33 +82,33 @@ module _ (d : Drawing) (flat : List ℕ) (ready : Faultless d) (ends : Ordered d
         known-i = upFrom-in i 0 (length d) (omega arith) (omega (arith, i-inside))
 
         ends-here : seg i .b .x ≡ y
-        ends-here = sym (end-x d flat ready ends i) ∙ block-at d flat ready ends a more p q (length d + i) m
+        ends-here = sym (end-x d flat faultless ends i) ∙ block-at d flat faultless ends a more p q (length d + i) m
 
         go : (seg i .a .x ≤ℤ a .x) ⊎ (y ≤ℤ seg i .a .x) → i ∈ l
-        go (inl b) = a .swept .holds .every i known-i (record { from = b; to = let r = ends-here in let g = come .later in omega ints })
-        go (inr b) = absurd (let r = ends-here in let g = not-vertical-wide (seg i) (proper d flat ready ends i i-inside) v .goes in omega ints)
+        go (inl b) = a .swept .list .every i known-i (record { from = b; to = let r = ends-here in let g = come .later in omega ints })
+        go (inr b) = absurd (let r = ends-here in let g = not-vertical-wide (seg i) (rises-at d flat faultless ends i i-inside) v .goes in omega ints)
 
     leaving : CanLeave d block l
     leaving = record {
       x = a .x;
       spanning = record { apart = apart; across = λ i m. spans-on (over i m) };
       distinct = pairs-take (λ i j. i ≡ j → ⊥) (passed′ - passed) (drop passed flat) (pairs-drop (λ i j. i ≡ j → ⊥) passed flat (ends .distinct));
-      inside = ending;
+      in-list = ending;
     }
 
     -- ---- what starts
-    module _ {between : List ℕ} (left : Left d block l between) where
+    module _ {between : List ℕ} (left : HasLeft d block l between) where
       stays : (i : ℕ) → i ∈ between → Over y (seg i)
-      stays i m = record { from = let o = over i (left .kept i m) .from in let g = come .later in omega ints; to = left-later d flat ready ends a more p q left i m }
+      stays i m = record { from = let o = over i (left .kept i m) .from in let g = come .later in omega ints; to = left-later d flat faultless ends a more p q left i m }
 
       starts : (i : ℕ) → started ≤ i → i < started′ → isVertical (seg i) ≡ false → Over y (seg i)
-      starts i f t v = record { from = let s = come .here i f t in omega ints; to = starts-later d flat ready ends a more p q i f t v }
+      starts i f t v = record { from = let s = come .here i f t in omega ints; to = starts-later d flat faultless ends a more p q i f t v }
 
       entering : CanEnter d started started′ between
       entering = record {
         x = y;
         spanning = record { apart = apart; across = λ i m. spans-on (stays i m) };
-        earlier = λ i m. earlier d flat ready ends a more p q i (left .kept i m);
+        earlier = λ i m. earlier d flat faultless ends a more p q i (left .kept i m);
         starting = λ i f t v. spans-on (starts i f t v);
       }
 
@@ -132,15 +132,15 @@ module _ (d : Drawing) (flat : List ℕ) (ready : Faultless d) (ends : Ordered d
         level = come .here w (omega arith) t ∙ sym (come .here v f (omega arith))
 
         go : (seg w .a .y <ℤ seg v .a .y) ⊎ (seg v .a .y ≤ℤ seg w .a .y) → seg v .a .y ≤ℤ seg w .a .y
-        go (inl l) = absurd (clash (before (inr (level, l))) (rising d flat ready ends v w h (inside w t)))
+        go (inl l) = absurd (clash (before (inr (level, l))) (rising d flat faultless ends v w h (inside w t)))
         go (inr l) = l
 
     -- ---- vertical segments and the ends there
-    starts-at : (v : ℕ) → v ∈ block → Stands d v → (started ≤ v) × (v < started′)
+    starts-at : (v : ℕ) → v ∈ block → VerticalStart d v → (started ≤ v) × (v < started′)
     starts-at v m s = go (decLt v started) (decLt v started′)
       where
         at : seg v .a .x ≡ y
-        at = ap (λ (r : Point). r .x) (sym (end-a d v (s .inside))) ∙ block-at d flat ready ends a more p q v m
+        at = ap (λ (r : Point). r .x) (sym (end-a d v (s .inside))) ∙ block-at d flat faultless ends a more p q v m
 
         go : Dec (v < started) → Dec (v < started′) → (started ≤ v) × (v < started′)
         go (yes b) c = absurd (let r = at in let g = come .later in let k = come .begun v b in omega ints)
@@ -169,7 +169,7 @@ module _ (d : Drawing) (flat : List ℕ) (ready : Faultless d) (ends : Ordered d
             → (endPoint d e .y ≤ℤ seg v .a .y) ⊎ (seg v .b .y ≤ℤ endPoint d e .y)
         beside v f t w e m (yes h) same =
             let is = end-a d e h in
-            let at = ap (λ (r : Point). r .x) (sym is) ∙ block-at d flat ready ends a more p q e m ∙ sym (come .here v f t) in
+            let at = ap (λ (r : Point). r .x) (sym is) ∙ block-at d flat faultless ends a more p q e m ∙ sym (come .here v f t) in
             subst (λ (r : Point). (r .y ≤ℤ seg v .a .y) ⊎ (seg v .b .y ≤ℤ r .y)) (sym is) (not-within v (upright v t w) (inside v t) e h (λ s. s .a) (λ k. k .on-a) at (own same))
           where
             own : Dec (v ≡ e) → ((seg e .a .y ≡ seg v .a .y) ⊎ (seg v .b .y ≡ seg e .a .y)) ⊎ (v ≡ e → ⊥)
@@ -178,8 +178,8 @@ module _ (d : Drawing) (flat : List ℕ) (ready : Faultless d) (ends : Ordered d
         beside v f t w e m (no h) same =
             let i = e - length d in
             let is = end-b d e (omega arith) in
-            let known : i < length d = let b = column d flat ready ends a more p q .known e m in omega arith in
-            let at = ap (λ (r : Point). r .x) (sym is) ∙ block-at d flat ready ends a more p q e m ∙ sym (come .here v f t) in
+            let known : i < length d = let b = column d flat faultless ends a more p q .known e m in omega arith in
+            let at = ap (λ (r : Point). r .x) (sym is) ∙ block-at d flat faultless ends a more p q e m ∙ sym (come .here v f t) in
             subst (λ (r : Point). (r .y ≤ℤ seg v .a .y) ⊎ (seg v .b .y ≤ℤ r .y)) (sym is) (not-within v (upright v t w) (inside v t) i known (λ s. s .b) (λ k. k .on-b) at (own (ℕ-discrete v i)))
           where
             own : Dec (v ≡ e - length d) → ((seg (e - length d) .b .y ≡ seg v .a .y) ⊎ (seg v .b .y ≡ seg (e - length d) .b .y)) ⊎ (v ≡ e - length d → ⊥)

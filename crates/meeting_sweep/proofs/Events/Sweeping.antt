@@ -20,8 +20,7 @@ use Rattle.segm.specs.declared.Segment.{Segment}
 use Rattle.lists.specs.Members.{_∈_}
 use Rattle.lists.specs.UpFrom.{upFrom}
 use Rattle.segm.specs.Segments.{Drawing, segmentAt, nowhere}
-use Rattle.lists.proofs.Members as lists
-use Rattle.lists.proofs.Members.{stands, pairs-of, pairs-places, pairs-map, pairs-take, pairs-drop, in-after, in-at, in-take, in-drop, cases}
+use Rattle.lists.proofs.Members.{Stands, stands, pairs-of, pairs-places, pairs-map, pairs-take, pairs-drop, in-after, in-at, in-take, in-drop, cases}
 use Rattle.lists.proofs.UpFrom.{in-upFrom, upFrom-in}
 use Rattle.ends.specs.Ends.{endPoint}
 use Rattle.ends.proofs.Ends.{end-a, end-b, end-near}
@@ -34,19 +33,19 @@ use Rattle.strip.proofs.Strip.Above.{spans-on, spans-over}
 use Rattle.strip.proofs.Strip.Vertical.{vertical-by, not-vertical-by, not-vertical-wide, not-vertical-ends, wide-not-vertical}
 use Rattle.faults.specs.Faultless.{Faultless}
 use Rattle.faults.proofs.Faultless.{proper-at}
-use Rattle.strip.specs.Neighbours.{Known, Distinct, Passes}
-use Rattle.strip.proofs.Neighbours.Lists.{Holds, holds-distinct}
-use Rattle.strip.proofs.Neighbours.Event.{Swept, cut-after}
-use Rattle.strip.proofs.Neighbours.Turn.{Coming, Tested, first-turn, turn-holds, turn, last-turn}
+use Rattle.strip.specs.Neighbours.{PlacesOf, Distinct, Passes}
+use Rattle.strip.proofs.Neighbours.Lists.{StripList, strip-distinct}
+use Rattle.strip.proofs.Neighbours.Event.{SweptTo, cut-after}
+use Rattle.strip.proofs.Neighbours.NumberedPlaces.{Coming, Tested, first-event, event-list, next-event, last-event}
 use Rattle.strip.proofs.Neighbours.Upright.{Upright}
 use Rattle.strip.proofs.Neighbours.Passes.{passes-under, passes-above, passes-through}
-use Rattle.count_up.specs.CountUp.{Held}
-use Rattle.count_up.proofs.CountUp.{held-holds}
-use Rattle.open_list.specs.OpenList.{Left}
-use Rattle.verticals.specs.Verticals.{Stands, Column}
+use Rattle.count_up.specs.CountUp.{OpenAt}
+use Rattle.count_up.proofs.CountUp.{open-strip-list}
+use Rattle.open_list.specs.OpenList.{HasLeft}
+use Rattle.verticals.specs.Verticals.{VerticalStart, Column}
 use Rattle.starts.specs.Starts.{Splits, Gapped}
 use Rattle.starts.proofs.Starts.Nodes.{rise}
-use Rattle.starts.proofs.Starts.Entering.{entered-held}
+use Rattle.starts.proofs.Starts.Entering.{entered-open}
 use Rattle.meeting_sweep.specs.Events.{Past, Happened}
 
 -- of two points at one x the later is the higher
@@ -64,17 +63,17 @@ module _ (d : Drawing) (flat : List ℕ) where
   at t = endPoint d (getD flat t 0) .x
 
   -- how far the sweep is: x is the last event, so many ends were passed and so many segments have started, and l are open
-  pub record Along (passed started : ℕ) (l : List ℕ) : Type 0 where
+  pub record Progress (passed started : ℕ) (l : List ℕ) : Type 0 where
     pub x : ℤ
-    pub swept : Swept seg (upFrom 0 (length d)) x l
+    pub swept : SweptTo seg (upFrom 0 (length d)) x l
     pub begun : (i : ℕ) → i < started → seg i .a .x ≤ℤ x
     pub waiting : (i : ℕ) → started ≤ i → i < length d → x <ℤ seg i .a .x
     pub behind : (t : ℕ) → t < passed → at t ≤ℤ x
     pub ahead : (t : ℕ) → passed ≤ t → t < length flat → x <ℤ at t
 
-  module _ (ready : Faultless d) (ends : Ordered d flat) where
-    pub proper : (i : ℕ) → i < length d → Before (seg i .a) (seg i .b)
-    proper i h = ltP-true (proper-at ready i h .rises)
+  module _ (faultless : Faultless d) (ends : Ordered d flat) where
+    pub rises-at : (i : ℕ) → i < length d → Before (seg i .a) (seg i .b)
+    rises-at i h = ltP-true (proper-at faultless i h .rises)
 
     rises : (t u : ℕ) → t ≤ u → u < length flat → at t ≤ℤ at u
     rises t u h k = go (decLt t u)
@@ -84,7 +83,7 @@ module _ (d : Drawing) (flat : List ℕ) where
         go (no l) = let e : t ≡ u = omega arith in subst (λ (v : ℕ). at t ≤ℤ at v) e (≤ℤ-refl (at t))
 
     pub rising : (i j : ℕ) → i < j → j < length d → ltP (seg j .a) (seg i .a) ≡ false
-    rising i j h k = rise ready i j (omega arith) k
+    rising i j h k = rise faultless i j (omega arith) k
 
     starts-rise : (i j : ℕ) → i ≤ j → j < length d → seg i .a .x ≤ℤ seg j .a .x
     starts-rise i j h k = go (decLt i j)
@@ -94,10 +93,10 @@ module _ (d : Drawing) (flat : List ℕ) where
         go (no l) = let e : i ≡ j = omega arith in subst (λ (m : ℕ). seg i .a .x ≤ℤ seg m .a .x) e (≤ℤ-refl (seg i .a .x))
 
     -- where the ends of a segment stand among the ordered ends
-    start-stands : (i : ℕ) → i < length d → lists.Stands flat 0 i
+    start-stands : (i : ℕ) → i < length d → Stands flat 0 i
     start-stands i h = stands flat 0 i (ends .has i (omega arith))
 
-    end-stands : (i : ℕ) → i < length d → lists.Stands flat 0 (length d + i)
+    end-stands : (i : ℕ) → i < length d → Stands flat 0 (length d + i)
     end-stands i h = stands flat 0 (length d + i) (ends .has (length d + i) (omega arith))
 
     at-start : (i : ℕ) (h : i < length d) → at (start-stands i h .place) ≡ seg i .a .x
@@ -120,18 +119,18 @@ module _ (d : Drawing) (flat : List ℕ) where
     unfolding far
     beyond p e = omega (ints, near-x p e, of-abs (p .x), of-neg (pos 16777217), of-pos 16777217)
 
-    pub along-first : Along 0 0 []
-    along-first = record {
+    pub progress-first : Progress 0 0 []
+    progress-first = record {
       x = far;
-      swept = first-turn seg (length d) proper (λ i h. beyond (seg i .a) (proper-at ready i h .near-a));
+      swept = first-event seg (length d) rises-at (λ i h. beyond (seg i .a) (proper-at faultless i h .near-a));
       begun = λ i h. absurd (omega arith);
-      waiting = λ i h k. beyond (seg i .a) (proper-at ready i k .near-a);
+      waiting = λ i h k. beyond (seg i .a) (proper-at faultless i k .near-a);
       behind = λ t h. absurd (omega arith);
-      ahead = λ t h k. beyond (endPoint d (getD flat t 0)) (end-near d ready (getD flat t 0) (ends .below (getD flat t 0) (in-at flat 0 t k)));
+      ahead = λ t h k. beyond (endPoint d (getD flat t 0)) (end-near d faultless (getD flat t 0) (ends .below (getD flat t 0) (in-at flat 0 t k)));
     }
 
     -- ---- one event
-    module _ {passed started passed′ started′ : ℕ} {l : List ℕ} (a : Along passed started l) (more : passed < length flat)
+    module _ {passed started passed′ started′ : ℕ} {l : List ℕ} (a : Progress passed started l) (more : passed < length flat)
         (p : Past at passed (length flat) (at passed) passed′) (q : Past (λ i. endPoint d i .x) started (length d) (at passed) started′) where
       abbrev y : ℤ
       y = at passed
@@ -180,7 +179,7 @@ module _ (d : Drawing) (flat : List ℕ) where
           go (inr g) = let n = rises passed passed′ (p .from) (omega arith) in let e : at passed′ ≡ y = omega ints in absurd (p .past (omega arith) e)
 
       mine : (i : ℕ) → i ∈ l → i < length d
-      mine i m = let k = in-upFrom i 0 (length d) (a .swept .holds .mine i m .0) .1 in omega arith
+      mine i m = let k = in-upFrom i 0 (length d) (a .swept .list .mine i m .0) .1 in omega arith
 
       pub coming : Coming seg (length d) (a .x) y started started′ l
       coming = record {
@@ -189,7 +188,7 @@ module _ (d : Drawing) (flat : List ℕ) where
         begun = a .begun;
         here = here-starts;
         after = after-starts;
-        ends = λ i m. next-end i (mine i m) (a .swept .holds .mine i m .1 .to);
+        ends = λ i m. next-end i (mine i m) (a .swept .list .mine i m .1 .to);
       }
 
       -- the ends at y
@@ -229,14 +228,14 @@ module _ (d : Drawing) (flat : List ℕ) where
 
       -- ---- the list after it
       -- what was open and is left ends later
-      pub left-later : {m : List ℕ} → Left d block l m → (i : ℕ) → i ∈ m → y <ℤ seg i .b .x
+      pub left-later : {m : List ℕ} → HasLeft d block l m → (i : ℕ) → i ∈ m → y <ℤ seg i .b .x
       left-later left i n = go (order y (seg i .b .x))
         where
           k : i ∈ l
           k = left .kept i n
 
           over : Over (a .x) (seg i)
-          over = a .swept .holds .mine i k .1
+          over = a .swept .list .mine i k .1
 
           go : (y <ℤ seg i .b .x) ⊎ (seg i .b .x ≤ℤ y) → y <ℤ seg i .b .x
           go (inl g) = g
@@ -250,7 +249,7 @@ module _ (d : Drawing) (flat : List ℕ) where
         where
           go : (y <ℤ seg i .b .x) ⊎ (seg i .b .x ≤ℤ y) → y <ℤ seg i .b .x
           go (inl g) = g
-          go (inr g) = absurd (not-vertical-ends (seg i) v (let b = before-le (proper i (omega (arith, t, q .till))) in let r = here-starts i f t in omega ints))
+          go (inr g) = absurd (not-vertical-ends (seg i) v (let b = before-le (rises-at i (omega (arith, t, q .till))) in let r = here-starts i f t in omega ints))
 
       -- what is open started before
       pub earlier : (i : ℕ) → i ∈ l → i < started
@@ -258,20 +257,20 @@ module _ (d : Drawing) (flat : List ℕ) where
         where
           go : Dec (i < started) → i < started
           go (yes u) = u
-          go (no u) = absurd (let w = a .waiting i (omega arith) (mine i m) in let f = a .swept .holds .mine i m .1 .from in omega ints)
+          go (no u) = absurd (let w = a .waiting i (omega arith) (mine i m) in let f = a .swept .list .mine i m .1 .from in omega ints)
 
       -- the list of strip y, before any has started there
-      pub left-held : {m : List ℕ} → Left d block l m → Held d started y m
-      left-held {m} left = record {
+      pub left-open : {m : List ℕ} → HasLeft d block l m → OpenAt d started y m
+      left-open {m} left = record {
         order = left .order;
-        mine = λ i n. (earlier i (left .kept i n), spans-on (record { from = let o = a .swept .holds .mine i (left .kept i n) .1 .from in let g = later in omega ints; to = left-later left i n }));
+        mine = λ i n. (earlier i (left .kept i n), spans-on (record { from = let o = a .swept .list .mine i (left .kept i n) .1 .from in let g = later in omega ints; to = left-later left i n }));
         every = λ i u s. stays i (spans-over s) (left .rest i (open-before i u (spans-over s)));
       }
         where
           open-before : (i : ℕ) → i < started → Over y (seg i) → i ∈ l
           open-before i u o =
               let f = q .from in let t = q .till in
-              a .swept .holds .every i (upFrom-in i 0 (length d) (omega arith) (omega arith)) (record { from = a .begun i u; to = let g = later in let t = o .to in omega ints })
+              a .swept .list .every i (upFrom-in i 0 (length d) (omega arith) (omega arith)) (record { from = a .begun i u; to = let g = later in let t = o .to in omega ints })
 
           stays : (i : ℕ) → Over y (seg i) → (i ∈ m) ⊎ (length d + i ∈ block) → i ∈ m
           stays i o (inl n) = n
@@ -314,8 +313,8 @@ module _ (d : Drawing) (flat : List ℕ) where
         comes i g (inl m) = cases (h .started .entered .kept i) (λ n. absurd (let e = end-x i in let r = block-at (length d + i) n in omega ints)) (h .left .rest i m)
         comes i g (inr (f, t)) = h .started .entered .came i f t (not-vertical-by (seg i) (λ e. let r = here-starts i f t in omega ints))
 
-        holds : Holds seg (upFrom 0 (length d)) y l′
-        holds = turn-holds seg (length d) proper coming (a .swept .holds) (h .started .entered .order) stays comes
+        strip-list : StripList seg (upFrom 0 (length d)) y l′
+        strip-list = event-list seg (length d) rises-at coming (a .swept .list) (h .started .entered .order) stays comes
 
         -- ---- the vertical ones
         module _ (v : ℕ) (f : started ≤ v) (t : v < started′) (u : Upright (seg v)) where
@@ -325,18 +324,18 @@ module _ (d : Drawing) (flat : List ℕ) where
           at-y : seg v .a .x ≡ y
           at-y = here-starts v f t
 
-          foot : Stands d v
+          foot : VerticalStart d v
           foot = record { inside = inside; vertical = vertical-by (seg v) (sym (u .plumb)) }
 
           gap : Gapped d started started′ (h .between) v
           gap = h .started .gaps v f t (foot .vertical)
 
           -- the list as it was when v's node was complete: all of it pass v with their starts
-          partly : Held d (gap .m) y (gap .between)
-          partly = entered-held ready (omega (arith, gap .own)) (omega (arith, gap .till, q .till)) (left-held (h .left)) (λ i g k. here-starts i g (omega (arith, gap .till))) (gap .entered)
+          partly : OpenAt d (gap .m) y (gap .between)
+          partly = entered-open faultless (omega (arith, gap .own)) (omega (arith, gap .till, q .till)) (left-open (h .left)) (λ i g k. here-starts i g (omega (arith, gap .till))) (gap .entered)
 
           passed-by : (i : ℕ) → i ∈ gap .between → Passes (λ s. s .a) (seg v) (seg i)
-          passed-by = cut-after seg (upFrom 0 (gap .m)) u (held-holds d (gap .m) (subst (λ z. Held d (gap .m) z (gap .between)) (sym at-y) partly)) 0 (gap .cut)
+          passed-by = cut-after seg (upFrom 0 (gap .m)) u (open-strip-list d (gap .m) (subst (λ z. OpenAt d (gap .m) z (gap .between)) (sym at-y) partly)) 0 (gap .cut)
 
           beside : (e : ℕ) → e ∈ block → (endPoint d e .y ≤ℤ seg v .a .y) ⊎ (seg v .b .y ≤ℤ endPoint d e .y)
           beside = h .unbroken .beside v (start-in v inside at-y) foot
@@ -345,7 +344,7 @@ module _ (d : Drawing) (flat : List ℕ) where
           before-passes i m = cases stays-on ends-here (h .left .rest i m)
             where
               over : Over (a .x) (seg i)
-              over = a .swept .holds .mine i m .1
+              over = a .swept .list .mine i m .1
 
               stays-on : i ∈ h .between → Passes (λ s. s .b) (seg v) (seg i)
               stays-on n = passes-through (λ s. s .b) u (let g = later in let o = over .from in let r = at-y in omega ints) (passed-by i (gap .entered .kept i n))
@@ -365,7 +364,7 @@ module _ (d : Drawing) (flat : List ℕ) where
                   let known : i < length d = omega (arith, q .till) in
                   let at : seg i .a .x ≡ seg v .a .x = here-starts i g k ∙ sym at-y in
                   let height : endPoint d i .y ≡ seg i .a .y = ap (λ (p : Point). p .y) (end-a d i known) in
-                  let wide = not-vertical-wide (seg i) (proper i known) s in
+                  let wide = not-vertical-wide (seg i) (rises-at i known) s in
                   let higher = gap .splits v i (gap .own) (omega arith) known in
                   cases (λ r. absurd (clash (higher) (not-before (λ b. not-higher at b (omega ints))))) (λ r. inr (passes-above (λ s. s .a) u wide at (side-at-a (seg i)) (omega ints))) (beside i (start-in i known (here-starts i g k)))
 
@@ -376,10 +375,10 @@ module _ (d : Drawing) (flat : List ℕ) where
           stack = λ v w f t f′ t′ u o ne. h .unbroken .stack v w (start-in v (inside v f t u) (at-y v f t u)) (start-in w (inside w f′ t′ o) (at-y w f′ t′ o)) (foot v f t u) (foot w f′ t′ o) ne;
         }
 
-        pub along-next : Along passed′ started′ l′
-        along-next = record {
+        pub progress-next : Progress passed′ started′ l′
+        progress-next = record {
           x = y;
-          swept = turn seg (length d) proper coming (a .swept) holds tested;
+          swept = next-event seg (length d) rises-at coming (a .swept) strip-list tested;
           begun = λ i k. go-begun i k (decLt i started);
           waiting = after-starts;
           behind = λ t k. go-behind t k (decLt t passed);
@@ -395,12 +394,12 @@ module _ (d : Drawing) (flat : List ℕ) where
             go-behind t k (no g) = let e = p .here t (omega arith) k in omega ints
 
     -- ---- what is known of the list
-    module _ {passed started : ℕ} {l : List ℕ} (a : Along passed started l) where
-      pub along-known : Known d l
-      along-known i m = let k = in-upFrom i 0 (length d) (a .swept .holds .mine i m .0) .1 in omega arith
+    module _ {passed started : ℕ} {l : List ℕ} (a : Progress passed started l) where
+      pub progress-places : PlacesOf d l
+      progress-places i m = let k = in-upFrom i 0 (length d) (a .swept .list .mine i m .0) .1 in omega arith
 
-      pub along-distinct : Distinct l
-      along-distinct = holds-distinct seg (upFrom 0 (length d)) (a .swept .holds)
+      pub progress-distinct : Distinct l
+      progress-distinct = strip-distinct seg (upFrom 0 (length d)) (a .swept .list)
 
       -- all ends were passed: so all have started, and none meet wrongly
       pub all-started : length flat ≤ passed → (i : ℕ) → i < length d → i < started
@@ -410,9 +409,9 @@ module _ (d : Drawing) (flat : List ℕ) where
           go (yes n) = n
           go (no n) = let s = start-stands i u in let e = at-start i u in let b = a .behind (s .place) (omega (arith, s .inside)) in let w = a .waiting i (omega arith) u in absurd (omega ints)
 
-      pub along-last : length flat ≤ passed → NoneMeetWrongly d
+      pub progress-last : length flat ≤ passed → NoneMeetWrongly d
       unfolding segmentAt
-      along-last h = pairs-of (λ s t. meetsWrongly s t ≡ false) d nowhere each
+      progress-last h = pairs-of (λ s t. meetsWrongly s t ≡ false) d nowhere each
         where
           done : (i : ℕ) → i < length d → seg i .b .x ≤ℤ a .x
           done i k = let s = end-stands i k in subst (λ z. z ≤ℤ a .x) (at-end i k) (a .behind (s .place) (omega (arith, s .inside)))
@@ -423,4 +422,4 @@ module _ (d : Drawing) (flat : List ℕ) where
               let j = suc i + s .place in
               let e : getD d j nowhere ≡ t = sym (getD-drop (suc i) d (s .place) nowhere) ∙ s .is in
               let g : j < length d = omega (arith, s .inside, length-drop (suc i) d) in
-              subst (λ (u : Segment). meetsWrongly (getD d i nowhere) u ≡ false) e (last-turn seg (length d) proper (a .swept) done i j k g (λ f. omega arith))
+              subst (λ (u : Segment). meetsWrongly (getD d i nowhere) u ≡ false) e (last-event seg (length d) rises-at (a .swept) done i j k g (λ f. omega arith))

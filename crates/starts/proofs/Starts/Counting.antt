@@ -29,37 +29,37 @@ use Rattle.strip.proofs.Strip.Above.{above-on, above-off, above-own-a}
 use Rattle.strip.proofs.Strip.Vertical.{wide-not-vertical}
 use Rattle.faults.specs.Faultless.{Faultless}
 use Rattle.faults.proofs.Faultless.{proper-at}
-use Rattle.strip.specs.Neighbours.{Under, Above}
-use Rattle.strip.proofs.Neighbours.Lists.{holds-distinct}
+use Rattle.strip.specs.Neighbours.{LiesUnder, LiesAbove}
+use Rattle.strip.proofs.Neighbours.Lists.{strip-distinct}
 use Rattle.strip.proofs.Neighbours.Upright.{Upright, vertical-upright}
 use Rattle.scan.specs.declared.Sought.the-variants.{At}
 use Rattle.scan.specs.Scan.{Changes, isBelow, belowAt}
-use Rattle.count_up.specs.CountUp.{Held, lastOf, lastIn, countUp, Counts, Tops, Written, LowEnd, HighEnd, Climbed}
-use Rattle.count_up.proofs.CountUp.{held-holds, held-over, Climbs, count-up, node-climbs, last-at, last-none, last-cong, node-places}
+use Rattle.count_up.specs.CountUp.{OpenAt, lastOf, lastIn, countUp, Counts, Tops, CountsWritten, LowEnd, HighEnd, Climbed}
+use Rattle.count_up.proofs.CountUp.{open-strip-list, open-over, Climbs, count-up, node-climbs, last-at, last-none, last-cong, node-places}
 use Rattle.open_list.specs.OpenList.{Entered, Older, Marks}
 use Rattle.verticals.specs.Verticals.{CutAt, AllStand, Stood}
 use Rattle.verticals.proofs.Verticals.Gaps.{under-true, above-true}
 use Rattle.starts.specs.Starts.{Splits, NodeEnd, Counting}
-use Rattle.starts.proofs.Starts.Entering.{entered-held}
+use Rattle.starts.proofs.Starts.Entering.{entered-open}
 
 -- v's gap: there the list goes from those that have v's head above them to the others
 pub cut-changes : (d : Drawing) {v : Segment} {l : List ℕ} → Upright v → ((i : ℕ) → i ∈ l → Over (v .a .x) (segmentAt d i)) → (k : ℕ) → CutAt d v k l → Changes (belowAt d (At (v .b)) l) 0 (length l) k
 unfolding isBelow
 cut-changes d {v} {l} u over k c = record {
   from = omega arith;
-  till = c .inside;
-  before = λ h. foot (getD l (k - 1) 0) (over (getD l (k - 1) 0) (in-at l 0 (k - 1) (omega (arith, c .inside)))) (under-true (v .a) (segmentAt d (getD l (k - 1) 0)) (c .under h));
+  till = c .till;
+  before = λ h. foot (getD l (k - 1) 0) (over (getD l (k - 1) 0) (in-at l 0 (k - 1) (omega (arith, c .till)))) (under-true (v .a) (segmentAt d (getD l (k - 1) 0)) (c .under h));
   after = λ h. head (getD l k 0) (above-true (v .b) (segmentAt d (getD l k 0)) (c .over h));
 }
   where
-    foot : (i : ℕ) → Over (v .a .x) (segmentAt d i) → Under (λ s. s .a) (v .a) (segmentAt d i) → above (segmentAt d i) (v .b) ≡ true
+    foot : (i : ℕ) → Over (v .a .x) (segmentAt d i) → LiesUnder (λ s. s .a) (v .a) (segmentAt d i) → above (segmentAt d i) (v .b) ≡ true
     foot i o k = let r = side-less (segmentAt d i) (v .a) (v .b) (over-wide o) (sym (u .plumb)) (u .rises) in above-on (segmentAt d i) (v .b) (go k r)
       where
-        go : Under (λ s. s .a) (v .a) (segmentAt d i) → side (segmentAt d i) (v .a) <ℤ side (segmentAt d i) (v .b) → pos 0 <ℤ side (segmentAt d i) (v .b)
+        go : LiesUnder (λ s. s .a) (v .a) (segmentAt d i) → side (segmentAt d i) (v .a) <ℤ side (segmentAt d i) (v .b) → pos 0 <ℤ side (segmentAt d i) (v .b)
         go (inl a) r = omega ints
         go (inr a) r = let z = subst (λ (p : Point). side (segmentAt d i) p ≡ pos 0) a (side-own-a (segmentAt d i)) in omega ints
 
-    head : (i : ℕ) → Above (λ s. s .a) (v .b) (segmentAt d i) → above (segmentAt d i) (v .b) ≡ false
+    head : (i : ℕ) → LiesAbove (λ s. s .a) (v .b) (segmentAt d i) → above (segmentAt d i) (v .b) ≡ false
     head i (inl a) = above-off (segmentAt d i) (v .b) (lt-le a)
     head i (inr a) = subst (λ (p : Point). above (segmentAt d i) p ≡ false) a (above-own-a (segmentAt d i))
 
@@ -73,11 +73,11 @@ stretch-at low high l k h = getD-take (high - low) (drop low l) k 0 h ∙ getD-d
 length-stretch : (low high : ℕ) (l : List ℕ) → high ≤ length l → length (stretch low high l) ≡ high - low
 length-stretch low high l h = length-take-le (high - low) (drop low l) (omega (arith, length-drop low l))
 
-module _ {d : Drawing} (ready : Faultless d) {from to : ℕ} (node : NodeEnd d from to to) (few : to ≤ length d) (begins : Splits d from) where
+module _ {d : Drawing} (faultless : Faultless d) {from to : ℕ} (node : NodeEnd d from to to) (few : to ≤ length d) (begins : Splits d from) where
   abbrev p : Point
   p = segmentAt d from .a
 
-  module _ {l′ : List ℕ} (h : Held d to (p .x) l′) {near : ℕ} (marks : Marks from near l′) {low high : ℕ} (lo : LowEnd from near l′ low) (hi : HighEnd from near l′ high) where
+  module _ {l′ : List ℕ} (h : OpenAt d to (p .x) l′) {near : ℕ} (marks : Marks from near l′) {low high : ℕ} (lo : LowEnd from near l′ low) (hi : HighEnd from near l′ high) where
     -- those of the stretch are of the node
     of-node : (i : ℕ) → i ∈ stretch low high l′ → from ≤ i
     of-node i m =
@@ -162,23 +162,23 @@ module _ {d : Drawing} (ready : Faultless d) {from to : ℕ} (node : NodeEnd d f
               ∙ sym (last-at count (take low l′) (omega (arith, long)))
           go (no k) = last-none (λ i. getD tops i (pos 0)) (take low l′) (omega (arith, long)) ∙ sym (last-none count (take low l′) (omega (arith, long)))
 
-      counted : Written count (stretch low high l′) tops (countUp d (lastIn tops (take low l′)) (stretch low high l′) tops)
+      counted : CountsWritten count (stretch low high l′) tops (countUp d (lastIn tops (take low l′)) (stretch low high l′) tops)
       counted = count-up d count (lastIn tops (take low l′)) (stretch low high l′) tops
-          (pairs-take (λ i j. i ≡ j → ⊥) (high - low) (drop low l′) (pairs-drop (λ i j. i ≡ j → ⊥) low l′ (holds-distinct (segmentAt d) (upFrom 0 to) (held-holds d to h))))
-          (λ i m. omega (arith, h .mine i (inside i m) .0, room))
+          (pairs-take (λ i j. i ≡ j → ⊥) (high - low) (drop low l′) (pairs-drop (λ i j. i ≡ j → ⊥) low l′ (strip-distinct (segmentAt d) (upFrom 0 to) (open-strip-list d to h))))
+          (λ i m. omega (arith, h .mine i (in-list i m) .0, room))
           (subst (λ z. Climbs d count z (stretch low high l′)) (sym under-is)
-          (node-climbs d count c to p (take low l′) (stretch low high l′) (drop (high - low) (drop low l′)) few (subst (Held d to (p .x)) (sym parts) h)
-          (λ i m. starts-there i (inside i m) (of-node i m))
+          (node-climbs d count c to p (take low l′) (stretch low high l′) (drop (high - low) (drop low l′)) few (subst (OpenAt d to (p .x)) (sym parts) h)
+          (λ i m. starts-there i (in-list i m) (of-node i m))
           (λ k a b. node .splits from k (node .since) a b)))
         where
-          inside : (i : ℕ) → i ∈ stretch low high l′ → i ∈ l′
-          inside i m = in-drop low l′ i (in-take (high - low) (drop low l′) i m)
+          in-list : (i : ℕ) → i ∈ stretch low high l′ → i ∈ l′
+          in-list i m = in-drop low l′ i (in-take (high - low) (drop low l′) i m)
 
           parts : take low l′ ++ (stretch low high l′ ++ drop (high - low) (drop low l′)) ≡ l′
           parts = ap (λ (r : List ℕ). take low l′ ++ r) (take-append-drop (high - low) (drop low l′)) ∙ take-append-drop low l′
 
 -- THEOREM: a node is passed, and its tops are its counts
-module _ {d : Drawing} (ready : Faultless d) {from to : ℕ} (node : NodeEnd d from to to) (few : to ≤ length d) (begins : Splits d from) where
+module _ {d : Drawing} (faultless : Faultless d) {from to : ℕ} (node : NodeEnd d from to to) (few : to ≤ length d) (begins : Splits d from) where
   pub node-counting : {l l′ : List ℕ} {near place high : ℕ} {tops tops₁ tops₂ : List ℤ} → length d ≤ length tops → Entered d from to l l′ → (Older from l → Marks from near l′) → (near ≤ length l′ → place ≡ near)
       → Climbed d from place l′ tops tops₁ high → AllStand d from to l′ tops₁ tops₂ → Counting d from to l tops tops₂
   node-counting {l} {l′} {near} {place} {high} {tops} {tops₁} {tops₂} room entered marks same climbed stand count c y held starts known i u = go (decLt i from) (dec (isVertical (segmentAt d i)))
@@ -186,37 +186,37 @@ module _ {d : Drawing} (ready : Faultless d) {from to : ℕ} (node : NodeEnd d f
       x-is : segmentAt d from .a .x ≡ y
       x-is = starts from (omega arith) (node .since)
 
-      h : Held d to (segmentAt d from .a .x) l′
-      h = subst (λ z. Held d to z l′) (sym x-is) (entered-held ready (omega (arith, node .since)) few held starts entered)
+      h : OpenAt d to (segmentAt d from .a .x) l′
+      h = subst (λ z. OpenAt d to z l′) (sym x-is) (entered-open faultless (omega (arith, node .since)) few held starts entered)
 
       marked : Marks from place l′
       marked j m f = let (a, b, e) = marks (λ k n. held .mine k n .0) j m f in subst (λ (n : ℕ). (0 < n) × (n ≤ length l′) × (from ≤ getD l′ (n - 1) 0)) (sym (same b)) (a, b, e)
 
-      wrote : Written count (stretch (climbed .low) high l′) tops tops₁
-      wrote = subst (Written count (stretch (climbed .low) high l′) tops) (sym (climbed .written)) (counted ready node few begins h marked (climbed .low-end) (climbed .high-end) c tops known room)
+      wrote : CountsWritten count (stretch (climbed .low) high l′) tops tops₁
+      wrote = subst (CountsWritten count (stretch (climbed .low) high l′) tops) (sym (climbed .written)) (counted faultless node few begins h marked (climbed .low-end) (climbed .high-end) c tops known room)
 
       -- all of the list have their counts
       listed : (j : ℕ) → j ∈ l′ → Dec (j < from) → getD tops₁ j (pos 0) ≡ count j
-      listed j m (yes b) = wrote .others j (λ n. let f = of-node ready node few begins h marked (climbed .low-end) (climbed .high-end) j n in omega arith) ∙ known j b
-      listed j m (no b) = wrote .here j (in-stretch ready node few begins h marked (climbed .low-end) (climbed .high-end) j m (omega arith))
+      listed j m (yes b) = wrote .others j (λ n. let f = of-node faultless node few begins h marked (climbed .low-end) (climbed .high-end) j n in omega arith) ∙ known j b
+      listed j m (no b) = wrote .here j (in-stretch faultless node few begins h marked (climbed .low-end) (climbed .high-end) j m (omega arith))
 
       slanted : (j : ℕ) → j ∈ l′ → isVertical (segmentAt d j) ≡ false
-      slanted j m = wide-not-vertical (segmentAt d j) (over-wide (held-over h j m))
+      slanted j m = wide-not-vertical (segmentAt d j) (over-wide (open-over h j m))
 
       upright : from ≤ i → isVertical (segmentAt d i) ≡ true → Upright (segmentAt d i)
-      upright a v = vertical-upright (ltP-true (proper-at ready i (omega arith) .rises)) v
+      upright a v = vertical-upright (ltP-true (proper-at faultless i (omega arith) .rises)) v
 
-      at-foot : from ≤ i → Held d to (segmentAt d i .a .x) l′
-      at-foot a = subst (λ (q : Point). Held d to (q .x) l′) (sym (node .here i a u)) h
+      at-foot : from ≤ i → OpenAt d to (segmentAt d i .a .x) l′
+      at-foot a = subst (λ (q : Point). OpenAt d to (q .x) l′) (sym (node .here i a u)) h
 
       vertical : from ≤ i → isVertical (segmentAt d i) ≡ true → Stood d l′ tops₁ tops₂ i → getD tops₂ i (pos 0) ≡ count i
       vertical a v s =
           s .top slanted
           ∙ ap (λ z. z +ℤ segmentAt d i .winding) (last-cong (λ j. getD tops₁ j (pos 0)) count (take (s .place) l′) (λ j m. let n = in-take (s .place) l′ j m in listed j n (decLt j from)))
           ∙ sym (c .vertical i to (omega arith) v few l′ (at-foot a) (λ k b e. node .splits i k u b e) (s .place)
-          (cut-changes d (upright a v) (held-over (at-foot a)) (s .place) (s .cut)))
+          (cut-changes d (upright a v) (open-over (at-foot a)) (s .place) (s .cut)))
 
       go : Dec (i < from) → (isVertical (segmentAt d i) ≡ true) ⊎ (isVertical (segmentAt d i) ≡ false) → getD tops₂ i (pos 0) ≡ count i
-      go (yes b) v = stand .others i (λ a _ _. omega arith) ∙ wrote .others i (λ n. let f = of-node ready node few begins h marked (climbed .low-end) (climbed .high-end) i n in omega arith) ∙ known i b
+      go (yes b) v = stand .others i (λ a _ _. omega arith) ∙ wrote .others i (λ n. let f = of-node faultless node few begins h marked (climbed .low-end) (climbed .high-end) i n in omega arith) ∙ known i b
       go (no b) (inl v) = vertical (omega arith) v (stand .each i (omega arith) u v)
       go (no b) (inr v) = stand .others i (λ _ _ f. clash f v) ∙ listed i (entered .came i (omega arith) u v) (no b)

@@ -18,12 +18,12 @@ use Rattle.strip.proofs.Strip.Above.{spans-on, spans-over}
 use Rattle.strip.proofs.Strip.Vertical.{not-vertical-by, not-vertical-wide}
 use Rattle.faults.specs.Faultless.{Faultless}
 use Rattle.faults.proofs.Faultless.{proper-at}
-use Rattle.count_up.specs.CountUp.{Held}
+use Rattle.count_up.specs.CountUp.{OpenAt}
 use Rattle.open_list.specs.OpenList.{Entered}
 
 -- places from..to enter, which start at y
-pub entered-held : {d : Drawing} {from to : ℕ} {y : ℤ} {l l′ : List ℕ} → Faultless d → from ≤ to → to ≤ length d → Held d from y l → ((i : ℕ) → from ≤ i → i < to → segmentAt d i .a .x ≡ y) → Entered d from to l l′ → Held d to y l′
-entered-held {d} {from} {to} {y} {l} {l′} ready h t k starts e = record {
+pub entered-open : {d : Drawing} {from to : ℕ} {y : ℤ} {l l′ : List ℕ} → Faultless d → from ≤ to → to ≤ length d → OpenAt d from y l → ((i : ℕ) → from ≤ i → i < to → segmentAt d i .a .x ≡ y) → Entered d from to l l′ → OpenAt d to y l′
+entered-open {d} {from} {to} {y} {l} {l′} faultless h t k starts e = record {
   order = e .order;
   mine = λ i n. cases (λ m. let (u, s) = k .mine i m in (omega arith, s)) (λ m. (m .1, start i (m .0) (m .1) (m .2))) (e .mine i n);
   every = λ i u s. go i u s (decLt i from);
@@ -32,7 +32,7 @@ entered-held {d} {from} {to} {y} {l} {l′} ready h t k starts e = record {
     start : (i : ℕ) → from ≤ i → i < to → isVertical (segmentAt d i) ≡ false → spans (segmentAt d i) y ≡ true
     start i a b v =
         let s = starts i a b in
-        let w = not-vertical-wide (segmentAt d i) (ltP-true (proper-at ready i (omega arith) .rises)) v .goes in
+        let w = not-vertical-wide (segmentAt d i) (ltP-true (proper-at faultless i (omega arith) .rises)) v .goes in
         spans-on (record { from = omega ints; to = omega ints })
 
     go : (i : ℕ) → i < to → spans (segmentAt d i) y ≡ true → Dec (i < from) → i ∈ l′

@@ -15,7 +15,7 @@ use Rattle.lists.proofs.Members.{in-after, pairs-places}
 use Rattle.faults.specs.Faultless.{Faultless}
 use Rattle.starts.specs.Starts.{Splits}
 
-module _ {d : Drawing} (ready : Faultless d) where
+module _ {d : Drawing} (faultless : Faultless d) where
   abbrev at : ℕ → Point
   at i = segmentAt d i .a
 
@@ -25,7 +25,7 @@ module _ {d : Drawing} (ready : Faultless d) where
   rise i j h k = go (decLt i j)
     where
       go : Dec (i < j) → ltP (at j) (at i) ≡ false
-      go (yes l) = pairs-places (λ s t. ltP (t .a) (s .a) ≡ false) d nowhere (ready .rising) i (omega arith) (segmentAt d j) (in-after d nowhere i j l k)
+      go (yes l) = pairs-places (λ s t. ltP (t .a) (s .a) ≡ false) d nowhere (faultless .rising) i (omega arith) (segmentAt d j) (in-after d nowhere i j l k)
       go (no l) = let e : i ≡ j = omega arith in subst (λ (m : ℕ). ltP (at m) (at i) ≡ false) e (ltP-irrefl (at i))
 
   -- where the start at r differs from the one before it, all before r start before all from r on

@@ -10,8 +10,8 @@ use lib.Seq.{length-take-le}
 use lib.IntN.{ℤ}
 use Rattle.integers.proofs.Booleans.{clash}
 use Rattle.segm.specs.Segments.{Drawing, segments, segmentAt}
-use Rattle.strip.specs.Neighbours.{Known}
-use Rattle.count_up.specs.CountUp.{Within, Climbed}
+use Rattle.strip.specs.Neighbours.{PlacesOf}
+use Rattle.count_up.specs.CountUp.{BoundedBy, Climbed}
 use Rattle.count_up.proofs.CountUp.{climbed-within}
 use Rattle.open_list.specs.OpenList.{Entered, Older, Marks}
 use Rattle.open_list.proofs.OpenList.{entered-known}
@@ -47,27 +47,27 @@ module _ (c : tie.After-lesser) where
   from = s .args .from
 
   abbrev l : List ℕ
-  l = take (s .args .count) (s .args .list .now)
+  l = take (s .args .used) (s .args .list .now)
 
-  abbrev count : ℕ
-  count = e .enter-all .result .count
+  abbrev used : ℕ
+  used = e .enter-all .result .used
 
   abbrev l′ : List ℕ
-  l′ = take count (e .enter-all .last .1 .1 .1 .0)
+  l′ = take used (e .enter-all .last .1 .1 .1 .0)
 
-  came : (count ≤ s .args .to) × Entered d from (s .args .to) l l′ × (Older from l → Marks from (e .enter-all .result .near) l′)
+  came : (used ≤ s .args .to) × Entered d from (s .args .to) l l′ × (Older from l → Marks from (e .enter-all .result .near) l′)
   came = e .enter-all .ensures .0 (not-false _ (c .before .if1 .left))
 
-  room : count ≤ length (e .enter-all .last .1 .1 .1 .0)
+  room : used ≤ length (e .enter-all .last .1 .1 .1 .0)
   room = omega (arith, came .0, s .pre .1, s .pre .3, e .enter-all .kept)
 
-  long : length l′ ≡ count
-  long = length-take-le count (e .enter-all .last .1 .1 .1 .0) room
+  long : length l′ ≡ used
+  long = length-take-le used (e .enter-all .last .1 .1 .1 .0) room
 
-  known : Known d l′
+  known : PlacesOf d l′
   known = entered-known (s .pre .1) (s .pre .5) (came .1)
 
-  small : Within 2100000000 (s .args .tops .now)
+  small : BoundedBy 2100000000 (s .args .tops .now)
   small i = let h = s .pre .9 i in omega (arith, h, s .pre .8 .since, s .pre .1, s .pre .0 .few)
 
 lesser-requires : tie.Need-lesser-requires
@@ -98,10 +98,10 @@ module _ (c : tie.After-tops) where
   climbed : Climbed (d k) (from k) (k .lesser .result) (l′ k) tops₀ tops₁ (c .before .count-node .result)
   climbed = c .before .count-node .ensures
 
-  greater : Within (2048000 * from k + 1024000) tops₁
+  greater : BoundedBy (2048000 * from k + 1024000) tops₁
   greater = climbed-within climbed (s k .pre .0) (known k) (omega (arith, long k, came k .0, s k .pre .1, s k .pre .0 .few)) (s k .pre .9)
 
-  wide : Within 2100000000 tops₁
+  wide : BoundedBy 2100000000 tops₁
   wide i = let h = greater i in omega (arith, h, s k .pre .8 .since, s k .pre .1, s k .pre .0 .few)
 
 slice-reshare-prefix-stand-all : tie.Need-slice-reshare-prefix-stand-all

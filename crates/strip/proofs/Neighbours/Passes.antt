@@ -16,7 +16,7 @@ use Rattle.strip.proofs.Strip.Signs.{Sign, minus, nil, plus, sign, up-p
 use Rattle.strip.proofs.Strip.Gap.{side-at-a, side-at-b}
 use Rattle.strip.proofs.Strip.Apart.{Between, Apart, Wide, wide, vertical-one-side}
 use Rattle.strip.proofs.Strip.Visits.{First, earlier, lower, first-total}
-use Rattle.strip.specs.Neighbours.{Under, Above, Passes}
+use Rattle.strip.specs.Neighbours.{LiesUnder, LiesAbove, Passes}
 use Rattle.strip.proofs.Neighbours.Upright.{Upright, in-line, end-at}
 
 -- ---- s at y
@@ -50,18 +50,18 @@ module _ {v s : Segment} (u : Upright v) (w : Wide s) (k : Apart v s) (from : s 
       go (inr a) b = let e : s .a .x ≡ v .a .x = omega ints in k .on-a (in-line u (s .a) e) (between (s .a) (side-at-a s) e)
 
   module _ (inner : Inner (v .a .x) s) where
-    pub foot-over : pos 0 <ℤ side s (v .b) → Under (λ t. t .a) (v .a) s
+    pub foot-over : pos 0 <ℤ side s (v .b) → LiesUnder (λ t. t .a) (v .a) s
     foot-over g = go (sign (side s (v .a)))
       where
-        go : Sign (side s (v .a)) → Under (λ t. t .a) (v .a) s
+        go : Sign (side s (v .a)) → LiesUnder (λ t. t .a) (v .a) s
         go (plus f) = inl f
         go (nil z) = ⊎-elim inr (λ b. absurd (k .a-on z b)) (inner (v .a) refl z)
         go (minus f) = absurd (not-parted f g)
 
-    pub head-under : side s (v .b) ≤ℤ pos 0 → Above (λ t. t .a) (v .b) s
+    pub head-under : side s (v .b) ≤ℤ pos 0 → LiesAbove (λ t. t .a) (v .b) s
     head-under g = go (sign (side s (v .b)))
       where
-        go : Sign (side s (v .b)) → Above (λ t. t .a) (v .b) s
+        go : Sign (side s (v .b)) → LiesAbove (λ t. t .a) (v .b) s
         go (plus f) = absurd (omega ints)
         go (nil z) = ⊎-elim inr (λ b. absurd (k .b-on z b)) (inner (v .b) (u .plumb) z)
         go (minus f) = inl f
@@ -86,17 +86,17 @@ stands-on {v} {w} u o e k l = go (order (w .a .y) (v .b .y)) (first-total k (inr
 
 -- ---- s has its end e at v's x, not strictly between v's ends: it passes
 module _ (e : Segment → Point) {v s : Segment} (u : Upright v) (w : Wide s) (at : e s .x ≡ v .a .x) (side-at : (p : Point) → p .x ≡ e s .x → side s p ≡ reach s *ℤ (p .y -ℤ e s .y)) where
-  pub passes-under : e s .y ≤ℤ v .a .y → Under e (v .a) s
+  pub passes-under : e s .y ≤ℤ v .a .y → LiesUnder e (v .a) s
   passes-under h = go (order (e s .y) (v .a .y))
     where
-      go : (e s .y <ℤ v .a .y) ⊎ (v .a .y ≤ℤ e s .y) → Under e (v .a) s
+      go : (e s .y <ℤ v .a .y) ⊎ (v .a .y ≤ℤ e s .y) → LiesUnder e (v .a) s
       go (inl l) = inl (up-pos (wide w) (side-at (v .a) (sym at)) (omega (ints, of-- (v .a .y) (e s .y), of-pos 0)))
       go (inr l) = inr (point at (omega ints))
 
-  pub passes-above : v .b .y ≤ℤ e s .y → Above e (v .b) s
+  pub passes-above : v .b .y ≤ℤ e s .y → LiesAbove e (v .b) s
   passes-above h = go (order (v .b .y) (e s .y))
     where
-      go : (v .b .y <ℤ e s .y) ⊎ (e s .y ≤ℤ v .b .y) → Above e (v .b) s
+      go : (v .b .y <ℤ e s .y) ⊎ (e s .y ≤ℤ v .b .y) → LiesAbove e (v .b) s
       go (inl l) = inl (up-neg (wide w) (side-at (v .b) (u .plumb ∙ sym at)) (omega (ints, of-- (v .b .y) (e s .y), of-pos 0)))
       go (inr l) = inr (point (at ∙ sym (u .plumb)) (omega ints))
 

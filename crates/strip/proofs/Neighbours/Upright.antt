@@ -18,9 +18,9 @@ use Rattle.strip.proofs.Strip.Signs.{Sign, minus, nil, plus, sign, up-n
 use Rattle.strip.proofs.Strip.Gap.{gap-turn, side-gap, side-vertical, side-at-a, side-at-b, side-own-a, side-own-b}
 use Rattle.strip.proofs.Strip.Apart.{Between, Apart, Wide, wide, side-less}
 use Rattle.strip.proofs.Strip.Vertical.{vertical-not-wide}
-use Rattle.strip.proofs.Strip.Tiers.{At}
+use Rattle.strip.proofs.Strip.Tiers.{OrderAt}
 use Rattle.lists.specs.Chain.{OfFirst, OfLast}
-use Rattle.strip.specs.Neighbours.{Under, Above, Passes, Cut}
+use Rattle.strip.specs.Neighbours.{LiesUnder, LiesAbove, Passes, Cut}
 use Rattle.lists.proofs.Chain.{last-take, first-drop}
 
 pub record Upright (v : Segment) : Type 0 where
@@ -155,20 +155,20 @@ module _ (e : Segment → Point) (is : (s : Segment) → (e s ≡ s .a) ⊎ (e s
       upper {p} f z b = let l = side-less s p (v .b) w (f ∙ sym (u .plumb)) (above-it b (f ∙ sym (u .plumb))) in omega ints
 
   -- what is lower than one that is under p is under p, and what is higher than one above p is above p
-  module _ {s t : Segment} {p : Point} (ws : Wide s) (wt : Wide t) (o : At e (p .x) s t) where
-    pub under-down : Under e p t → Under e p s
+  module _ {s t : Segment} {p : Point} (ws : Wide s) (wt : Wide t) (o : OrderAt e (p .x) s t) where
+    pub under-down : LiesUnder e p t → LiesUnder e p s
     under-down (inl h) = inl (side-down p ws wt (o .low) h)
     under-down (inr h) = go (sign (gap s t (p .x)))
       where
         z : reach s *ℤ side t p ≡ pos 0
         z = up-nil (wide ws) refl (end-on h)
 
-        go : Sign (gap s t (p .x)) → Under e p s
+        go : Sign (gap s t (p .x)) → LiesUnder e p s
         go (minus m) = let y = z in inl (pos-by {v = reach t} (side-gap s t p) (wide wt) (omega (ints, of-- (reach s *ℤ side t p) (gap s t (p .x)), of-pos 0)))
         go (nil m) = let y = z in inr (end-at ws (o .level m .0) (down-nil (wide wt) (sym (side-gap s t p)) (omega (ints, of-- (reach s *ℤ side t p) (gap s t (p .x)), of-pos 0))))
         go (plus m) = absurd (let l = o .low in omega ints)
 
-    pub above-up : Above e p s → Above e p t
+    pub above-up : LiesAbove e p s → LiesAbove e p t
     above-up (inl h) =
         let m = up-neg (wide wt) refl h in let l = o .low in let g = gap-turn s t (p .x) in
         inl (down-neg (wide ws) (sym (side-gap t s p)) (omega (ints, of-- (reach t *ℤ side s p) (gap t s (p .x)), of-neg (gap s t (p .x)), of-pos 0)))
@@ -177,7 +177,7 @@ module _ (e : Segment → Point) (is : (s : Segment) → (e s ≡ s .a) ⊎ (e s
         z : reach t *ℤ side s p ≡ pos 0
         z = up-nil (wide wt) refl (end-on h)
 
-        go : Sign (gap s t (p .x)) → Above e p t
+        go : Sign (gap s t (p .x)) → LiesAbove e p t
         go (minus m) = let y = z in let g = gap-turn s t (p .x) in inl (down-neg (wide ws) (sym (side-gap t s p)) (omega (ints, of-- (reach t *ℤ side s p) (gap t s (p .x)), of-neg (gap s t (p .x)), of-pos 0)))
         go (nil m) = let y = z in let g = gap-turn s t (p .x) in inr (end-at wt (o .level m .1) (down-nil (wide ws) (sym (side-gap t s p)) (omega (ints, of-- (reach t *ℤ side s p) (gap t s (p .x)), of-neg (gap s t (p .x)), of-pos 0))))
         go (plus m) = absurd (let l = o .low in omega ints)
@@ -185,33 +185,33 @@ module _ (e : Segment → Point) (is : (s : Segment) → (e s ≡ s .a) ⊎ (e s
   -- the cut: the last before it is under v's foot and the first after it above its head, so all pass
   module _ {A : Type 0} (seg : A → Segment) {v : Segment} (u : Upright v) where
     abbrev Rising : List A → Type 0
-    Rising l = Pairs (λ i j. At e (v .a .x) (seg i) (seg j)) l
+    Rising l = Pairs (λ i j. OrderAt e (v .a .x) (seg i) (seg j)) l
 
     abbrev Wides : List A → Type 0
     Wides l = (i : A) → i ∈ l → Wide (seg i)
 
-    pub all-above : (i : A) (r : List A) → Rising (i ∷ r) → Wides (i ∷ r) → Above e (v .b) (seg i) → (j : A) → j ∈ (i ∷ r) → Above e (v .b) (seg j)
-    all-above i r h w k j (inl q) = subst (λ m. Above e (v .b) (seg m)) (sym q) k
-    all-above i r h w k j (inr m) = above-up (w i (inl refl)) (w j (inr m)) (subst (λ z. At e z (seg i) (seg j)) (sym (u .plumb)) (h .0 j m)) k
+    pub all-above : (i : A) (r : List A) → Rising (i ∷ r) → Wides (i ∷ r) → LiesAbove e (v .b) (seg i) → (j : A) → j ∈ (i ∷ r) → LiesAbove e (v .b) (seg j)
+    all-above i r h w k j (inl q) = subst (λ m. LiesAbove e (v .b) (seg m)) (sym q) k
+    all-above i r h w k j (inr m) = above-up (w i (inl refl)) (w j (inr m)) (subst (λ z. OrderAt e z (seg i) (seg j)) (sym (u .plumb)) (h .0 j m)) k
 
-    head-under : (i : A) (l r : List A) → Rising (i ∷ (l ++ r)) → Wides (i ∷ (l ++ r)) → OfLast (λ j. Under e (v .a) (seg j)) (i ∷ l) → Under e (v .a) (seg i)
+    head-under : (i : A) (l r : List A) → Rising (i ∷ (l ++ r)) → Wides (i ∷ (l ++ r)) → OfLast (λ j. LiesUnder e (v .a) (seg j)) (i ∷ l) → LiesUnder e (v .a) (seg i)
     head-under i [] r h w k = k
     head-under i (j ∷ l) r h w k = under-down (w i (inl refl)) (w j (inr (inl refl))) (h .0 j (inl refl)) (head-under j l r (h .1) (λ m n. w m (inr n)) k)
 
-    pub cut-passes : (l r : List A) → Rising (l ++ r) → Wides (l ++ r) → OfLast (λ i. Under e (v .a) (seg i)) l → OfFirst (λ i. Above e (v .b) (seg i)) r
+    pub cut-passes : (l r : List A) → Rising (l ++ r) → Wides (l ++ r) → OfLast (λ i. LiesUnder e (v .a) (seg i)) l → OfFirst (λ i. LiesAbove e (v .b) (seg i)) r
         → (i : A) → i ∈ (l ++ r) → Passes e v (seg i)
     cut-passes [] [] h w lo hi i m = absurd m
     cut-passes [] (q ∷ r) h w lo hi i m = inr (all-above q r h w hi i m)
-    cut-passes (j ∷ l) r h w lo hi i (inl q) = inl (subst (λ k. Under e (v .a) (seg k)) (sym q) (head-under j l r h w lo))
+    cut-passes (j ∷ l) r h w lo hi i (inl q) = inl (subst (λ k. LiesUnder e (v .a) (seg k)) (sym q) (head-under j l r h w lo))
     cut-passes (j ∷ l) r h w lo hi i (inr m) = cut-passes l r (h .1) (λ k n. w k (inr n)) (rest l lo) hi i m
       where
-        rest : (l : List A) → OfLast (λ i. Under e (v .a) (seg i)) (j ∷ l) → OfLast (λ i. Under e (v .a) (seg i)) l
+        rest : (l : List A) → OfLast (λ i. LiesUnder e (v .a) (seg i)) (j ∷ l) → OfLast (λ i. LiesUnder e (v .a) (seg i)) l
         rest [] k = tt
         rest (i ∷ l) k = k
 
 -- the same of a cut by its place
 pub cut-all : (e : Segment → Point) → ((s : Segment) → (e s ≡ s .a) ⊎ (e s ≡ s .b)) → {A : Type 0} (seg : A → Segment) (z : A) {v : Segment} → Upright v → (l : List A)
-    → Pairs (λ i j. At e (v .a .x) (seg i) (seg j)) l → ((i : A) → i ∈ l → Wide (seg i)) → Cut e seg z v l → (i : A) → i ∈ l → Passes e v (seg i)
+    → Pairs (λ i j. OrderAt e (v .a .x) (seg i) (seg j)) l → ((i : A) → i ∈ l → Wide (seg i)) → Cut e seg z v l → (i : A) → i ∈ l → Passes e v (seg i)
 cut-all e is {A} seg z {v} u l r w c =
-    subst (λ (l : List A). Pairs (λ i j. At e (v .a .x) (seg i) (seg j)) l → ((i : A) → i ∈ l → Wide (seg i)) → (i : A) → i ∈ l → Passes e v (seg i)) (take-append-drop (c .place) l)
-    (λ r w. cut-passes e is seg u (take (c .place) l) (drop (c .place) l) r w (last-take (λ i. Under e (v .a) (seg i)) z l (c .place) (c .inside) (c .below)) (first-drop (λ i. Above e (v .b) (seg i)) z l (c .place) (c .above))) r w
+    subst (λ (l : List A). Pairs (λ i j. OrderAt e (v .a .x) (seg i) (seg j)) l → ((i : A) → i ∈ l → Wide (seg i)) → (i : A) → i ∈ l → Passes e v (seg i)) (take-append-drop (c .place) l)
+    (λ r w. cut-passes e is seg u (take (c .place) l) (drop (c .place) l) r w (last-take (λ i. LiesUnder e (v .a) (seg i)) z l (c .place) (c .till) (c .below)) (first-drop (λ i. LiesAbove e (v .b) (seg i)) z l (c .place) (c .above))) r w

@@ -17,7 +17,7 @@ use Rattle.geom.proofs.Points.{eq-eqZ, eq-eqP, eqP-true, Before, before, point}
 use Rattle.segm.specs.declared.Segment.{Segment}
 use Rattle.segm.specs.Segments.{Drawing, segmentAt, nowhere}
 use Rattle.lists.proofs.Members.{pairs-places, in-after}
-use Rattle.meetings.specs.Meetings.{side, parts, inside, sameEnds, meetsWrongly, NoneMeetWrongly}
+use Rattle.meetings.specs.Meetings.{side, parts, inInterior, sameEnds, meetsWrongly, NoneMeetWrongly}
 use Rattle.strip.specs.Strip.{reach, gap, under, falls}
 use Rattle.strip.proofs.Strip.Signs.{Sign, minus, nil, plus, sign, up-pos, up-neg, down-pos, down-neg, down-nil, neg-pos, neg-neg, neg-nil, diff-nil, join-both, join-l, join-r, join-nil, falls-minus, falls-plus, falls-nil, falls-true, falls-by, Falls, now, next}
 use Rattle.strip.proofs.Strip.Gap.{slope, gap-at-a, gap-at-b, gap-turn, gap-rate, gap-trans, gap-self, slope-turn, side-at-a, side-at-b, side-up, side-vertical}
@@ -35,8 +35,8 @@ pub record Apart (s t : Segment) : Type 0 where
   pub on-b : side s (t .b) ≡ pos 0 → Between s (t .b) → ⊥
   pub same : s .a ≡ t .a → s .b ≡ t .b → ⊥
 
-pub turned : {s t : Segment} → Apart s t → Apart t s
-turned k = record {
+pub apart-sym : {s t : Segment} → Apart s t → Apart t s
+apart-sym k = record {
   rising = λ p q r u. k .falling r u p q;
   falling = λ p q r u. k .rising r u p q;
   a-on = k .on-a;
@@ -54,16 +54,16 @@ parts-down : (s t : Segment) → pos 0 <ℤ side s (t .a) → side s (t .b) <ℤ
 unfolding parts
 parts-down s t h k = or-r (ltZ (side s (t .a)) (pos 0) && ltZ (pos 0) (side s (t .b))) (both (lt-ltZ h) (lt-ltZ k))
 
-inside-by : (s : Segment) (p : Point) → side s p ≡ pos 0 → Between s p → inside s p ≡ true
-unfolding inside between side
-inside-by s p e h = both (eq-eqZ e) (both (before (h .0)) (before (h .1)))
+in-interior-by : (s : Segment) (p : Point) → side s p ≡ pos 0 → Between s p → inInterior s p ≡ true
+unfolding inInterior between side
+in-interior-by s p e h = both (eq-eqZ e) (both (before (h .0)) (before (h .1)))
 
 pub apart : {s t : Segment} → meetsWrongly s t ≡ false → Apart s t
 unfolding meetsWrongly sameEnds
 apart {s} {t} e =
     let c = parts s t && parts t s in
-    let i = inside s (t .a) || inside s (t .b) in
-    let k = inside t (s .a) || inside t (s .b) in
+    let i = inInterior s (t .a) || inInterior s (t .b) in
+    let k = inInterior t (s .a) || inInterior t (s .b) in
     let m = eqP (s .a) (t .a) && eqP (s .b) (t .b) in
     let e₀ = nor-l c (i || (k || m)) e in
     let e₁ = nor-r c (i || (k || m)) e in
@@ -74,10 +74,10 @@ apart {s} {t} e =
     record {
       rising = λ p q r u. clash (both (parts-down s t r u) (parts-up t s p q)) e₀;
       falling = λ p q r u. clash (both (parts-up s t r u) (parts-down t s p q)) e₀;
-      a-on = λ z h. clash (inside-by t (s .a) z h) (nor-l (inside t (s .a)) (inside t (s .b)) e₄);
-      b-on = λ z h. clash (inside-by t (s .b) z h) (nor-r (inside t (s .a)) (inside t (s .b)) e₄);
-      on-a = λ z h. clash (inside-by s (t .a) z h) (nor-l (inside s (t .a)) (inside s (t .b)) e₂);
-      on-b = λ z h. clash (inside-by s (t .b) z h) (nor-r (inside s (t .a)) (inside s (t .b)) e₂);
+      a-on = λ z h. clash (in-interior-by t (s .a) z h) (nor-l (inInterior t (s .a)) (inInterior t (s .b)) e₄);
+      b-on = λ z h. clash (in-interior-by t (s .b) z h) (nor-r (inInterior t (s .a)) (inInterior t (s .b)) e₄);
+      on-a = λ z h. clash (in-interior-by s (t .a) z h) (nor-l (inInterior s (t .a)) (inInterior s (t .b)) e₂);
+      on-b = λ z h. clash (in-interior-by s (t .b) z h) (nor-r (inInterior s (t .a)) (inInterior s (t .b)) e₂);
       same = λ p q. clash (both (eq-eqP p) (eq-eqP q)) e₅;
     }
 
@@ -134,9 +134,9 @@ module _ {j h : Segment} (ap : Apart j h) (wj : Wide j) (wh : Wide h) where
       through (omega (ints, of-pos 0)) (omega (ints, of-pos 0)) (omega (ints, of-pos 0)) (omega (ints, of-pos 0))
 
 pub no-fall : {j h : Segment} → Apart j h → Wide j → Wide h → (x y : ℤ) → x <ℤ y → j .a .x ≤ℤ x → h .a .x ≤ℤ x → y ≤ℤ j .b .x → y ≤ℤ h .b .x → pos 0 <ℤ gap j h x → gap j h y <ℤ pos 0 → ⊥
-no-fall {j} {h} k wj wh x y l ja ha jb hb p q = no-rise (turned k) wh wj x y l ha ja hb jb (neg-neg (gap-turn j h x) p) (neg-pos (gap-turn j h y) q)
+no-fall {j} {h} k wj wh x y l ja ha jb hb p q = no-rise (apart-sym k) wh wj x y l ha ja hb jb (neg-neg (gap-turn j h x) p) (neg-pos (gap-turn j h y) q)
 
--- ---- no meeting strictly inside
+-- ---- no meeting in the interior
 module _ {j h : Segment} (k : Apart j h) (wj : Wide j) (wh : Wide h) where
   -- on one line, and overlapping
   pub not-in-line : ((x : ℤ) → gap j h x ≡ pos 0) → j .a .x <ℤ h .b .x → h .a .x <ℤ j .b .x → ⊥
@@ -189,7 +189,7 @@ not-met {j} {h} k wj wh x ha hb ja jb z = go (order (j .a .x) x) (order x (j .b 
         let e : x ≡ j .b .x = omega ints in
         k .b-on (down-nil (wide wj) (gap-at-b j h) (subst (λ y. gap j h y ≡ pos 0) e z)) (inl (omega ints), inl (omega ints))
     go (inl l) (inl m) (plus n) = not-through k wj wh x z n l ha m hb
-    go (inl l) (inl m) (minus n) = not-through (turned k) wh wj x (neg-nil (gap-turn j h x) z) (neg-pos (slope-turn j h) n) ha l hb m
+    go (inl l) (inl m) (minus n) = not-through (apart-sym k) wh wj x (neg-nil (gap-turn j h x) z) (neg-pos (slope-turn j h) n) ha l hb m
     go (inl l) (inl m) (nil n) = not-in-line k wj wh (λ y. gap-flat j h y x n ∙ z) (omega ints) (omega ints)
 
 -- ---- the order just right of x
@@ -341,4 +341,4 @@ places-apart d p i j h k ne = go (decLt i j)
 
     go : Dec (i < j) → Apart (segmentAt d i) (segmentAt d j)
     go (yes l) = later i j l k
-    go (no l) = turned (later j i (omega (arith, ne)) h)
+    go (no l) = apart-sym (later j i (omega (arith, ne)) h)

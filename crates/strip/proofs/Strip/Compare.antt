@@ -14,7 +14,7 @@ use Rattle.meetings.specs.Meetings.{side}
 use Rattle.strip.specs.Strip.{gap, above, under, clockwise, underBySide}
 use Rattle.strip.proofs.Strip.Signs.{Sign, minus, nil, plus, sign, up-pos, up-neg, up-nil, down-nil, neg-pos, neg-neg, neg-nil, same-sign, falls-nil}
 use Rattle.strip.proofs.Strip.Gap.{gap-at-a, gap-turn, side-own-a, side-start}
-use Rattle.strip.proofs.Strip.Apart.{Apart, turned, Wide, wide, Over, over-wide, no-rise, no-fall, not-met, under-left, under-total}
+use Rattle.strip.proofs.Strip.Apart.{Apart, apart-sym, Wide, wide, Over, over-wide, no-rise, no-fall, not-met, under-left, under-total}
 use Rattle.strip.proofs.Strip.Above.{above-on, above-off, above-yes, above-own-b, start-on, start-turn}
 
 -- ---- the cases of the order by sides
@@ -77,12 +77,12 @@ module _ {j h : Segment} (k : Apart j h) {x : ℤ} (oj : Over x j) (oh : Over x 
   later-j b = under-at (j .a .x) (≤ℤ-refl (j .a .x)) (before-le b) (oj .from) (λ z. ne (down-nil (wide wj) (gap-at-a j h) z)) ∙ same-sign (side h (j .a)) (wide wj) (gap-at-a j h)
     where
       ne : side h (j .a) ≡ pos 0 → ⊥
-      ne z = before-irrefl (subst (λ (p : Point). Before p (j .a)) (start-on (turned k) (record { from = before-le b; to = let l = oj .from in let m = oh .to in omega ints }) z) b)
+      ne z = before-irrefl (subst (λ (p : Point). Before p (j .a)) (start-on (apart-sym k) (record { from = before-le b; to = let l = oj .from in let m = oh .to in omega ints }) z) b)
 
   -- they start together
-  pub together : j .a ≡ h .a → under x j h ≡ clockwise j h
+  pub starts-together : j .a ≡ h .a → under x j h ≡ clockwise j h
   unfolding under
-  together e = go (order (h .a .x) x)
+  starts-together e = go (order (h .a .x) x)
     where
       oj′ : Over (h .a .x) j
       oj′ = record { from = subst (λ (p : Point). j .a .x ≤ℤ p .x) e (≤ℤ-refl (j .a .x)); to = let l = oh .from in let m = oj .to in omega ints }
@@ -110,7 +110,7 @@ module _ {j h : Segment} (k : Apart j h) {x : ℤ} (oj : Over x j) (oh : Over x 
       go : Before (j .a) (h .a) ⊎ (Before (h .a) (j .a) ⊎ (j .a ≡ h .a)) → under x j h ≡ underBySide j h
       go (inl b) = later-h b ∙ sym (by-side-later-h j h b)
       go (inr (inl b)) = later-j b ∙ sym (by-side-later-j j h b)
-      go (inr (inr e)) = together e ∙ sym (by-side-together j h e)
+      go (inr (inr e)) = starts-together e ∙ sym (by-side-together j h e)
 
 pub by-side-irrefl : (s : Segment) → underBySide s s ≡ false
 unfolding underBySide clockwise
@@ -128,4 +128,4 @@ by-side-asym s t u = go (compare (s .a) (t .a))
 
 -- of two that span a strip, where the one is not lower the other is
 pub by-side-total : {s t : Segment} {x : ℤ} → Apart s t → Over x s → Over x t → underBySide s t ≡ false → underBySide t s ≡ true
-by-side-total k os ot e = ⊎-elim (λ u. absurd (clash (sym (under-by-side k os ot) ∙ u) e)) (λ u. sym (under-by-side (turned k) ot os) ∙ u) (under-total k os ot)
+by-side-total k os ot e = ⊎-elim (λ u. absurd (clash (sym (under-by-side k os ot) ∙ u) e)) (λ u. sym (under-by-side (apart-sym k) ot os) ∙ u) (under-total k os ot)

@@ -11,27 +11,27 @@ use Rattle.geom.specs.declared.Point.{Point}
 use Rattle.geom.proofs.Points.{Before}
 use Rattle.segm.specs.declared.Segment.{Segment}
 use Rattle.meetings.specs.Meetings.{side}
-use Rattle.strip.specs.Strip.{gap, under, Next}
+use Rattle.strip.specs.Strip.{gap, under, LowerNeighbour}
 use Rattle.strip.proofs.Strip.Signs.{Sign, minus, nil, plus, sign, Falls, now, next, falls-true, up-pos, up-neg, up-nil, down-nil, neg-pos, neg-neg, neg-nil, diff-nil, join-both, join-l, join-r, join-nil}
 use Rattle.strip.proofs.Strip.Gap.{slope, gap-at-a, gap-at-b, gap-turn, gap-rate, gap-trans, side-at-a, side-at-b, side-own-a, side-own-b}
-use Rattle.strip.proofs.Strip.Apart.{Between, Apart, apart, turned, Wide, wide, Over, over-wide, slope-pos, gap-rises, gap-flat, not-met, strip-rise, under-le, under-trans}
+use Rattle.strip.proofs.Strip.Apart.{Between, Apart, apart, apart-sym, Wide, wide, Over, over-wide, slope-pos, gap-rises, gap-flat, not-met, strip-rise, under-le, under-trans}
 use Rattle.strip.proofs.Strip.Compare.{under-by-side}
 
 -- ---- the order at y: s is not higher than t there, and where they meet there the ends `e` of both are there
-pub record At (e : Segment → Point) (y : ℤ) (s t : Segment) : Type 0 where
+pub record OrderAt (e : Segment → Point) (y : ℤ) (s t : Segment) : Type 0 where
   pub low : gap s t y ≤ℤ pos 0
   pub level : gap s t y ≡ pos 0 → (e s .x ≡ y) × (e t .x ≡ y)
 
-at-strict : {e : Segment → Point} {y : ℤ} {s t : Segment} → gap s t y <ℤ pos 0 → At e y s t
-at-strict h = record { low = lt-le h; level = λ z. absurd (omega ints) }
+order-at-strict : {e : Segment → Point} {y : ℤ} {s t : Segment} → gap s t y <ℤ pos 0 → OrderAt e y s t
+order-at-strict h = record { low = lt-le h; level = λ z. absurd (omega ints) }
 
-pub at-trans : {e : Segment → Point} {y : ℤ} {s t u : Segment} → Wide s → Wide t → Wide u → At e y s t → At e y t u → At e y s u
-at-trans {e} {y} {s} {t} {u} ws wt wu p q = go (sign (gap s t y)) (sign (gap t u y))
+pub order-at-trans : {e : Segment → Point} {y : ℤ} {s t u : Segment} → Wide s → Wide t → Wide u → OrderAt e y s t → OrderAt e y t u → OrderAt e y s u
+order-at-trans {e} {y} {s} {t} {u} ws wt wu p q = go (sign (gap s t y)) (sign (gap t u y))
   where
-    go : Sign (gap s t y) → Sign (gap t u y) → At e y s u
-    go (minus m) (minus n) = at-strict (join-both (wide wt) (wide wu) (wide ws) (gap-trans s t u y) m n)
-    go (minus m) (nil n) = at-strict (join-l (wide wt) (wide wu) (wide ws) (gap-trans s t u y) m n)
-    go (nil m) (minus n) = at-strict (join-r (wide wt) (wide wu) (wide ws) (gap-trans s t u y) m n)
+    go : Sign (gap s t y) → Sign (gap t u y) → OrderAt e y s u
+    go (minus m) (minus n) = order-at-strict (join-both (wide wt) (wide wu) (wide ws) (gap-trans s t u y) m n)
+    go (minus m) (nil n) = order-at-strict (join-l (wide wt) (wide wu) (wide ws) (gap-trans s t u y) m n)
+    go (nil m) (minus n) = order-at-strict (join-r (wide wt) (wide wu) (wide ws) (gap-trans s t u y) m n)
     go (nil m) (nil n) =
         let z = join-nil (wide wt) (wide wu) (wide ws) (gap-trans s t u y) m n in
         record { low = omega ints; level = λ _. (p .level m .0, q .level n .1) }
@@ -41,14 +41,14 @@ at-trans {e} {y} {s} {t} {u} ws wt wu p q = go (sign (gap s t y)) (sign (gap t u
 
 -- s lies under t all through strip x: they meet at its edges only, and only with starts at the left and ends at the right
 pub record Tier (x : ℤ) (s t : Segment) : Type 0 where
-  pub left : At (λ i. i .a) x s t
-  pub right : At (λ i. i .b) (x +ℤ pos 1) s t
+  pub left : OrderAt (λ i. i .a) x s t
+  pub right : OrderAt (λ i. i .b) (x +ℤ pos 1) s t
   pub lower : under x s t ≡ true
 
 pub tier-trans : {x : ℤ} {s t u : Segment} → Wide s → Wide t → Wide u → Tier x s t → Tier x t u → Tier x s u
 tier-trans {x} ws wt wu p q = record {
-  left = at-trans ws wt wu (p .left) (q .left);
-  right = at-trans ws wt wu (p .right) (q .right);
+  left = order-at-trans ws wt wu (p .left) (q .left);
+  right = order-at-trans ws wt wu (p .right) (q .right);
   lower = under-trans x ws wt wu (p .lower) (q .lower);
 }
 
@@ -70,19 +70,19 @@ module _ {s t : Segment} (k : Apart s t) {x : ℤ} (os : Over x s) (ot : Over x 
       go (inl l) = absurd (not-met k (over-wide os) (over-wide ot) (x +ℤ pos 1) (f .0) l (f .1) (f .2) z)
       go (inr l) = let g = f .3 in omega ints
 
-  pub tier-next : under x s t ≡ true → Tier x s t
+  pub under-tier : under x s t ≡ true → Tier x s t
   unfolding under
-  tier-next u = record {
+  under-tier u = record {
     left = record { low = under-le s t x u; level = λ z. (met-a′ (neg-nil (gap-turn s t x) z), met-a z) };
     right = record { low = low (falls-true (gap s t x) (gap s t (x +ℤ pos 1)) u) (order (pos 0) (gap s t (x +ℤ pos 1))); level = λ z. (met-b′ (neg-nil (gap-turn s t (x +ℤ pos 1)) z), met-b z) };
     lower = u;
   }
     where
       met-a′ : gap t s x ≡ pos 0 → s .a .x ≡ x
-      met-a′ = Rattle.strip.proofs.Strip.Tiers.met-a (turned k) ot os
+      met-a′ = Rattle.strip.proofs.Strip.Tiers.met-a (apart-sym k) ot os
 
       met-b′ : gap t s (x +ℤ pos 1) ≡ pos 0 → s .b .x ≡ x +ℤ pos 1
-      met-b′ = Rattle.strip.proofs.Strip.Tiers.met-b (turned k) ot os
+      met-b′ = Rattle.strip.proofs.Strip.Tiers.met-b (apart-sym k) ot os
 
       low : Falls (gap s t x) (gap s t (x +ℤ pos 1)) → (pos 0 <ℤ gap s t (x +ℤ pos 1)) ⊎ (gap s t (x +ℤ pos 1) ≤ℤ pos 0) → gap s t (x +ℤ pos 1) ≤ℤ pos 0
       low (now m) (inl n) = absurd (strip-rise k os ot m n)
@@ -91,15 +91,15 @@ module _ {s t : Segment} (k : Apart s t) {x : ℤ} (os : Over x s) (ot : Over x 
       low (next m m′) (inr n) = n
 
 -- the test of neighbours says how they lie in every strip that both span
-pub next-tier : {s t : Segment} → Next s t → {x : ℤ} → Over x s → Over x t → Tier x s t
-next-tier n os ot = tier-next (apart (n .clear)) os ot (under-by-side (apart (n .clear)) os ot ∙ n .lower)
+pub neighbour-tier : {s t : Segment} → LowerNeighbour s t → {x : ℤ} → Over x s → Over x t → Tier x s t
+neighbour-tier n os ot = under-tier (apart (n .clear)) os ot (under-by-side (apart (n .clear)) os ot ∙ n .lower)
 
 -- ---- ordered in every common strip
-abbrev pub Ordered : Segment → Segment → Type 0
-Ordered s t = (x : ℤ) → Over x s → Over x t → Tier x s t ⊎ Tier x t s
+abbrev pub OrderedInStrips : Segment → Segment → Type 0
+OrderedInStrips s t = (x : ℤ) → Over x s → Over x t → Tier x s t ⊎ Tier x t s
 
-pub ordered-turned : {s t : Segment} → Ordered s t → Ordered t s
-ordered-turned h x ot os = ⊎-elim inr inl (h x os ot)
+pub ordered-sym : {s t : Segment} → OrderedInStrips s t → OrderedInStrips t s
+ordered-sym h x ot os = ⊎-elim inr inl (h x os ot)
 
 -- a point of t's line between its ends is not straight over one of them
 within : {t : Segment} {p : Point} → Wide t → side t p ≡ pos 0 → Between t p → (t .a .x <ℤ p .x) × (p .x <ℤ t .b .x)
@@ -113,7 +113,7 @@ within {t} {p} w z h = (go-a (h .0), go-b (h .1))
     go-b (inl l) = l
     go-b (inr l) = absurd (let e = diff-nil (p .y) (t .b .y) (down-nil (wide w) (side-at-b t p (l .0)) z) in omega ints)
 
-module _ {s t : Segment} (h : Ordered s t) (ws : Wide s) (wt : Wide t) where
+module _ {s t : Segment} (h : OrderedInStrips s t) (ws : Wide s) (wt : Wide t) where
   level-a : (x : ℤ) → Over x s → Over x t → gap s t x ≡ pos 0 → t .a .x ≡ x
   level-a x os ot z = ⊎-elim (λ p. p .left .level z .1) (λ p. p .left .level (neg-nil (gap-turn s t x) z) .0) (h x os ot)
 
@@ -226,9 +226,9 @@ module _ {s t : Segment} (h : Ordered s t) (ws : Wide s) (wt : Wide t) where
       go (inr l) = from (s .a .x) (record { from = ≤ℤ-refl (s .a .x); to = ws .goes }) (record { from = l; to = less (s .a .x) (t .b .x) sa tb (order (s .a .x) (t .b .x)) }) sa
 
 -- THEOREM, for one pair
-pub ordered-apart : {s t : Segment} → Wide s → Wide t → Ordered s t → Apart s t
+pub ordered-apart : {s t : Segment} → Wide s → Wide t → OrderedInStrips s t → Apart s t
 ordered-apart ws wt h =
-    let g = ordered-turned h in
+    let g = ordered-sym h in
     record {
       rising = rising-free h ws wt;
       falling = λ p q r u. rising-free g wt ws r u p q;

@@ -14,7 +14,7 @@ use Rattle.meetings.specs.Meetings.{side}
 use Rattle.strip.specs.Strip.{above}
 use Rattle.strip.proofs.Strip.Apart.{Apart, Wide}
 use Rattle.strip.proofs.Strip.Above.{above-on, above-yes, above-no}
-use Rattle.strip.specs.Neighbours.{Under, Above}
+use Rattle.strip.specs.Neighbours.{LiesUnder, LiesAbove}
 use Rattle.strip.proofs.Neighbours.Upright.{Upright}
 use Rattle.strip.proofs.Neighbours.Passes.{Inner, inner-a, foot-over, head-under}
 use Rattle.verticals.specs.Verticals.{liesUnder, liesAbove, ClearOf}
@@ -33,10 +33,10 @@ clear-of-starting {v} {s} u k from to = record {
     inner : Inner (v .a .x) s
     inner = inner-a s from to
 
-    go-under : Under (λ t. t .a) (v .a) s → liesUnder (v .a) s ≡ true
+    go-under : LiesUnder (λ t. t .a) (v .a) s → liesUnder (v .a) s ≡ true
     go-under (inl h) = or-l (eqP (s .a) (v .a)) (above-on s (v .a) h)
     go-under (inr e) = or-r (above s (v .a)) (eq-eqP e)
 
-    go-over : Above (λ t. t .a) (v .b) s → liesAbove (v .b) s ≡ true
+    go-over : LiesAbove (λ t. t .a) (v .b) s → liesAbove (v .b) s ≡ true
     go-over (inl h) = or-l (eqP (s .a) (v .b)) (lt-ltZ h)
     go-over (inr e) = or-r (ltZ (side s (v .b)) (pos 0)) (eq-eqP e)

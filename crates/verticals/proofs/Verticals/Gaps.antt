@@ -21,7 +21,7 @@ use Rattle.lists.proofs.Members.{in-at, in-take, cases}
 use Rattle.meetings.specs.Meetings.{side}
 use Rattle.strip.specs.Strip.{isVertical, above}
 use Rattle.strip.proofs.Strip.Above.{above-yes}
-use Rattle.strip.specs.Neighbours.{Under, Above}
+use Rattle.strip.specs.Neighbours.{LiesUnder, LiesAbove}
 use Rattle.count_up.specs.CountUp.{lastIn}
 use Rattle.count_up.proofs.CountUp.{last-cong}
 use Rattle.scan.specs.declared.Sought.the-variants.{At}
@@ -30,11 +30,11 @@ use Rattle.verticals.specs.Verticals.{liesUnder, liesAbove, CutAt, CutIn
 
 -- ---- the tests
 module _ (p : Point) (t : Segment) where
-  pub under-true : liesUnder p t ≡ true → Under (λ s. s .a) p t
+  pub under-true : liesUnder p t ≡ true → LiesUnder (λ s. s .a) p t
   unfolding liesUnder
   under-true e = cases (λ h. inl (above-yes t p h)) (λ h. inr (eqP-true h)) (one-of (above t p) (eqP (t .a) p) e)
 
-  pub above-true : liesAbove p t ≡ true → Above (λ s. s .a) p t
+  pub above-true : liesAbove p t ≡ true → LiesAbove (λ s. s .a) p t
   unfolding liesAbove
   above-true e = cases (λ h. inl (ltZ-true h)) (λ h. inr (eqP-true h)) (one-of (ltZ (side t p) (pos 0)) (eqP (t .a) p) e)
 
@@ -43,7 +43,7 @@ pub cut-in : (d : Drawing) (v : Segment) (l : List ℕ) (k : ℕ) → CutAt d v 
 cut-in d v l k c =
     record {
       place = k;
-      inside = c .inside;
+      till = c .till;
       below = λ j e.
           let last : k - 1 ≡ j = omega arith in
           under-true (v .a) (segmentAt d (getD l j 0)) (subst (λ (n : ℕ). liesUnder (v .a) (segmentAt d (getD l n 0)) ≡ true) last (c .under (omega arith)));
@@ -54,7 +54,7 @@ cut-in d v l k c =
 pub clear-cut : (d : Drawing) (v : Segment) (l : List ℕ) (k : ℕ) → Changes (belowAt d (At (v .b)) l) 0 (length l) k → ClearIn d v l → CutAt d v k l
 unfolding isBelow
 clear-cut d v l k c f = record {
-  inside = c .till;
+  till = c .till;
   under = λ h. f (getD l (k - 1) 0) (in-at l 0 (k - 1) (omega (arith, c .till))) .under (c .before h);
   over = λ h. f (getD l k 0) (in-at l 0 k h) .over (c .after h);
 }

@@ -2,7 +2,7 @@
 use borrow.Author.Needs.{needs}
 use mathlib.Core.Path.{refl}
 use Rattle.segm.specs.Segments.{segments}
-use Rattle.faults.proofs.Faultless.{proper-at}
+use Rattle.scan.proofs.Scan.{all-proper}
 use Rattle.verticals.proofs.Verticals.Gaps.{clear-cut}
 use Rattle.verticals.proofs.gap_of.Statement.{statement}
 use Rattle.verticals.proofs.gap_of.Tie as tie
@@ -14,7 +14,7 @@ returns : tie.Need-returns
 returns c = (λ _. c .before .is-cut .ensures .0 (c .if2 .taken), λ f. refl)
 
 place-of-requires : tie.Need-place-of-requires
-place-of-requires c κs = let p = c .before .before .before .pre in (λ i m. record { inside = p .2 i m; proper = proper-at (p .0) i (p .2 i m) }, p .1 .near-b)
+place-of-requires c κs = let s = c .before .before .before in (all-proper (s .pre .0) (s .args .list .now) (s .pre .2), s .pre .1 .near-b)
 
 is-cut-requires-2 : tie.Need-is-cut-requires-2
 is-cut-requires-2 c κs = let p = c .before .before .before .before .pre in (p .0, p .1, p .2, c .place-of .ensures .till)

@@ -7,12 +7,10 @@ use mathlib.Core.Logic.{⊎-elim}
 use mathlib.Core.Bool.{true, true≢false}
 use native.Mathlib.Omega.{arith}
 use Prim.Native.Nat.{ℕ, _-_, _<_}
-use lib.ListN.{length, getD}
+use lib.ListN.{getD}
 use Rattle.integers.proofs.Booleans.{clash}
 use Rattle.segm.specs.Segments.{Drawing, segments, segmentAt}
-use Rattle.lists.proofs.Members.{in-at}
-use Rattle.faults.proofs.Faultless.{proper-at}
-use Rattle.scan.specs.Scan.{Listed}
+use Rattle.scan.proofs.Scan.{proper-entry}
 use Rattle.verticals.specs.Verticals.{liesUnder}
 use Rattle.verticals.proofs.is_cut.Statement.{statement}
 use Rattle.verticals.proofs.is_cut.Tie as tie
@@ -27,9 +25,6 @@ module _ (c : tie.Start) where
   abbrev k : ℕ
   k = c .args .k
 
-  listed : (j : ℕ) → j < length l → Listed d (getD l j 0)
-  listed j h = let i = c .pre .2 (getD l j 0) (in-at l 0 j h) in record { inside = i; proper = proper-at (c .pre .0) (getD l j 0) i }
-
 sub-lies-under : tie.Need-sub-lies-under
 sub-lies-under c = search needs
 
@@ -40,7 +35,7 @@ shared-slice-read-lies-under : tie.Need-shared-slice-read-lies-under
 shared-slice-read-lies-under c = search needs
 
 lies-under-requires : tie.Need-lies-under-requires
-lies-under-requires c κs = let s = c .before .before .before .before .before in (listed s (k s - 1) (omega (arith, s .pre .3, c .before .if1 .taken)), s .pre .1 .near-a)
+lies-under-requires c κs = let s = c .before .before .before .before .before in (proper-entry (s .pre .0) (l s) (s .pre .2) (k s - 1) (omega (arith, s .pre .3, c .before .if1 .taken)), s .pre .1 .near-a)
 
 returns : tie.Need-returns
 returns c = (λ e. absurd (true≢false (sym e)), λ f. absurd (clash (c .before .lies-under .ensures ∙ f .under (omega arith)) (not-true _ (c .if2 .taken))))
@@ -52,17 +47,17 @@ shared-slice-read-lies-above : tie.Need-shared-slice-read-lies-above
 shared-slice-read-lies-above c = search needs
 
 lies-above-requires : tie.Need-lies-above-requires
-lies-above-requires c κs = let s = c .before .before .before .before .before .before in (listed s (k s) (c .before .if3 .taken), s .pre .1 .near-b)
+lies-above-requires c κs = let s = c .before .before .before .before .before .before in (proper-entry (s .pre .0) (l s) (s .pre .2) (k s) (c .before .if3 .taken), s .pre .1 .near-b)
 
 -- the one before the place
 before-place : (c : tie.Joined1) → let s = c .before .before .before .before in 0 < k s → liesUnder (s .args .v .a) (segmentAt (d s) (getD (l s) (k s - 1) 0)) ≡ true
 before-place c h = ⊎-elim (λ w. sym (w .2 .ensures) ∙ not-false _ (w .3 .left)) (λ w. absurd (omega (arith, w .left, h))) (c .if1 .came)
 
 returns-2 : tie.Need-returns-2
-returns-2 c = (λ e. record { inside = c .before .before .before .before .before .before .before .pre .3; under = before-place (c .before .before .before); over = λ _. sym (c .lies-above .ensures) ∙ e }, λ f. c .lies-above .ensures ∙ f .over (omega arith))
+returns-2 c = (λ e. record { till = c .before .before .before .before .before .before .before .pre .3; under = before-place (c .before .before .before); over = λ _. sym (c .lies-above .ensures) ∙ e }, λ f. c .lies-above .ensures ∙ f .over (omega arith))
 
 returns-3 : tie.Need-returns-3
-returns-3 c = (λ _. record { inside = c .before .before .before .before .before .pre .3; under = before-place (c .before); over = λ h. absurd (omega (arith, c .if3 .left, h)) }, λ f. refl)
+returns-3 c = (λ _. record { till = c .before .before .before .before .before .pre .3; under = before-place (c .before); over = λ h. absurd (omega (arith, c .if3 .left, h)) }, λ f. refl)
 
 pub is-cut-spec : {M : Type 1} → statement M
 is-cut-spec =

@@ -16,7 +16,7 @@ use Rattle.segm.specs.Segments.{Drawing, segments, segmentAt}
 use Rattle.strip.specs.Strip.{isVertical}
 use Rattle.faults.specs.Faultless.{Faultless}
 use Rattle.faults.proofs.Faultless.{winding-at}
-use Rattle.count_up.specs.CountUp.{lastIn, Within}
+use Rattle.count_up.specs.CountUp.{lastIn, BoundedBy}
 use Rattle.count_up.proofs.CountUp.{last-within, set-within}
 use Rattle.verticals.specs.Verticals.{CutAt, AllStand, ClearIn}
 use Rattle.verticals.proofs.Verticals.Gaps.{stand-by, stand-on}
@@ -28,7 +28,7 @@ record Standing (d : Drawing) (from to i : ℕ) (l : List ℕ) (old tops : List 
   span : i - from ≤ to - from
   room : length tops ≡ length old
   stand : AllStand d from i l old tops
-  within : (b : ℕ) → Within b old → Within (b + 1000 * (i - from)) tops
+  within : (b : ℕ) → BoundedBy b old → BoundedBy (b + 1000 * (i - from)) tops
 
 module _ {d : Drawing} {from to i : ℕ} {l : List ℕ} {old tops : List ℤ} (a : Standing d from to i l old tops) (inside : i < to) where
   standing-by : isVertical (segmentAt d i) ≡ false → Standing d from to (i + 1) l old tops

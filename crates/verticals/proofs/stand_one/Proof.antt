@@ -26,7 +26,7 @@ slice-aggregate-count-below : tie.Need-slice-aggregate-count-below
 slice-aggregate-count-below c =
     let s = c .before .before .before .before in
     let gap = c .before .before .gap-of in
-    sym (length-take-le (gap .result .place) (s .args .list .now) (gap .ensures .0 (c .before .if1 .taken) .inside))
+    sym (length-take-le (gap .result .place) (s .args .list .now) (gap .ensures .0 (c .before .if1 .taken) .till))
 
 count-below-requires : tie.Need-count-below-requires
 count-below-requires c κs =

@@ -15,13 +15,13 @@ use Rattle.lists.specs.Members.{_∈_}
 use Rattle.lists.specs.UpFrom.{upFrom}
 use Rattle.lists.proofs.UpFrom.{in-upFrom, upFrom-in}
 use Rattle.meetings.specs.Meetings.{meetsWrongly}
-use Rattle.strip.specs.Strip.{Next}
+use Rattle.strip.specs.Strip.{LowerNeighbour}
 use Rattle.strip.proofs.Strip.Clear.{apart-clear}
 use Rattle.lists.specs.Chain.{Chain}
 use Rattle.strip.specs.Neighbours.{Passes}
-use Rattle.strip.proofs.Neighbours.Lists.{Holds, Quiet, holds-next}
+use Rattle.strip.proofs.Neighbours.Lists.{StripList, Quiet, strip-next}
 use Rattle.strip.proofs.Neighbours.Upright.{Upright}
-use Rattle.strip.proofs.Neighbours.Event.{Swept, quiet-by, swept-start, swept-next, swept-done}
+use Rattle.strip.proofs.Neighbours.Event.{SweptTo, quiet-by, swept-start, swept-next, swept-done}
 
 -- y is the next event: places k to k′ start there
 pub record Coming (seg : ℕ → Segment) (n : ℕ) (x y : ℤ) (k k′ : ℕ) (l : List ℕ) : Type 0 where
@@ -49,8 +49,8 @@ module _ (seg : ℕ → Segment) (n : ℕ) (proper : (i : ℕ) → i < n → Bef
   proper′ : (i : ℕ) → i ∈ upFrom 0 n → Before (seg i .a) (seg i .b)
   proper′ i m = proper i (placed i n m)
 
-  pub first-turn : {x : ℤ} → ((i : ℕ) → i < n → x <ℤ seg i .a .x) → Swept seg (upFrom 0 n) x []
-  first-turn f = swept-start seg (upFrom 0 n) proper′ (λ i m. f i (placed i n m))
+  pub first-event : {x : ℤ} → ((i : ℕ) → i < n → x <ℤ seg i .a .x) → SweptTo seg (upFrom 0 n) x []
+  first-event f = swept-start seg (upFrom 0 n) proper′ (λ i m. f i (placed i n m))
 
   module _ {x y : ℤ} {k k′ : ℕ} {l : List ℕ} (c : Coming seg n x y k k′ l) where
     -- before, at or after y
@@ -65,22 +65,22 @@ module _ (seg : ℕ → Segment) (n : ℕ) (proper : (i : ℕ) → i < n → Bef
     starts : (i : ℕ) → i ∈ upFrom 0 n → seg i .a .x ≡ y → (k ≤ i) × (i < k′)
     starts i m e = let t = c .later in ⊎-elim (λ a. absurd (omega ints)) (⊎-elim (λ a. a) (λ a. absurd (omega ints))) (when i (placed i n m))
 
-    pub turn-quiet : Holds seg (upFrom 0 n) x l → Quiet seg (upFrom 0 n) x y
-    turn-quiet h = quiet-by seg (upFrom 0 n) proper′ h (c .later) (λ i m. ⊎-elim inl (λ r. inr (⊎-elim (λ a. let e = c .here i (a .0) (a .1) in omega ints) (λ a. omega ints) r)) (when i (placed i n m))) (c .ends)
+    pub event-quiet : StripList seg (upFrom 0 n) x l → Quiet seg (upFrom 0 n) x y
+    event-quiet h = quiet-by seg (upFrom 0 n) proper′ h (c .later) (λ i m. ⊎-elim inl (λ r. inr (⊎-elim (λ a. let e = c .here i (a .0) (a .1) in omega ints) (λ a. omega ints) r)) (when i (placed i n m))) (c .ends)
 
-    pub turn-holds : {l′ : List ℕ} → Holds seg (upFrom 0 n) x l → Chain (λ i j. Next (seg i) (seg j)) l′
-        → ((i : ℕ) → i ∈ l′ → (y <ℤ seg i .b .x) × ((i ∈ l) ⊎ ((k ≤ i) × (i < k′)))) → ((i : ℕ) → y <ℤ seg i .b .x → (i ∈ l) ⊎ ((k ≤ i) × (i < k′)) → i ∈ l′) → Holds seg (upFrom 0 n) y l′
-    turn-holds h ch f g = holds-next seg (upFrom 0 n) (turn-quiet h) h (c .later) ch
+    pub event-list : {l′ : List ℕ} → StripList seg (upFrom 0 n) x l → Chain (λ i j. LowerNeighbour (seg i) (seg j)) l′
+        → ((i : ℕ) → i ∈ l′ → (y <ℤ seg i .b .x) × ((i ∈ l) ⊎ ((k ≤ i) × (i < k′)))) → ((i : ℕ) → y <ℤ seg i .b .x → (i ∈ l) ⊎ ((k ≤ i) × (i < k′)) → i ∈ l′) → StripList seg (upFrom 0 n) y l′
+    event-list h ch f g = strip-next seg (upFrom 0 n) (event-quiet h) h (c .later) ch
         (λ i m. let (t, o) = f i m in (t, ⊎-elim inl (λ a. inr (place-in i n (let b = a .1 in let e = c .fits in omega arith), c .here i (a .0) (a .1))) o))
         (λ i t o. g i t (⊎-elim inl (λ a. inr (starts i (a .0) (a .1))) o))
 
-    pub turn : {l′ : List ℕ} → Swept seg (upFrom 0 n) x l → Holds seg (upFrom 0 n) y l′ → Tested seg y k k′ l l′ → Swept seg (upFrom 0 n) y l′
-    turn s h t = swept-next seg (upFrom 0 n) proper′ s (c .later) (turn-quiet (s .holds)) h (λ v m u e. let (a, b) = starts v m e in record {
+    pub next-event : {l′ : List ℕ} → SweptTo seg (upFrom 0 n) x l → StripList seg (upFrom 0 n) y l′ → Tested seg y k k′ l l′ → SweptTo seg (upFrom 0 n) y l′
+    next-event s h t = swept-next seg (upFrom 0 n) proper′ s (c .later) (event-quiet (s .list)) h (λ v m u e. let (a, b) = starts v m e in record {
       ends = t .before v a b u;
       starts = t .after v a b u;
       stack = λ w o r f ne. let (a′, b′) = starts w o f in t .stack v w a b a′ b′ u r ne;
     })
 
   -- all has ended
-  pub last-turn : {x : ℤ} {l : List ℕ} → Swept seg (upFrom 0 n) x l → ((i : ℕ) → i < n → seg i .b .x ≤ℤ x) → (i j : ℕ) → i < n → j < n → (i ≡ j → ⊥) → meetsWrongly (seg i) (seg j) ≡ false
-  last-turn s f i j a b ne = apart-clear (swept-done seg (upFrom 0 n) proper′ s (λ i m. f i (placed i n m)) i j (place-in i n a) (place-in j n b) ne)
+  pub last-event : {x : ℤ} {l : List ℕ} → SweptTo seg (upFrom 0 n) x l → ((i : ℕ) → i < n → seg i .b .x ≤ℤ x) → (i j : ℕ) → i < n → j < n → (i ≡ j → ⊥) → meetsWrongly (seg i) (seg j) ≡ false
+  last-event s f i j a b ne = apart-clear (swept-done seg (upFrom 0 n) proper′ s (λ i m. f i (placed i n m)) i j (place-in i n a) (place-in j n b) ne)

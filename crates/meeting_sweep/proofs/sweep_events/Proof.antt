@@ -9,28 +9,28 @@ use lib.ListN.{length, take}
 use lib.IntN.{ℤ}
 use Rattle.integers.proofs.Booleans.{clash}
 use Rattle.segm.specs.Segments.{Drawing, segments}
-use Rattle.count_up.specs.CountUp.{Counts, Tops, Within}
+use Rattle.count_up.specs.CountUp.{Counts, Tops, BoundedBy}
 use Rattle.graph.proofs.Flat.{Ordered, ordered}
 use Rattle.meeting_sweep.proofs.Events.Runs.{past-further}
-use Rattle.meeting_sweep.proofs.Events.Sweeping.{Along, along-first, along-next, along-known, along-distinct, along-last, all-started, column, left-held, splits-before, splits-after, coming}
+use Rattle.meeting_sweep.proofs.Events.Sweeping.{Progress, progress-first, progress-next, progress-places, progress-distinct, progress-last, all-started, column, left-open, splits-before, splits-after, coming}
 use Rattle.meeting_sweep.proofs.Events.ClearEvent.{clear-event}
-use Rattle.meeting_sweep.proofs.sweep.Statement.{statement}
-use Rattle.meeting_sweep.proofs.sweep.Tie as tie
+use Rattle.meeting_sweep.proofs.sweep_events.Statement.{statement}
+use Rattle.meeting_sweep.proofs.sweep_events.Tie as tie
 
-record Sweeping (d : Drawing) (flat old list : List ℕ) (oldTops tops : List ℤ) (passed started count : ℕ) : Type 0 where
+record SweepInv (d : Drawing) (flat old list : List ℕ) (oldTops tops : List ℤ) (passed started used : ℕ) : Type 0 where
   room : length list ≡ length old
   room-tops : length tops ≡ length oldTops
   within : started ≤ length d
-  few : count ≤ started
-  along : Along d flat passed started (take count list)
-  small : Within (2048000 * started) tops
+  few : used ≤ started
+  progress : Progress d flat passed started (take used list)
+  small : BoundedBy (2048000 * started) tops
   counted : (counts : ℕ → ℤ) → Counts d counts → Tops counts started tops
 
 abbrev Inv-loop : tie.InvT-loop
-Inv-loop s flat list₀ tops₀ passed₀ started₀ count₀ near₀ list tops passed started count near = Sweeping (segments s) flat list₀ list tops₀ tops passed started count
+Inv-loop s flat list₀ tops₀ passed₀ started₀ used₀ near₀ list tops passed started used near = SweepInv (segments s) flat list₀ list tops₀ tops passed started used
 
 abbrev μ-loop : tie.MeasureT-loop
-μ-loop s flat list₀ tops₀ passed₀ started₀ count₀ near₀ list tops passed started count near = length flat - passed
+μ-loop s flat list₀ tops₀ passed₀ started₀ used₀ near₀ list tops passed started used near = length flat - passed
 
 -- the ordered ends
 ends : (s : tie.Start Inv-loop μ-loop) → Ordered (segments (s .args .s .now)) (s .args .flat .now)
@@ -39,7 +39,7 @@ ends s = ordered (segments (s .args .s .now)) (s .pre .1)
 loop-holds : tie.Need-loop-holds Inv-loop μ-loop
 loop-holds c =
     let s = c .before .before in
-    record { room = refl; room-tops = refl; within = omega arith; few = omega arith; along = along-first (segments (s .args .s .now)) (s .args .flat .now) (s .pre .0) (ends s); small = s .pre .4; counted = λ counts c i u. absurd (omega arith) }
+    record { room = refl; room-tops = refl; within = omega arith; few = omega arith; progress = progress-first (segments (s .args .s .now)) (s .args .flat .now) (s .pre .0) (ends s); small = s .pre .4; counted = λ counts c i u. absurd (omega arith) }
 
 ends-past-requires : tie.Need-ends-past-requires Inv-loop μ-loop
 ends-past-requires c κs = search needs
@@ -78,17 +78,17 @@ event-requires c κs =
     let starts = c .before .before .before .starts-past .ensures in
     let more = c .before .before .before .before .before .before .loop-test .taken in (
       s .pre .0,
-      column d flat (s .pre .0) (ends s) (l .inv .along) more past starts,
+      column d flat (s .pre .0) (ends s) (l .inv .progress) more past starts,
       starts .from,
       starts .till,
       l .inv .few,
       omega (arith, l .inv .room, s .pre .2),
       omega (arith, l .inv .room-tops, s .pre .3),
-      along-known d flat (s .pre .0) (ends s) (l .inv .along),
-      l .inv .along .swept .holds .chain,
-      along-distinct d flat (s .pre .0) (ends s) (l .inv .along),
-      splits-before d flat (s .pre .0) (ends s) (l .inv .along) more past starts,
-      splits-after d flat (s .pre .0) (ends s) (l .inv .along) more past starts,
+      progress-places d flat (s .pre .0) (ends s) (l .inv .progress),
+      l .inv .progress .swept .list .chain,
+      progress-distinct d flat (s .pre .0) (ends s) (l .inv .progress),
+      splits-before d flat (s .pre .0) (ends s) (l .inv .progress) more past starts,
+      splits-after d flat (s .pre .0) (ends s) (l .inv .progress) more past starts,
       l .inv .small,
     )
 
@@ -104,7 +104,7 @@ returns c =
     let s = c .before .before .before .before .before .before .before .before .before .before .before .before .before .before .before .before in
     let past = c .before .before .before .before .before .before .before .before .before .before .before .ends-past .ensures in
     let starts = c .before .before .before .before .before .before .before .before .before .starts-past .ensures in
-    ((λ t. absurd (clash t refl), λ apart. absurd (clash (c .before .before .before .before .before .event .ensures .1 (clear-event (segments (s .args .s .now)) (s .args .flat .now) (s .pre .0) (ends s) apart (l .inv .along) (c .before .before .before .before .before .before .before .before .before .before .before .before .loop-test .taken) past starts)) (not-true _ (c .if1 .taken)))), λ t. absurd (clash t refl))
+    ((λ t. absurd (clash t refl), λ apart. absurd (clash (c .before .before .before .before .before .event .ensures .1 (clear-event (segments (s .args .s .now)) (s .args .flat .now) (s .pre .0) (ends s) apart (l .inv .progress) (c .before .before .before .before .before .before .before .before .before .before .before .before .loop-test .taken) past starts)) (not-true _ (c .if1 .taken)))), λ t. absurd (clash t refl))
 
 loop-less : tie.Need-loop-less Inv-loop μ-loop
 loop-less c =
@@ -122,15 +122,15 @@ loop-again c =
     let starts = c .before .before .before .before .before .before .before .before .before .starts-past .ensures in
     let one = c .before .before .before .before .before .event in
     let happened = one .ensures .0 (not-false _ (c .if1 .left)) in
-    let between = left-held d flat (s .pre .0) (ends s) (l .inv .along) more past starts (happened .1 .left) in
+    let between = left-open d flat (s .pre .0) (ends s) (l .inv .progress) more past starts (happened .1 .left) in
     record {
       room = omega (arith, one .kept, l .inv .room);
       room-tops = omega (arith, one .kept, l .inv .room-tops);
       within = starts .till;
       few = happened .0;
-      along = along-next d flat (s .pre .0) (ends s) (l .inv .along) more past starts (happened .1);
+      progress = progress-next d flat (s .pre .0) (ends s) (l .inv .progress) more past starts (happened .1);
       small = happened .2;
-      counted = λ counts c. happened .1 .started .counted counts c _ between (coming d flat (s .pre .0) (ends s) (l .inv .along) more past starts .here) (l .inv .counted counts c);
+      counted = λ counts c. happened .1 .started .counted counts c _ between (coming d flat (s .pre .0) (ends s) (l .inv .progress) more past starts .here) (l .inv .counted counts c);
     }
 
 same-length-3 : tie.Need-same-length-3 Inv-loop μ-loop
@@ -145,12 +145,12 @@ returns-2 c =
     let inv = c .before .loop .inv in
     let d = segments (s .args .s .now) in
     let flat = s .args .flat .now in (
-      (λ t. along-last d flat (s .pre .0) (ends s) (inv .along) (omega arith), λ apart. refl),
-      (λ t counts k i u. inv .counted counts k i (all-started d flat (s .pre .0) (ends s) (inv .along) (omega (arith, c .loop-test .left)) i u)),
+      (λ t. progress-last d flat (s .pre .0) (ends s) (inv .progress) (omega arith), λ apart. refl),
+      (λ t counts k i u. inv .counted counts k i (all-started d flat (s .pre .0) (ends s) (inv .progress) (omega (arith, c .loop-test .left)) i u)),
     )
 
-pub sweep-spec : {M : Type 1} → statement M
-sweep-spec =
+pub sweep-events-spec : {M : Type 1} → statement M
+sweep-events-spec =
     tie.close
     (tie.spec
     Inv-loop

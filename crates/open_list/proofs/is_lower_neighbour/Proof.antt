@@ -4,9 +4,9 @@ use mathlib.Core.Logic.{_↔_}
 use mathlib.Core.Bool.{true}
 use Rattle.segm.specs.Segments.{segments, segmentAt}
 use Rattle.faults.specs.Faultless.{Proper}
-use Rattle.strip.specs.Strip.{Next}
-use Rattle.open_list.proofs.is_next.Statement.{statement}
-use Rattle.open_list.proofs.is_next.Tie as tie
+use Rattle.strip.specs.Strip.{LowerNeighbour}
+use Rattle.open_list.proofs.is_lower_neighbour.Statement.{statement}
+use Rattle.open_list.proofs.is_lower_neighbour.Tie as tie
 
 segment-in-requires : tie.Need-segment-in-requires
 segment-in-requires c κs = c .pre .0 .inside
@@ -22,7 +22,7 @@ returns c =
     let t = c .before .before .segment-in in
     let u = c .before .segment-in2 in
     let r = c .follows in
-    subst (λ lower. (r .result ≡ true) ↔ Next lower (segmentAt (segments (c .before .before .before .args .s .now)) (c .before .before .before .args .j))) (t .ensures) (subst (λ upper. (r .result ≡ true) ↔ Next (t .result) upper) (u .ensures) (r .ensures))
+    subst (λ lower. (r .result ≡ true) ↔ LowerNeighbour lower (segmentAt (segments (c .before .before .before .args .s .now)) (c .before .before .before .args .j))) (t .ensures) (subst (λ upper. (r .result ≡ true) ↔ LowerNeighbour (t .result) upper) (u .ensures) (r .ensures))
 
-pub is-next-spec : {M : Type 1} → statement M
-is-next-spec = tie.close (tie.spec segment-in-requires segment-in-requires-2 follows-requires returns)
+pub is-lower-neighbour-spec : {M : Type 1} → statement M
+is-lower-neighbour-spec = tie.close (tie.spec segment-in-requires segment-in-requires-2 follows-requires returns)
