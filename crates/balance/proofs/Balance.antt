@@ -19,15 +19,15 @@ module _ (test : ℕ → Bool) where
   unfolding firstPlace
   step n i h = let e : n - i ≡ suc (n - suc i) = omega arith in rw (add-one, e)
 
-  pub step-passed : (n i : ℕ) → i < n → test i ≡ true → firstPlace test (n - i) i ≡ i
-  step-passed n i h e = step n i h ∙ simp e
+  pub place-passed : (n i : ℕ) → i < n → test i ≡ true → firstPlace test (n - i) i ≡ i
+  place-passed n i h e = step n i h ∙ simp e
 
-  pub step-failed : (n i : ℕ) → i < n → test i ≡ false → firstPlace test (n - i) i ≡ firstPlace test (n - (i + 1)) (i + 1)
-  step-failed n i h e = step n i h ∙ simp e
+  pub place-failed : (n i : ℕ) → i < n → test i ≡ false → firstPlace test (n - i) i ≡ firstPlace test (n - (i + 1)) (i + 1)
+  place-failed n i h e = step n i h ∙ simp e
 
-  pub step-end : (n i : ℕ) → i ≤ n → n ≤ i → firstPlace test (n - i) i ≡ n
+  pub place-end : (n i : ℕ) → i ≤ n → n ≤ i → firstPlace test (n - i) i ≡ n
   unfolding firstPlace
-  step-end n i h k = let e : n - i ≡ 0 = omega arith in rw e (omega arith)
+  place-end n i h k = let e : n - i ≡ 0 = omega arith in rw e (omega arith)
 
 -- two tests that say the same of every place looked at
 pub same-first : (f g : ℕ → Bool) (left i : ℕ) → ((k : ℕ) → k < i + left → f k ≡ g k) → firstPlace f left i ≡ firstPlace g left i

@@ -27,8 +27,8 @@ LiesAbove e p s = (side s p <ℤ pos 0) ⊎ (e s ≡ p)
 abbrev pub Passes : (Segment → Point) → Segment → Segment → Type 0
 Passes e v s = LiesUnder e (v .a) s ⊎ LiesAbove e (v .b) s
 
--- v's cut in a list: the one before it lies under v's foot, the one after it above its head
-pub record Cut {A : Type 0} (e : Segment → Point) (seg : A → Segment) (z : A) (v : Segment) (l : List A) : Type 0 where
+-- v stands in a gap of the list: the one before the gap lies under v's foot, the one after it above its head
+pub record InGap {A : Type 0} (e : Segment → Point) (seg : A → Segment) (z : A) (v : Segment) (l : List A) : Type 0 where
   pub place : ℕ
   pub till : place ≤ length l
   pub below : (k : ℕ) → suc k ≡ place → LiesUnder e (v .a) (seg (getD l k z))

@@ -15,7 +15,7 @@ use Rattle.segm.specs.Segments.{Drawing, segmentAt}
 use Rattle.ends.specs.Ends.{endPoint}
 use Rattle.meetings.specs.Meetings.{side}
 use Rattle.strip.specs.Strip.{isVertical, above}
-use Rattle.strip.specs.Neighbours.{Cut, Distinct}
+use Rattle.strip.specs.Neighbours.{InGap, Distinct}
 use Rattle.count_up.specs.CountUp.{lastIn}
 
 -- t lies under p: strictly, or with its start there
@@ -28,19 +28,19 @@ liesAbove p t = ltZ (side t p) (pos 0) || eqP (t .a) p
 
 -- ---- beside the list
 -- the one before place k of the list lies under v's foot, and the one at it above v's head, if there is one
-pub record CutAt (d : Drawing) (v : Segment) (k : ℕ) (l : List ℕ) : Type 0 where
+pub record InGapAt (d : Drawing) (v : Segment) (k : ℕ) (l : List ℕ) : Type 0 where
   pub till : k ≤ length l
   pub under : 0 < k → liesUnder (v .a) (segmentAt d (getD l (k - 1) 0)) ≡ true
   pub over : k < length l → liesAbove (v .b) (segmentAt d (getD l k 0)) ≡ true
 
 -- v stands in a gap of the list
-abbrev pub CutIn : Drawing → Segment → List ℕ → Type 0
-CutIn d v l = Cut (λ s. s .a) (segmentAt d) 0 v l
+abbrev pub StandsInGap : Drawing → Segment → List ℕ → Type 0
+StandsInGap d v l = InGap (λ s. s .a) (segmentAt d) 0 v l
 
 -- the vertical segment at place v stands in a gap of the list, and its top count is written: that of the one below the gap, and its own winding
 pub record Stood (d : Drawing) (l : List ℕ) (tops tops′ : List ℤ) (v : ℕ) : Type 0 where
   pub place : ℕ
-  pub cut : CutAt d (segmentAt d v) place l
+  pub in-gap : InGapAt d (segmentAt d v) place l
   pub top : ((i : ℕ) → i ∈ l → isVertical (segmentAt d i) ≡ false) → getD tops′ v (pos 0) ≡ lastIn tops (take place l) +ℤ segmentAt d v .winding
 
 -- the vertical segments of places from..to stand in gaps of the list, and nothing else is written

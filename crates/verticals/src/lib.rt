@@ -17,7 +17,7 @@ ghost use Rattle.faults.specs.Faultless.{Proper, Faultless};
 ghost use Rattle.strip.specs.Neighbours.{PlacesOf};
 ghost use Rattle.scan.specs.Scan.{ProperAt};
 ghost use Rattle.count_up.specs.CountUp.{lastIn, BoundedBy};
-ghost use Rattle.verticals.specs.Verticals.{liesUnder, liesAbove, CutAt, AllStand, Column, VerticalStart, Beyond, Unbroken, ClearIn, Clears};
+ghost use Rattle.verticals.specs.Verticals.{liesUnder, liesAbove, InGapAt, AllStand, Column, VerticalStart, Beyond, Unbroken, ClearIn, Clears};
 
 // Whether the segment at place i lies under p: strictly, or with its start there.
 fn lies_under(s: &[i32], i: u16, p: Point) -> bool
@@ -44,9 +44,9 @@ fn lies_above(s: &[i32], i: u16, p: Point) -> bool
 }
 
 // Whether the one before place k of the list lies under v, and the one at place k above it.
-fn is_cut(s: &[i32], v: Segment, list: &[u16], k: usize) -> bool
+fn is_in_gap(s: &[i32], v: Segment, list: &[u16], k: usize) -> bool
     requires { ⌜ Faultless (segments (now s)) × Proper v × PlacesOf (segments (now s)) (now list) × (k ≤ length (now list)) ⌝ }
-    ensures { λ r. ⌜ (r ≡ true) ↔ CutAt (segments (now (s .entry))) v k (now (list .entry)) ⌝ }
+    ensures { λ r. ⌜ (r ≡ true) ↔ InGapAt (segments (now (s .entry))) v k (now (list .entry)) ⌝ }
 {
     let a = v.a;
     let b = v.b;
@@ -70,11 +70,11 @@ struct Gap {
 // Where the vertical segment v stands in a gap of the list, if it does: at the guess, else by search.
 fn gap_of(s: &[i32], v: Segment, list: &[u16], guess: usize) -> Gap
     requires { ⌜ Faultless (segments (now s)) × Proper v × PlacesOf (segments (now s)) (now list) ⌝ }
-    ensures { λ r. ⌜ (r .clear ≡ true → CutAt (segments (now (s .entry))) v (r .place) (now (list .entry)))
+    ensures { λ r. ⌜ (r .clear ≡ true → InGapAt (segments (now (s .entry))) v (r .place) (now (list .entry)))
         × (ClearIn (segments (now (s .entry))) v (now (list .entry)) → r .clear ≡ true) ⌝ }
 {
     if guess <= list.len() {
-        if is_cut(s, v, list, guess) {
+        if is_in_gap(s, v, list, guess) {
             return Gap {
                 place: guess,
                 clear: true,
@@ -85,7 +85,7 @@ fn gap_of(s: &[i32], v: Segment, list: &[u16], guess: usize) -> Gap
     let k = scan::place_of(s, list, Sought::At(b));
     Gap {
         place: k,
-        clear: is_cut(s, v, list, k),
+        clear: is_in_gap(s, v, list, k),
     }
 }
 
@@ -99,7 +99,7 @@ fn stand_one(s: &[i32], v: Segment, i: usize, list: &[u16], guess: usize, tops: 
         × (length d ≤ length (now tops))
         × BoundedBy 2110000000 (now tops)) ⌝ }
     ensures { λ r. ⌜ (let d = segments (now (s .entry)) in let l = now (list .entry) in let tops₀ = now (tops .entry) in
-        (r .clear ≡ true → (CutAt d v (r .place) l × (now (tops .exit) ≡ set tops₀ i (lastIn tops₀ (take (r .place) l) +ℤ v .winding))))
+        (r .clear ≡ true → (InGapAt d v (r .place) l × (now (tops .exit) ≡ set tops₀ i (lastIn tops₀ (take (r .place) l) +ℤ v .winding))))
         × (r .clear ≡ false → now (tops .exit) ≡ tops₀)
         × (ClearIn d v l → r .clear ≡ true)) ⌝ }
 {

@@ -35,7 +35,7 @@ use Rattle.faults.specs.Faultless.{Faultless}
 use Rattle.faults.proofs.Faultless.{proper-at}
 use Rattle.strip.specs.Neighbours.{PlacesOf, Distinct, Passes}
 use Rattle.strip.proofs.Neighbours.Lists.{StripList, strip-distinct}
-use Rattle.strip.proofs.Neighbours.Event.{SweptTo, cut-after}
+use Rattle.strip.proofs.Neighbours.Event.{SweptTo, gap-passes-after}
 use Rattle.strip.proofs.Neighbours.NumberedPlaces.{Coming, Tested, first-event, event-list, next-event, last-event}
 use Rattle.strip.proofs.Neighbours.Upright.{Upright}
 use Rattle.strip.proofs.Neighbours.Passes.{passes-under, passes-above, passes-through}
@@ -335,7 +335,7 @@ module _ (d : Drawing) (flat : List ℕ) where
           partly = entered-open faultless (omega (arith, gap .own)) (omega (arith, gap .till, q .till)) (left-open (h .left)) (λ i g k. here-starts i g (omega (arith, gap .till))) (gap .entered)
 
           passed-by : (i : ℕ) → i ∈ gap .between → Passes (λ s. s .a) (seg v) (seg i)
-          passed-by = cut-after seg (upFrom 0 (gap .m)) u (open-strip-list d (gap .m) (subst (λ z. OpenAt d (gap .m) z (gap .between)) (sym at-y) partly)) 0 (gap .cut)
+          passed-by = gap-passes-after seg (upFrom 0 (gap .m)) u (open-strip-list d (gap .m) (subst (λ z. OpenAt d (gap .m) z (gap .between)) (sym at-y) partly)) 0 (gap .in-gap)
 
           beside : (e : ℕ) → e ∈ block → (endPoint d e .y ≤ℤ seg v .a .y) ⊎ (seg v .b .y ≤ℤ endPoint d e .y)
           beside = h .unbroken .beside v (start-in v inside at-y) foot

@@ -9,59 +9,28 @@ use native.Mathlib.Decide.{decLt}
 use lib.ListN.{length, getD, take, drop, length-drop, take-append-drop}
 use lib.Seq.{getD-take, getD-drop, length-take-le}
 use lib.IntN.{ℤ, pos, _+ℤ_}
-use lib.Signed.{_<ℤ_}
 use Rattle.integers.proofs.Booleans.{clash, dec}
-use Rattle.integers.proofs.Linear.{ints}
-use Rattle.integers.proofs.Order.{lt-le}
 use Rattle.geom.specs.declared.Point.{Point}
 use Rattle.geom.specs.Points.{ltP}
 use Rattle.geom.proofs.Points.{ltP-irrefl, ltP-true}
-use Rattle.segm.specs.declared.Segment.{Segment}
 use Rattle.lists.specs.Members.{_∈_}
 use Rattle.lists.specs.UpFrom.{upFrom}
 use Rattle.segm.specs.Segments.{Drawing, segmentAt}
 use Rattle.lists.proofs.Members.{stands, in-at, in-take, in-drop, pairs-take, pairs-drop}
-use Rattle.meetings.specs.Meetings.{side}
 use Rattle.strip.specs.Strip.{isVertical, above}
-use Rattle.strip.proofs.Strip.Gap.{side-own-a}
-use Rattle.strip.proofs.Strip.Apart.{Over, over-wide, side-less}
-use Rattle.strip.proofs.Strip.Above.{above-on, above-off, above-own-a}
+use Rattle.strip.proofs.Strip.Apart.{over-wide}
 use Rattle.strip.proofs.Strip.Vertical.{wide-not-vertical}
 use Rattle.faults.specs.Faultless.{Faultless}
 use Rattle.faults.proofs.Faultless.{proper-at}
-use Rattle.strip.specs.Neighbours.{LiesUnder, LiesAbove}
 use Rattle.strip.proofs.Neighbours.Lists.{strip-distinct}
 use Rattle.strip.proofs.Neighbours.Upright.{Upright, vertical-upright}
-use Rattle.scan.specs.declared.Sought.the-variants.{At}
-use Rattle.scan.specs.Scan.{Changes, isBelow, belowAt}
 use Rattle.count_up.specs.CountUp.{OpenAt, lastOf, lastIn, countUp, Counts, Tops, CountsWritten, LowEnd, HighEnd, Climbed}
 use Rattle.count_up.proofs.CountUp.{open-strip-list, open-over, Climbs, count-up, node-climbs, last-at, last-none, last-cong, node-places}
 use Rattle.open_list.specs.OpenList.{Entered, Older, Marks}
-use Rattle.verticals.specs.Verticals.{CutAt, AllStand, Stood}
-use Rattle.verticals.proofs.Verticals.Gaps.{under-true, above-true}
+use Rattle.verticals.specs.Verticals.{AllStand, Stood}
+use Rattle.verticals.proofs.Verticals.Gaps.{in-gap-changes}
 use Rattle.starts.specs.Starts.{Splits, NodeEnd, Counting}
 use Rattle.starts.proofs.Starts.Entering.{entered-open}
-
--- v's gap: there the list goes from those that have v's head above them to the others
-pub cut-changes : (d : Drawing) {v : Segment} {l : List ℕ} → Upright v → ((i : ℕ) → i ∈ l → Over (v .a .x) (segmentAt d i)) → (k : ℕ) → CutAt d v k l → Changes (belowAt d (At (v .b)) l) 0 (length l) k
-unfolding isBelow
-cut-changes d {v} {l} u over k c = record {
-  from = omega arith;
-  till = c .till;
-  before = λ h. foot (getD l (k - 1) 0) (over (getD l (k - 1) 0) (in-at l 0 (k - 1) (omega (arith, c .till)))) (under-true (v .a) (segmentAt d (getD l (k - 1) 0)) (c .under h));
-  after = λ h. head (getD l k 0) (above-true (v .b) (segmentAt d (getD l k 0)) (c .over h));
-}
-  where
-    foot : (i : ℕ) → Over (v .a .x) (segmentAt d i) → LiesUnder (λ s. s .a) (v .a) (segmentAt d i) → above (segmentAt d i) (v .b) ≡ true
-    foot i o k = let r = side-less (segmentAt d i) (v .a) (v .b) (over-wide o) (sym (u .plumb)) (u .rises) in above-on (segmentAt d i) (v .b) (go k r)
-      where
-        go : LiesUnder (λ s. s .a) (v .a) (segmentAt d i) → side (segmentAt d i) (v .a) <ℤ side (segmentAt d i) (v .b) → pos 0 <ℤ side (segmentAt d i) (v .b)
-        go (inl a) r = omega ints
-        go (inr a) r = let z = subst (λ (p : Point). side (segmentAt d i) p ≡ pos 0) a (side-own-a (segmentAt d i)) in omega ints
-
-    head : (i : ℕ) → LiesAbove (λ s. s .a) (v .b) (segmentAt d i) → above (segmentAt d i) (v .b) ≡ false
-    head i (inl a) = above-off (segmentAt d i) (v .b) (lt-le a)
-    head i (inr a) = subst (λ (p : Point). above (segmentAt d i) p ≡ false) a (above-own-a (segmentAt d i))
 
 -- ---- a stretch of a list
 abbrev stretch : (low high : ℕ) → List ℕ → List ℕ
@@ -214,7 +183,7 @@ module _ {d : Drawing} (faultless : Faultless d) {from to : ℕ} (node : NodeEnd
           s .top slanted
           ∙ ap (λ z. z +ℤ segmentAt d i .winding) (last-cong (λ j. getD tops₁ j (pos 0)) count (take (s .place) l′) (λ j m. let n = in-take (s .place) l′ j m in listed j n (decLt j from)))
           ∙ sym (c .vertical i to (omega arith) v few l′ (at-foot a) (λ k b e. node .splits i k u b e) (s .place)
-          (cut-changes d (upright a v) (open-over (at-foot a)) (s .place) (s .cut)))
+          (in-gap-changes d (upright a v) (open-over (at-foot a)) (s .place) (s .in-gap)))
 
       go : Dec (i < from) → (isVertical (segmentAt d i) ≡ true) ⊎ (isVertical (segmentAt d i) ≡ false) → getD tops₂ i (pos 0) ≡ count i
       go (yes b) v = stand .others i (λ a _ _. omega arith) ∙ wrote .others i (λ n. let f = of-node faultless node few begins h marked (climbed .low-end) (climbed .high-end) i n in omega arith) ∙ known i b

@@ -28,10 +28,10 @@ module _ {d : Drawing} (faultless : Faultless d) {from i to : ℕ} (since : from
   }
     where
       go : (v : ℕ) → from ≤ v → v < to → isVertical (segmentAt d v) ≡ true → Dec (v < i) → Gapped d from to l v
-      go v a b u (yes h) = let g = p .gaps v a h u in record { m = g .m; own = g .own; till = omega (arith, g .till); splits = g .splits; between = g .between; entered = g .entered; cut = g .cut }
+      go v a b u (yes h) = let g = p .gaps v a h u in record { m = g .m; own = g .own; till = omega (arith, g .till); splits = g .splits; between = g .between; entered = g .entered; in-gap = g .in-gap }
       go v a b u (no h) =
           let g = q .gaps v (omega arith) b u in
-          record { m = g .m; own = g .own; till = g .till; splits = g .splits; between = g .between; entered = entered-more from i (g .m) since (omega (arith, g .own)) (p .entered) (g .entered); cut = g .cut }
+          record { m = g .m; own = g .own; till = g .till; splits = g .splits; between = g .between; entered = entered-more from i (g .m) since (omega (arith, g .own)) (p .entered) (g .entered); in-gap = g .in-gap }
 
 pub can-start-next : {d : Drawing} {from i next to : ℕ} {l l₁ : List ℕ} → from ≤ i → i ≤ next → next ≤ to → CanStart d from to l → Entered d from i l l₁ → CanStart d i next l₁
 can-start-next {d} {from} {i} {next} {to} {l} {l₁} a b c w e = record {

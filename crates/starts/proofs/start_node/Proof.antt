@@ -15,7 +15,7 @@ use Rattle.count_up.specs.CountUp.{BoundedBy, Climbed}
 use Rattle.count_up.proofs.CountUp.{climbed-within}
 use Rattle.open_list.specs.OpenList.{Entered, Older, Marks}
 use Rattle.open_list.proofs.OpenList.{entered-known}
-use Rattle.verticals.proofs.Verticals.Gaps.{cut-in}
+use Rattle.verticals.proofs.Verticals.Gaps.{stands-in-gap}
 use Rattle.starts.proofs.Starts.Counting.{node-counting}
 use Rattle.starts.proofs.start_node.Statement.{statement}
 use Rattle.starts.proofs.start_node.Tie as tie
@@ -145,7 +145,7 @@ returns-3 c =
         came (k t) .0,
         record {
           entered = came (k t) .1;
-          gaps = λ v a b u. record { m = to; own = b; till = omega arith; splits = s (k t) .pre .8 .splits; between = l′ (k t); entered = came (k t) .1; cut = let g = all .each v a b u in cut-in (d (k t)) (segmentAt (d (k t)) v) (l′ (k t)) (g .place) (g .cut) };
+          gaps = λ v a b u. record { m = to; own = b; till = omega arith; splits = s (k t) .pre .8 .splits; between = l′ (k t); entered = came (k t) .1; in-gap = let g = all .each v a b u in stands-in-gap (d (k t)) (segmentAt (d (k t)) v) (l′ (k t)) (g .place) (g .in-gap) };
           counted = node-counting (s (k t) .pre .0) (s (k t) .pre .8) (s (k t) .pre .1) (s (k t) .pre .7) (s (k t) .pre .4) (came (k t) .1) (came (k t) .2) (λ h. k t .lesser .ensures .1 (omega (arith, h, long (k t)))) (climbed t) all;
         },
         (λ i. let h = stand .ensures .1 (2048000 * from (k t) + 1024000) (greater t) i in omega (arith, h, s (k t) .pre .8 .since, s (k t) .pre .1, s (k t) .pre .0 .few)),

@@ -12,18 +12,18 @@ use Rattle.lists.specs.Members.{_∈_, Pairs}
 use Rattle.lists.proofs.Members.{pairs-map}
 use Rattle.strip.proofs.Strip.Apart.{Apart, apart-sym, Wide, over-wide}
 use Rattle.strip.proofs.Strip.Tiers.{OrderAt, Tier}
-use Rattle.strip.specs.Neighbours.{Passes, Cut}
+use Rattle.strip.specs.Neighbours.{Passes, InGap}
 use Rattle.strip.proofs.Neighbours.Lists.{StripList, Fine, Quiet, strip-tiers, strip-on, fine-apart, fine-start, fine-onward, fine-finish}
-use Rattle.strip.proofs.Neighbours.Upright.{Upright, wide-or-upright, beside, stacked, passes-apart, cut-all}
+use Rattle.strip.proofs.Neighbours.Upright.{Upright, wide-or-upright, beside, stacked, passes-apart, gap-passes-all}
 
 module _ {A : Type 0} (seg : A → Segment) (d : List A) where
   -- heights at the left edge of the list's strip
   starts-at : {y : ℤ} {l : List A} → StripList seg d y l → Pairs (λ i j. OrderAt (λ s. s .a) y (seg i) (seg j)) l
   starts-at {y} {l} h = pairs-map {R = λ i j. Tier y (seg i) (seg j)} l (λ i j m n t. t .left) (strip-tiers seg d h)
 
-  -- the cut of a vertical after its event
-  pub cut-after : {v : Segment} {l : List A} → Upright v → StripList seg d (v .a .x) l → (z : A) → Cut (λ s. s .a) seg z v l → (i : A) → i ∈ l → Passes (λ s. s .a) v (seg i)
-  cut-after {v} {l} u h z c = cut-all (λ s. s .a) (λ s. inl refl) seg z u l (starts-at h) (λ i m. over-wide (h .mine i m .1)) c
+  -- the gap of a vertical one after its event: all pass it
+  pub gap-passes-after : {v : Segment} {l : List A} → Upright v → StripList seg d (v .a .x) l → (z : A) → InGap (λ s. s .a) seg z v l → (i : A) → i ∈ l → Passes (λ s. s .a) v (seg i)
+  gap-passes-after {v} {l} u h z c = gap-passes-all (λ s. s .a) (λ s. inl refl) seg z u l (starts-at h) (λ i m. over-wide (h .mine i m .1)) c
 
   module _ {x y : ℤ} {l : List A} (q : Quiet seg d x y) (h : StripList seg d x l) (xy : x <ℤ y) where
     -- the strip before y

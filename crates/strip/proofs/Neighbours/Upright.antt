@@ -20,7 +20,7 @@ use Rattle.strip.proofs.Strip.Apart.{Between, Apart, Wide, wide, side-l
 use Rattle.strip.proofs.Strip.Vertical.{vertical-not-wide}
 use Rattle.strip.proofs.Strip.Tiers.{OrderAt}
 use Rattle.lists.specs.Chain.{OfFirst, OfLast}
-use Rattle.strip.specs.Neighbours.{LiesUnder, LiesAbove, Passes, Cut}
+use Rattle.strip.specs.Neighbours.{LiesUnder, LiesAbove, Passes, InGap}
 use Rattle.lists.proofs.Chain.{last-take, first-drop}
 
 pub record Upright (v : Segment) : Type 0 where
@@ -182,7 +182,7 @@ module _ (e : Segment → Point) (is : (s : Segment) → (e s ≡ s .a) ⊎ (e s
         go (nil m) = let y = z in let g = gap-turn s t (p .x) in inr (end-at wt (o .level m .1) (down-nil (wide ws) (sym (side-gap t s p)) (omega (ints, of-- (reach t *ℤ side s p) (gap t s (p .x)), of-neg (gap s t (p .x)), of-pos 0))))
         go (plus m) = absurd (let l = o .low in omega ints)
 
-  -- the cut: the last before it is under v's foot and the first after it above its head, so all pass
+  -- a gap: the last before it is under v's foot and the first after it above its head, so all pass
   module _ {A : Type 0} (seg : A → Segment) {v : Segment} (u : Upright v) where
     abbrev Rising : List A → Type 0
     Rising l = Pairs (λ i j. OrderAt e (v .a .x) (seg i) (seg j)) l
@@ -198,20 +198,20 @@ module _ (e : Segment → Point) (is : (s : Segment) → (e s ≡ s .a) ⊎ (e s
     head-under i [] r h w k = k
     head-under i (j ∷ l) r h w k = under-down (w i (inl refl)) (w j (inr (inl refl))) (h .0 j (inl refl)) (head-under j l r (h .1) (λ m n. w m (inr n)) k)
 
-    pub cut-passes : (l r : List A) → Rising (l ++ r) → Wides (l ++ r) → OfLast (λ i. LiesUnder e (v .a) (seg i)) l → OfFirst (λ i. LiesAbove e (v .b) (seg i)) r
+    pub gap-passes : (l r : List A) → Rising (l ++ r) → Wides (l ++ r) → OfLast (λ i. LiesUnder e (v .a) (seg i)) l → OfFirst (λ i. LiesAbove e (v .b) (seg i)) r
         → (i : A) → i ∈ (l ++ r) → Passes e v (seg i)
-    cut-passes [] [] h w lo hi i m = absurd m
-    cut-passes [] (q ∷ r) h w lo hi i m = inr (all-above q r h w hi i m)
-    cut-passes (j ∷ l) r h w lo hi i (inl q) = inl (subst (λ k. LiesUnder e (v .a) (seg k)) (sym q) (head-under j l r h w lo))
-    cut-passes (j ∷ l) r h w lo hi i (inr m) = cut-passes l r (h .1) (λ k n. w k (inr n)) (rest l lo) hi i m
+    gap-passes [] [] h w lo hi i m = absurd m
+    gap-passes [] (q ∷ r) h w lo hi i m = inr (all-above q r h w hi i m)
+    gap-passes (j ∷ l) r h w lo hi i (inl q) = inl (subst (λ k. LiesUnder e (v .a) (seg k)) (sym q) (head-under j l r h w lo))
+    gap-passes (j ∷ l) r h w lo hi i (inr m) = gap-passes l r (h .1) (λ k n. w k (inr n)) (rest l lo) hi i m
       where
         rest : (l : List A) → OfLast (λ i. LiesUnder e (v .a) (seg i)) (j ∷ l) → OfLast (λ i. LiesUnder e (v .a) (seg i)) l
         rest [] k = tt
         rest (i ∷ l) k = k
 
--- the same of a cut by its place
-pub cut-all : (e : Segment → Point) → ((s : Segment) → (e s ≡ s .a) ⊎ (e s ≡ s .b)) → {A : Type 0} (seg : A → Segment) (z : A) {v : Segment} → Upright v → (l : List A)
-    → Pairs (λ i j. OrderAt e (v .a .x) (seg i) (seg j)) l → ((i : A) → i ∈ l → Wide (seg i)) → Cut e seg z v l → (i : A) → i ∈ l → Passes e v (seg i)
-cut-all e is {A} seg z {v} u l r w c =
+-- the same of a gap by its place
+pub gap-passes-all : (e : Segment → Point) → ((s : Segment) → (e s ≡ s .a) ⊎ (e s ≡ s .b)) → {A : Type 0} (seg : A → Segment) (z : A) {v : Segment} → Upright v → (l : List A)
+    → Pairs (λ i j. OrderAt e (v .a .x) (seg i) (seg j)) l → ((i : A) → i ∈ l → Wide (seg i)) → InGap e seg z v l → (i : A) → i ∈ l → Passes e v (seg i)
+gap-passes-all e is {A} seg z {v} u l r w c =
     subst (λ (l : List A). Pairs (λ i j. OrderAt e (v .a .x) (seg i) (seg j)) l → ((i : A) → i ∈ l → Wide (seg i)) → (i : A) → i ∈ l → Passes e v (seg i)) (take-append-drop (c .place) l)
-    (λ r w. cut-passes e is seg u (take (c .place) l) (drop (c .place) l) r w (last-take (λ i. LiesUnder e (v .a) (seg i)) z l (c .place) (c .till) (c .below)) (first-drop (λ i. LiesAbove e (v .b) (seg i)) z l (c .place) (c .above))) r w
+    (λ r w. gap-passes e is seg u (take (c .place) l) (drop (c .place) l) r w (last-take (λ i. LiesUnder e (v .a) (seg i)) z l (c .place) (c .till) (c .below)) (first-drop (λ i. LiesAbove e (v .b) (seg i)) z l (c .place) (c .above))) r w

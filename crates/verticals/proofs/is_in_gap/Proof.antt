@@ -12,8 +12,8 @@ use Rattle.integers.proofs.Booleans.{clash}
 use Rattle.segm.specs.Segments.{Drawing, segments, segmentAt}
 use Rattle.scan.proofs.Scan.{proper-entry}
 use Rattle.verticals.specs.Verticals.{liesUnder}
-use Rattle.verticals.proofs.is_cut.Statement.{statement}
-use Rattle.verticals.proofs.is_cut.Tie as tie
+use Rattle.verticals.proofs.is_in_gap.Statement.{statement}
+use Rattle.verticals.proofs.is_in_gap.Tie as tie
 
 module _ (c : tie.Start) where
   abbrev d : Drawing
@@ -59,8 +59,8 @@ returns-2 c = (λ e. record { till = c .before .before .before .before .before .
 returns-3 : tie.Need-returns-3
 returns-3 c = (λ _. record { till = c .before .before .before .before .before .pre .3; under = before-place (c .before); over = λ h. absurd (omega (arith, c .if3 .left, h)) }, λ f. refl)
 
-pub is-cut-spec : {M : Type 1} → statement M
-is-cut-spec =
+pub is-in-gap-spec : {M : Type 1} → statement M
+is-in-gap-spec =
     tie.close
     (tie.spec
     sub-lies-under
