@@ -1,4 +1,5 @@
--- The laws of counts by the lists: the list of a strip as the neighbours' laws have it; those that start at one point stand side by side in it; and counts written up a stretch.
+-- The laws of counts by the lists: the list of a strip as the neighbours' laws have it; those that start at one point stand side by side in it; and counts
+-- written up a stretch.
 use mathlib.Core.List.{List, [], _∷_, _++_, append-assoc, append-nil}
 use mathlib.Core.Path.{_≡_, refl, sym, _∙_, subst, ap}
 use mathlib.Core.Logic.{inl, _⊎_, inr}
@@ -28,7 +29,7 @@ use Rattle.strip.specs.Neighbours.{PlacesOf, Distinct}
 use Rattle.strip.proofs.Strip.Apart.{Over, Wide, wide, over-wide}
 use Rattle.strip.proofs.Strip.Above.{spans-on, spans-over}
 use Rattle.strip.proofs.Strip.Tiers.{Tier}
-use Rattle.strip.proofs.Neighbours.Lists.{StripList, strip-tiers}
+use Rattle.strip.proofs.Neighbours.StripList.{StripList, strip-tiers}
 use Rattle.strip.proofs.Strip.Signs.{Sign, minus, nil, plus, sign, up-nil, down-nil, join-both, join-l}
 use Rattle.strip.proofs.Strip.Gap.{gap-at-a, gap-trans, side-own-a}
 use Rattle.strip.proofs.Neighbours.Upright.{end-at}

@@ -1,5 +1,4 @@
-// The top counts of the segments that start at one point, by their places in the ordered list of the open ones. Every function here is proved, and the crate assumes
-// nothing of its own.
+// The top counts of the segments that start at one point, by their places in the ordered list of the open ones.
 ghost use mathlib.Core.Path.{_≡_};
 ghost use Prim.Native.Nat.{ℕ, _≤_, _<_};
 ghost use lib.ListN.{length};

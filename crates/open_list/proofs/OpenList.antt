@@ -1,5 +1,5 @@
--- The laws of what leaves the list and what enters, one by one and all together; and where the tests are passed: in a drawing in which no two segments meet wrongly,
--- of a list that spans one strip, what leaves is found and closes, and what enters fits.
+-- The laws of what leaves the list and what enters, one by one and all together; and where the tests are passed: in a drawing in which no two segments meet
+-- wrongly, of a list that spans one strip, what leaves is found and closes, and what enters fits.
 use mathlib.Core.Path.{_≡_, sym, _∙_, ap, subst, refl}
 use mathlib.Core.List.{List, [], _∷_, _++_}
 use mathlib.Core.Logic.{inl, inr, _⊎_}
@@ -22,7 +22,7 @@ use Rattle.strip.proofs.Strip.Above.{spans-over}
 use Rattle.strip.proofs.Strip.Compare.{under-by-side, by-side-irrefl, by-side-asym, by-side-total}
 use Rattle.strip.proofs.Strip.Clear.{apart-clear}
 use Rattle.strip.proofs.Strip.Tiers.{Tier}
-use Rattle.strip.proofs.Neighbours.Lists.{strip-tiers}
+use Rattle.strip.proofs.Neighbours.StripList.{strip-tiers}
 use Rattle.scan.specs.Scan.{insertAt, removeAt, isBelow, belowAt, Changes}
 use Rattle.scan.specs.declared.Sought.the-variants.{Along}
 use Rattle.scan.proofs.Scan.{insert-in, in-insert, remove-in, in-remove, not-removed, pairs-remove}

@@ -1,6 +1,12 @@
-// What enters and leaves the ordered list of the open segments, with a test of every two that become neighbours. Every function here is proved, and the crate
-// assumes nothing of its own. Each promise has two halves: what holds of the list where all tests were passed, and where they are: in a drawing in which no two
-// segments meet wrongly, of a list that spans one strip.
+// The status of the sweep: the list of the open segments, from the lowest up, in which every two that become neighbours are compared. Where one leaves these
+// are the two beside it (`leave_all`), where one enters it and both its neighbours (`enter_all`). Each in turn: its place is found, near the last one's or by
+// search, the new neighbours are compared, and the list is moved. Vertical segments are passed over.
+//
+// Each promise has two halves: what holds of the list where all tests were passed, and where they are: in a drawing in which no two segments meet wrongly, of
+// a list that spans one strip.
+//
+// Names: `list[..used]` has places of the drawing; k is a place of the list, i and j are places of the drawing with the segments t and u, and e is an end;
+// `near` is where the last one left or entered, `guess` where to look first.
 use scan::Sought;
 use segm::Segment;
 ghost use mathlib.Core.Path.{_≡_};

@@ -1,5 +1,5 @@
--- The laws of the ordered list: what enters and what is taken out; and the list in place, where those from a place on move up, from the back, or down, and some that lie past its end
--- move with them.
+-- The laws of the ordered list: what enters and what is taken out; and the list in place, where those from a place on move up, from the back, or down, and
+-- some that lie past its end move with them.
 use mathlib.Core.Path.{_≡_, refl, sym, ap, subst, _∙_, ap₂}
 use mathlib.Core.List.{List, [], _∷_, _++_, append-assoc, append-nil}
 use mathlib.Core.Logic.{_⊎_, inl, inr}

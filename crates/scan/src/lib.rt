@@ -1,4 +1,5 @@
-// The ordered list of the open segments, by their places, the lowest first. Every function here is proved, and the crate assumes nothing of its own.
+// The ordered list of the open segments, by their places, the lowest first: where a point or a segment stands in it, and how one enters and one leaves, in
+// place.
 use geom::Point;
 use segm::Segment;
 ghost use mathlib.Core.Path.{_≡_};

@@ -1,5 +1,9 @@
-// What starts at one x, node by node in order of their points: what is not vertical enters the list of the open segments, vertical ones are tested in it, and all
-// get their top counts. Every function here is proved, and the crate assumes nothing of its own.
+// What starts at one x, node by node in order of their points, a node being the segments that start at one point. One node (`start_node`): what is not
+// vertical enters the list of the open segments; the top counts of the node are written; its vertical segments stand in gaps of the list and get theirs. So
+// the list in which they stand has all that starts at their feet or lower, and what enters later starts at their heads or above.
+//
+// Names: places from..to of the drawing start at this x; `next` is the place after a node; `near` is a place of the list to look at first, and `high` the one
+// after those of a node.
 use open_list::Status;
 ghost use mathlib.Core.Path.{_≡_};
 ghost use mathlib.Core.Bool.{true};

@@ -39,7 +39,7 @@ pub record InGap {A : Type 0} (e : Segment → Point) (seg : A → Segment) (z :
 abbrev pub PlacesOf : Drawing → List ℕ → Type 0
 PlacesOf d l = (i : ℕ) → i ∈ l → i < length d
 
--- every two neighbours may stand side by side
+-- every one may stand right under the next
 abbrev pub InOrder : Drawing → List ℕ → Type 0
 InOrder d l = Chain (λ i j. LowerNeighbour (segmentAt d i) (segmentAt d j)) l
 

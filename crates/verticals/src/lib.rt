@@ -1,5 +1,12 @@
-// The tests of vertical segments: beside the ordered list of the open ones, and beside the ends at their x; and their top counts. Every function here is proved, and
-// the crate assumes nothing of its own. Each promise has two halves: what holds where the tests were passed, and where they are.
+// Vertical segments, which are never open: their tests and their top counts. Beside the ends at their x, from the lowest up (`are_unbroken`): no end lies
+// strictly between the ends of one, and no two overlap. Beside the list of the open segments, once all that starts at their feet has entered (`stand_all`):
+// each stands in a gap, the segment below the gap under its foot and the one above over its head, or they start there. Its top count is that of the segment
+// below the gap, and its own winding.
+//
+// Each promise has two halves: what holds where the tests were passed, and where they are.
+//
+// Names: v is a vertical segment, with its foot a and its head b; `foot` and `top` are their heights; k is a place of the list, i one of the drawing, and e is
+// an end.
 use geom::Point;
 use scan::Sought;
 use segm::Segment;

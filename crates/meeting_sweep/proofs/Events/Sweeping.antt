@@ -34,7 +34,7 @@ use Rattle.strip.proofs.Strip.Vertical.{vertical-by, not-vertical-by, not-verti
 use Rattle.faults.specs.Faultless.{Faultless}
 use Rattle.faults.proofs.Faultless.{proper-at}
 use Rattle.strip.specs.Neighbours.{PlacesOf, Distinct, Passes}
-use Rattle.strip.proofs.Neighbours.Lists.{StripList, strip-distinct}
+use Rattle.strip.proofs.Neighbours.StripList.{StripList, strip-distinct}
 use Rattle.strip.proofs.Neighbours.Event.{SweptTo, gap-passes-after}
 use Rattle.strip.proofs.Neighbours.NumberedPlaces.{Coming, Tested, first-event, event-list, next-event, last-event}
 use Rattle.strip.proofs.Neighbours.Upright.{Upright}

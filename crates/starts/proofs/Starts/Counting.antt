@@ -22,7 +22,7 @@ use Rattle.strip.proofs.Strip.Apart.{over-wide}
 use Rattle.strip.proofs.Strip.Vertical.{wide-not-vertical}
 use Rattle.faults.specs.Faultless.{Faultless}
 use Rattle.faults.proofs.Faultless.{proper-at}
-use Rattle.strip.proofs.Neighbours.Lists.{strip-distinct}
+use Rattle.strip.proofs.Neighbours.StripList.{strip-distinct}
 use Rattle.strip.proofs.Neighbours.Upright.{Upright, vertical-upright}
 use Rattle.count_up.specs.CountUp.{OpenAt, lastOf, lastIn, countUp, Counts, Tops, CountsWritten, LowEnd, HighEnd, Climbed}
 use Rattle.count_up.proofs.CountUp.{open-strip-list, open-over, Climbs, count-up, node-climbs, last-at, last-none, last-cong, node-places}

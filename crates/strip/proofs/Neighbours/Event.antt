@@ -13,7 +13,7 @@ use Rattle.lists.proofs.Members.{pairs-map}
 use Rattle.strip.proofs.Strip.Apart.{Apart, apart-sym, Wide, over-wide}
 use Rattle.strip.proofs.Strip.Tiers.{OrderAt, Tier}
 use Rattle.strip.specs.Neighbours.{Passes, InGap}
-use Rattle.strip.proofs.Neighbours.Lists.{StripList, Fine, Quiet, strip-tiers, strip-on, fine-apart, fine-start, fine-onward, fine-finish}
+use Rattle.strip.proofs.Neighbours.StripList.{StripList, Fine, Quiet, strip-tiers, strip-on, fine-apart, fine-start, fine-onward, fine-finish}
 use Rattle.strip.proofs.Neighbours.Upright.{Upright, wide-or-upright, beside, stacked, passes-apart, gap-passes-all}
 
 module _ {A : Type 0} (seg : A → Segment) (d : List A) where

@@ -19,7 +19,7 @@ use Rattle.strip.specs.Strip.{LowerNeighbour}
 use Rattle.strip.proofs.Strip.Clear.{apart-clear}
 use Rattle.lists.specs.Chain.{Chain}
 use Rattle.strip.specs.Neighbours.{Passes}
-use Rattle.strip.proofs.Neighbours.Lists.{StripList, Quiet, strip-next}
+use Rattle.strip.proofs.Neighbours.StripList.{StripList, Quiet, strip-next}
 use Rattle.strip.proofs.Neighbours.Upright.{Upright}
 use Rattle.strip.proofs.Neighbours.Event.{SweptTo, quiet-by, swept-start, swept-next, swept-done}
 
