@@ -43,13 +43,6 @@ open-strip-list d m h = record {
   every = λ i n o. h .every i (let b = in-upFrom i 0 m n .1 in omega arith) (spans-on o);
 }
 
-pub strip-list-open : (d : Drawing) (m : ℕ) {x : ℤ} {l : List ℕ} → StripList (segmentAt d) (upFrom 0 m) x l → OpenAt d m x l
-strip-list-open d m h = record {
-  order = h .chain;
-  mine = λ i n. (let b = in-upFrom i 0 m (h .mine i n .0) .1 in omega arith, spans-on (h .mine i n .1));
-  every = λ i n s. h .every i (upFrom-in i 0 m (omega arith) (omega arith)) (spans-over s);
-}
-
 module _ {d : Drawing} {m : ℕ} {x : ℤ} {l : List ℕ} (h : OpenAt d m x l) where
   pub open-over : (i : ℕ) → i ∈ l → Over x (segmentAt d i)
   open-over i n = spans-over (h .mine i n .1)
