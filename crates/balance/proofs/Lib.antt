@@ -1,3 +1,2 @@
-pub mod Nodes
-pub mod Places
+pub mod Balance
 pub mod Sums

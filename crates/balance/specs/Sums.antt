@@ -24,9 +24,9 @@ abbrev pub Summed : Drawing → List ℕ → ℕ → List ℤ → Type 0
 Summed d nodes k sums = (v : ℕ) → v < length sums → getD sums v (pos 0) ≡ nodeSum d nodes k v
 
 -- two ends for each of n links, each with a node that has a sum
-pub record Known (n : ℕ) (nodes : List ℕ) (sums : List ℤ) : Type 0 where
+pub record HaveSums (n : ℕ) (nodes : List ℕ) (sums : List ℤ) : Type 0 where
   pub each-end : length nodes ≡ 2 * n
-  pub known : (e : ℕ) → e < 2 * n → getD nodes e 0 < length sums
+  pub has-sum : (e : ℕ) → e < 2 * n → getD nodes e 0 < length sums
 
 -- the sum at the node of end e is 0
 unfoldable pub sumsToZero : List ℕ → List ℤ → ℕ → Bool

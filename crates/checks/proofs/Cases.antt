@@ -7,7 +7,7 @@ use Rattle.lists.specs.Members.{any}
 use Rattle.lists.specs.Sums.{sum}
 use Rattle.segm.specs.CaseA.{segment, A}
 use Rattle.segm.specs.Segments.{front, segmentsOf, count, whole, segments, segmentAt, total}
-use Rattle.meetings.specs.Meetings.{side, parts, inside, sameEnds, meetsWrongly}
+use Rattle.meetings.specs.Meetings.{side, parts, inInterior, sameEnds, meetsWrongly}
 use Rattle.balance.specs.Balance.{balance, balances}
 use Rattle.refusal.specs.declared.Verdict.{Verdict}
 use Rattle.refusal.specs.declared.Verdict.the-variants.{Accepted, Refused}
@@ -54,7 +54,7 @@ pub record Cases : Type 0 where
   pub roles-short : verdict (sliceRun A (pos 2) (pos 1) 36 18 17) ≡ Refused 11 0
 
 pub cases : Cases
-unfolding fillsRun clipRun sliceRun verdict asked askedFirst wrongLength unknownChoice tooShort first firstFrom drawingVerdict faultsOf meetingsOf unbalancedOf faultAt meetingAt unbalancedAt fault endsInRange rises windingInRange bitsInRange balance balances meetsWrongly parts inside sameEnds side total any sum front segmentsOf count whole segments segmentAt eqZ within ltP eqP coordinate inRange cross between
+unfolding fillsRun clipRun sliceRun verdict asked askedFirst wrongLength unknownChoice tooShort first firstFrom drawingVerdict faultsOf meetingsOf unbalancedOf faultAt meetingAt unbalancedAt fault endsInRange rises windingInRange bitsInRange balance balances meetsWrongly parts inInterior sameEnds side total any sum front segmentsOf count whole segments segmentAt eqZ within ltP eqP coordinate inRange cross between
 cases = record {
   on-the-limit = refl;
   past-the-limit = refl;

@@ -12,7 +12,7 @@ use Rattle.ends.specs.Ends.{endBefore}
 use Rattle.ends.specs.Ordering.{ordering}
 use Rattle.graph.specs.Nodes.{NodesIn}
 use Rattle.count_up.specs.CountUp.{Counted}
-use Rattle.balance.specs.Balance.{Numbered}
+use Rattle.balance.specs.Balance.{NodesByPoint}
 
 -- ---- the run's
 -- room for the nodes and the top counts of a drawing, unless it is too large
@@ -47,4 +47,4 @@ pub record OrderedIn (d : Drawing) (flat : List ℕ) : Type 0 where
 
 pub record NumberedIn (d : Drawing) (nodes : List ℕ) : Type 0 where
   pub each-end : 2 * length d ≤ length nodes
-  pub numbered : Numbered d (take (2 * length d) nodes)
+  pub numbered : NodesByPoint d (take (2 * length d) nodes)

@@ -15,8 +15,8 @@ ghost use Rattle.faults.specs.Faultless.{Proper, Faultless};
 ghost use Rattle.ends.specs.Ends.{endBefore};
 ghost use Rattle.ends.specs.Ordering.{ordering};
 ghost use Rattle.meetings.specs.Meetings.{meetsWrongly};
-ghost use Rattle.count_up.specs.CountUp.{Within, Counted};
-ghost use Rattle.balance.specs.Balance.{Numbered};
+ghost use Rattle.count_up.specs.CountUp.{BoundedBy, Counted};
+ghost use Rattle.balance.specs.Balance.{NodesByPoint};
 ghost use Rattle.checks.specs.Drawing.{meetingAt, meetingsOf, unbalancedOf, drawingVerdict};
 ghost use Rattle.checks.specs.Runs.{fillsRun, clipRun, sliceRun, asked, verdict};
 ghost use Rattle.checks.specs.Memory.{DrawingRoom, EndsRoom, OrderedIn, NumberedIn, Checked};
@@ -71,7 +71,7 @@ fn find_meeting(s: &[i32], flat: &[u16], tops: &mut [i32]) -> Verdict
         Faultless d
         × (now flat ≡ ordering (endBefore d) (upFrom 0 (2 * length d)))
         × (length d ≤ length (now tops))
-        × Within 0 (now tops)) ⌝ }
+        × BoundedBy 0 (now tops)) ⌝ }
     ensures { λ r. ⌜ (let d = segments (now (s .entry)) in (r ≡ meetingsOf d) × (r ≡ Accepted → Counted d (now (tops .exit)))) ⌝ }
 {
     if meeting_sweep::is_clear(s, flat, tops) {
@@ -83,7 +83,7 @@ fn find_meeting(s: &[i32], flat: &[u16], tops: &mut [i32]) -> Verdict
 // Refusal 9, at the first place of a segment that touches an unbalanced point.
 fn find_unbalanced(s: &[i32], nodes: &[u16], sums: &mut [i32]) -> Verdict
     requires { ⌜ Faultless (segments (now s))
-        × Numbered (segments (now s)) (now nodes)
+        × NodesByPoint (segments (now s)) (now nodes)
         × (2 * length (segments (now s)) ≤ length (now sums))
         × ((v : ℕ) → getD (now sums) v (pos 0) ≡ pos 0) ⌝ }
     ensures { λ r. ⌜ r ≡ unbalancedOf (segments (now (s .entry))) ⌝ }
@@ -110,7 +110,7 @@ fn find_by_ends(
         × (2 * length d ≤ length (now sums))
         × ((v : ℕ) → getD (now sums) v (pos 0) ≡ pos 0)
         × (length d ≤ length (now tops))
-        × Within 0 (now tops)) ⌝ }
+        × BoundedBy 0 (now tops)) ⌝ }
     ensures { λ r. ⌜ (let d = segments (now (s .entry)) in
         (r ≡ (meetingsOf d then unbalancedOf d)) × (r ≡ Accepted → Counted d (now (tops .exit)))) ⌝ }
 {

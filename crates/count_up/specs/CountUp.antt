@@ -9,13 +9,13 @@ use Rattle.geom.specs.Points.{ltP}
 use Rattle.lists.specs.Members.{_∈_}
 use Rattle.segm.specs.Segments.{Drawing, segmentAt}
 use Rattle.strip.specs.Strip.{isVertical, spans}
-use Rattle.neighbours.specs.Neighbours.{Ordered}
+use Rattle.strip.specs.Neighbours.{InOrder}
 use Rattle.scan.specs.declared.Sought.the-variants.{At}
 use Rattle.scan.specs.Scan.{Changes, belowAt}
 
 -- l: in order, those of the first m places that span strip x. With all places it is the list after the event at x; while segments enter, m have
-pub record Held (d : Drawing) (m : ℕ) (x : ℤ) (l : List ℕ) : Type 0 where
-  pub order : Ordered d l
+pub record OpenAt (d : Drawing) (m : ℕ) (x : ℤ) (l : List ℕ) : Type 0 where
+  pub order : InOrder d l
   pub mine : (i : ℕ) → i ∈ l → (i < m) × (spans (segmentAt d i) x ≡ true)
   pub every : (i : ℕ) → i < m → spans (segmentAt d i) x ≡ true → i ∈ l
 
@@ -33,9 +33,9 @@ countUp d count (i ∷ l) tops = let top = count +ℤ segmentAt d i .winding in 
 -- count is, of each segment, that of the one before it in the list where it starts, and its own winding: once all that start at its point have entered;
 -- of a vertical one it is that of the one before the place of its head
 pub record Counts (d : Drawing) (count : ℕ → ℤ) : Type 0 where
-  pub entered : (m : ℕ) (below : List ℕ) (i : ℕ) (more : List ℕ) → m ≤ length d → Held d m (segmentAt d i .a .x) (below ++ (i ∷ more))
+  pub entered : (m : ℕ) (below : List ℕ) (i : ℕ) (more : List ℕ) → m ≤ length d → OpenAt d m (segmentAt d i .a .x) (below ++ (i ∷ more))
       → ((k : ℕ) → m ≤ k → k < length d → ltP (segmentAt d i .a) (segmentAt d k .a) ≡ true) → count i ≡ lastOf count below +ℤ segmentAt d i .winding
-  pub vertical : (v m : ℕ) → v < length d → isVertical (segmentAt d v) ≡ true → m ≤ length d → (l : List ℕ) → Held d m (segmentAt d v .a .x) l
+  pub vertical : (v m : ℕ) → v < length d → isVertical (segmentAt d v) ≡ true → m ≤ length d → (l : List ℕ) → OpenAt d m (segmentAt d v .a .x) l
       → ((k : ℕ) → m ≤ k → k < length d → ltP (segmentAt d v .a) (segmentAt d k .a) ≡ true)
       → (k : ℕ) → Changes (belowAt d (At (segmentAt d v .b)) l) 0 (length l) k → count v ≡ lastOf count (take k l) +ℤ segmentAt d v .winding
 
@@ -48,7 +48,7 @@ abbrev pub Counted : Drawing → List ℤ → Type 0
 Counted d tops = (count : ℕ → ℤ) → Counts d count → Tops count (length d) tops
 
 -- the counts of some places are written, and nothing else
-pub record Written (count : ℕ → ℤ) (places : List ℕ) (old new : List ℤ) : Type 0 where
+pub record CountsWritten (count : ℕ → ℤ) (places : List ℕ) (old new : List ℤ) : Type 0 where
   pub size : length new ≡ length old
   pub here : (k : ℕ) → k ∈ places → getD new k (pos 0) ≡ count k
   pub others : (k : ℕ) → (k ∈ places → ⊥) → getD new k (pos 0) ≡ getD old k (pos 0)
@@ -59,8 +59,8 @@ abbrev pub lastIn : List ℤ → List ℕ → ℤ
 lastIn tops l = lastOf (λ i. getD tops i (pos 0)) l
 
 -- no entry is greater than b, by its absolute value
-abbrev pub Within : ℕ → List ℤ → Type 0
-Within b tops = (i : ℕ) → natAbs (getD tops i (pos 0)) ≤ b
+abbrev pub BoundedBy : ℕ → List ℤ → Type 0
+BoundedBy b tops = (i : ℕ) → natAbs (getD tops i (pos 0)) ≤ b
 
 -- from low on, down from a place, stand places of the drawing that are `first` or more, and none such before it
 pub record LowEnd (first place : ℕ) (l : List ℕ) (low : ℕ) : Type 0 where

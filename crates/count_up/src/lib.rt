@@ -1,5 +1,4 @@
-// The top counts of the segments that start at one point, by their places in the ordered list of the open ones. Every function here is proved, and the crate assumes
-// nothing of its own.
+// The top counts of the segments that start at one point, by their places in the ordered list of the open ones.
 ghost use mathlib.Core.Path.{_≡_};
 ghost use Prim.Native.Nat.{ℕ, _≤_, _<_};
 ghost use lib.ListN.{length};
@@ -7,8 +6,8 @@ ghost use lib.IntN.{natAbs};
 ghost use Rattle.lists.specs.Members.{_∈_};
 ghost use Rattle.segm.specs.Segments.{segments};
 ghost use Rattle.faults.specs.Faultless.{Faultless};
-ghost use Rattle.neighbours.specs.Neighbours.{Known};
-ghost use Rattle.count_up.specs.CountUp.{countUp, lastIn, Within, LowEnd, HighEnd, Climbed};
+ghost use Rattle.strip.specs.Neighbours.{PlacesOf};
+ghost use Rattle.count_up.specs.CountUp.{countUp, lastIn, BoundedBy, LowEnd, HighEnd, Climbed};
 
 // Down from a place of the list, the last place from which on all are `first` or more.
 fn low_end(list: &[u16], first: usize, place: usize) -> usize
@@ -57,7 +56,7 @@ pub fn count_below(list: &[u16], tops: &[i32]) -> i32
 fn count_up(s: &[i32], stretch: &[u16], under: i32, tops: &mut [i32])
     requires { ⌜ (let d = segments (now s) in
         Faultless d
-        × Known d (now stretch)
+        × PlacesOf d (now stretch)
         × (length (now stretch) ≤ 1024)
         × (natAbs under ≤ 2100000000)
         × (length d ≤ length (now tops))) ⌝ }
@@ -78,10 +77,10 @@ fn count_up(s: &[i32], stretch: &[u16], under: i32, tops: &mut [i32])
 pub fn count_node(s: &[i32], list: &[u16], first: usize, near: usize, tops: &mut [i32]) -> usize
     requires { ⌜ (let d = segments (now s) in
         Faultless d
-        × Known d (now list)
+        × PlacesOf d (now list)
         × (length (now list) ≤ 1024)
         × (near ≤ length (now list))
-        × Within 2100000000 (now tops)
+        × BoundedBy 2100000000 (now tops)
         × (length d ≤ length (now tops))) ⌝ }
     ensures { λ r. ⌜ Climbed (segments (now (s .entry))) first near (now (list .entry)) (now (tops .entry)) (now (tops .exit)) r ⌝ }
 {

@@ -19,20 +19,20 @@ use Rattle.lists.proofs.Members.{in-right}
 use Rattle.meetings.specs.Meetings.{side}
 use Rattle.checks.specs.Accepted.{Good}
 use Rattle.strip.specs.Strip.{under}
-use Rattle.strip.proofs.Gap.{side-own-a}
-use Rattle.strip.proofs.Apart.{Apart, turned, Over, over-wide, side-less, under-irrefl, under-asym, under-trans}
-use Rattle.strip.proofs.Compare.{later-j}
-use Rattle.strip.proofs.Tiers.{Tier}
+use Rattle.strip.proofs.Strip.Gap.{side-own-a}
+use Rattle.strip.proofs.Strip.Apart.{Apart, apart-sym, Over, over-wide, side-less, under-irrefl, under-asym, under-trans}
+use Rattle.strip.proofs.Strip.Compare.{later-j}
+use Rattle.strip.proofs.Strip.Tiers.{Tier}
 use Rattle.scan.specs.declared.Sought.the-variants.{At}
 use Rattle.scan.specs.Scan.{Changes, belowAt}
-use Rattle.neighbours.proofs.Upright.{Upright, vertical-upright}
-use Rattle.count_up.specs.CountUp.{Held, lastOf, Counts}
-use Rattle.count_up.proofs.Lists.{held-over, held-tiers}
+use Rattle.strip.proofs.Neighbours.Upright.{Upright, vertical-upright}
+use Rattle.count_up.specs.CountUp.{OpenAt, lastOf, Counts}
+use Rattle.count_up.proofs.CountUp.{open-over, open-tiers}
 use Rattle.ray.specs.Ray.{bottom, top}
 use Rattle.ray.proofs.Ray.{bottom-strip}
 use Rattle.ray.proofs.Invariance.{one-or-apart, proper, beneath}
 use Rattle.list_counts.specs.ListCounts.{topAt}
-use Rattle.list_counts.proofs.Lowest.{pairs-parts, total-lowest, held-lowest}
+use Rattle.list_counts.proofs.Lowest.{pairs-parts, total-lowest, open-lowest}
 use Rattle.list_counts.proofs.Points.{point-last, later-not-below, bottom-head}
 
 -- s starts after t, straight above its start: it is not the lower
@@ -53,7 +53,7 @@ module _ {d : Drawing} (g : Good d) where
       go (inr k) = k
 
   -- m places have entered, and all others start after i
-  module _ {m : ℕ} (below : List ℕ) (i : ℕ) (more : List ℕ) (few : m ≤ length d) (h : Held d m (segmentAt d i .a .x) (below ++ (i ∷ more)))
+  module _ {m : ℕ} (below : List ℕ) (i : ℕ) (more : List ℕ) (few : m ≤ length d) (h : OpenAt d m (segmentAt d i .a .x) (below ++ (i ∷ more)))
       (after : (k : ℕ) → m ≤ k → k < length d → Before (segmentAt d i .a) (segmentAt d k .a)) where
     abbrev t : Segment
     t = segmentAt d i
@@ -65,23 +65,23 @@ module _ {d : Drawing} (g : Good d) where
     known = segment-in d i refl (let b = h .mine i here .0 in omega arith)
 
     o : Over (t .a .x) t
-    o = held-over h i here
+    o = open-over h i here
 
     not-lower : (k : ℕ) → (k ≡ i) ⊎ (k ∈ more) → under (t .a .x) (segmentAt d k) t ≡ false
     not-lower k (inl e) = ap (λ (n : ℕ). under (t .a .x) (segmentAt d n) t) e ∙ under-irrefl t (t .a .x)
-    not-lower k (inr n) = under-asym t (segmentAt d k) (t .a .x) (pairs-parts (λ i j. Tier (t .a .x) (segmentAt d i) (segmentAt d j)) below (i ∷ more) (held-tiers h) .2 .0 k n .lower)
+    not-lower k (inr n) = under-asym t (segmentAt d k) (t .a .x) (pairs-parts (λ i j. Tier (t .a .x) (segmentAt d i) (segmentAt d j)) below (i ∷ more) (open-tiers h) .2 .0 k n .lower)
 
     node-bottom : bottom d t ≡ lastOf (topAt d) below
     unfolding beneath
-    node-bottom = bottom-strip g t known (over-wide o) ∙ total-lowest g (held-lowest (λ s. under (t .a .x) s t) below (i ∷ more) few h
-        (λ k n. pairs-parts (λ i j. Tier (t .a .x) (segmentAt d i) (segmentAt d j)) below (i ∷ more) (held-tiers h) .1 k i n (inl refl) .lower) not-lower
-        (λ k n u q. later-not-lower (turned (after-apart known k u (after k n u))) q o (after k n u))
+    node-bottom = bottom-strip g t known (over-wide o) ∙ total-lowest g (open-lowest (λ s. under (t .a .x) s t) below (i ∷ more) few h
+        (λ k n. pairs-parts (λ i j. Tier (t .a .x) (segmentAt d i) (segmentAt d j)) below (i ∷ more) (open-tiers h) .1 k i n (inl refl) .lower) not-lower
+        (λ k n u q. later-not-lower (apart-sym (after-apart known k u (after k n u))) q o (after k n u))
         (λ s u p q l e. under-trans (t .a .x) (over-wide p) (over-wide q) (over-wide o) l e))
 
   -- the same of a vertical one and those before its head
-  vertical-bottom : {v : Segment} → v ∈ d → Upright v → {m : ℕ} → m ≤ length d → {l : List ℕ} → Held d m (v .a .x) l → ((k : ℕ) → m ≤ k → k < length d → Before (v .a) (segmentAt d k .a))
+  vertical-bottom : {v : Segment} → v ∈ d → Upright v → {m : ℕ} → m ≤ length d → {l : List ℕ} → OpenAt d m (v .a .x) l → ((k : ℕ) → m ≤ k → k < length d → Before (v .a) (segmentAt d k .a))
       → {k : ℕ} → Changes (belowAt d (At (v .b)) l) 0 (length l) k → bottom d v ≡ lastOf (topAt d) (take k l)
-  vertical-bottom {v} n u {m} few {l} h after c = bottom-head u g n ∙ point-last (v .b) (subst (λ x. Held d m x l) (sym (u .plumb)) h) c g few
+  vertical-bottom {v} n u {m} few {l} h after c = bottom-head u g n ∙ point-last (v .b) (subst (λ x. OpenAt d m x l) (sym (u .plumb)) h) c g few
       (λ k o s p. later-not-below u (after-apart n k s (after k o s)) (subst (λ x. Over x (segmentAt d k)) (u .plumb) p) (after k o s))
 
 -- THEOREM: what a sweep that counts up its lists leaves are the ray's top counts

@@ -18,12 +18,11 @@ use Rattle.lists.proofs.Members.{in-++, in-left, in-right}
 use Rattle.meetings.specs.Meetings.{sameEnds}
 use Rattle.checks.specs.Accepted.{Good}
 use Rattle.strip.specs.Strip.{spans, under}
-use Rattle.strip.proofs.Apart.{Apart, Over, over-wide, under-irrefl, sameEnds-off, sameEnds-on}
-use Rattle.strip.proofs.Above.{spans-on, spans-over}
-use Rattle.strip.proofs.Tiers.{Tier}
-use Rattle.count_up.specs.CountUp.{Held, lastOf}
-use Rattle.count_up.proofs.Lists.{held-over, held-tiers}
-use Rattle.count_up.proofs.Stretch.{last-of}
+use Rattle.strip.proofs.Strip.Apart.{Apart, Over, over-wide, under-irrefl, sameEnds-off, sameEnds-on}
+use Rattle.strip.proofs.Strip.Above.{spans-on, spans-over}
+use Rattle.strip.proofs.Strip.Tiers.{Tier}
+use Rattle.count_up.specs.CountUp.{OpenAt, lastOf}
+use Rattle.count_up.proofs.CountUp.{open-over, open-tiers, last-of}
 use Rattle.ray.specs.Ray.{top}
 use Rattle.ray.proofs.Ray.{once, bottom-strip}
 use Rattle.ray.proofs.Invariance.{one-or-apart, beneath, invariance}
@@ -104,13 +103,13 @@ module _ {d : Drawing} (g : Good d) {x : ℤ} {P : Segment → Bool} where
       go (last l h) r = up-to l h r ∙ sym (last-of (topAt d) l h)
 
 -- of a list in which m places have entered: those that pass, where none that is still to come does
-pub held-lowest : {d : Drawing} {m : ℕ} {x : ℤ} (P : Segment → Bool) (low high : List ℕ) → m ≤ length d → Held d m x (low ++ high)
+pub open-lowest : {d : Drawing} {m : ℕ} {x : ℤ} (P : Segment → Bool) (low high : List ℕ) → m ≤ length d → OpenAt d m x (low ++ high)
     → ((i : ℕ) → i ∈ low → P (segmentAt d i) ≡ true) → ((i : ℕ) → i ∈ high → P (segmentAt d i) ≡ false)
     → ((i : ℕ) → m ≤ i → i < length d → Over x (segmentAt d i) → P (segmentAt d i) ≡ false)
     → ((s t : Segment) → Over x s → Over x t → under x s t ≡ true → P t ≡ true → P s ≡ true) → Lowest d x P low
-held-lowest {d} {m} {x} P low high few h yes-low no-high no-later down = record {
-  order = pairs-parts (λ i j. Tier x (segmentAt d i) (segmentAt d j)) low high (held-tiers h) .0;
-  mine = λ i n. let k = in-left i low high n in (let b = h .mine i k .0 in omega arith, held-over h i k, yes-low i n);
+open-lowest {d} {m} {x} P low high few h yes-low no-high no-later down = record {
+  order = pairs-parts (λ i j. Tier x (segmentAt d i) (segmentAt d j)) low high (open-tiers h) .0;
+  mine = λ i n. let k = in-left i low high n in (let b = h .mine i k .0 in omega arith, open-over h i k, yes-low i n);
   every = λ i u o p. go i o p u (decLt i m);
   down = down;
 }

@@ -1,3 +1,1 @@
-pub mod Runs
-pub mod Sweeping
-pub mod ClearEvent
+pub mod Events

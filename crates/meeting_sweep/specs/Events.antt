@@ -4,7 +4,7 @@ use mathlib.Core.List.{List}
 use Prim.Native.Nat.{ℕ, _<_, _≤_}
 use lib.IntN.{ℤ}
 use Rattle.segm.specs.Segments.{Drawing}
-use Rattle.open_list.specs.OpenList.{CanLeave, Left}
+use Rattle.open_list.specs.OpenList.{CanLeave, HasLeft}
 use Rattle.verticals.specs.Verticals.{Unbroken}
 use Rattle.starts.specs.Starts.{Started, CanStart}
 
@@ -19,11 +19,11 @@ pub record Past (f : ℕ → ℤ) (k many : ℕ) (x : ℤ) (r : ℕ) : Type 0 wh
 pub record Happened (d : Drawing) (ends : List ℕ) (from to : ℕ) (l l′ : List ℕ) (tops tops′ : List ℤ) : Type 0 where
   pub between : List ℕ
   pub unbroken : Unbroken d ends
-  pub left : Left d ends l between
+  pub left : HasLeft d ends l between
   pub started : Started d from to between l′ tops tops′
 
 -- every test of the event is passed: what each of them asks for, in the order in which they are made
 pub record ClearEvent (d : Drawing) (ends : List ℕ) (from to : ℕ) (l : List ℕ) : Type 0 where
   pub unbroken : Unbroken d ends
   pub leaving : CanLeave d ends l
-  pub starting : (between : List ℕ) → Left d ends l between → CanStart d from to between
+  pub starting : (between : List ℕ) → HasLeft d ends l between → CanStart d from to between

@@ -1,20 +1,27 @@
-// Whether no two segments of a drawing meet wrongly, by a sweep from left to right after Shamos and Hoey in which only neighbours are compared: it says clear exactly
-// where none do. Every function here is proved, and the crate assumes nothing of its own.
+// A plane sweep after Shamos and Hoey: whether no two segments of a drawing meet wrongly. It goes from left to right and compares neighbours only, which is
+// enough (`strip`). It says clear exactly where none meet wrongly, and of a clear drawing it leaves the top counts.
 //
-// The open segments, those that span the strip just right of x and are not vertical, are a list of their places in the drawing, the lowest first. At each x where
-// something ends or starts, one event:
-// 1. no end there lies strictly between the ends of a vertical segment that starts there, and these do not overlap;
-// 2. what ends there leaves the list, and the two beside it are tested as new neighbours;
-// 3. what starts there, node by node in order of their points: what is not vertical enters the list and is tested against both neighbours; a vertical segment
-//    stands in a gap of the list as it then is, whose segments may touch it with their starts a only. What enters later starts at its head or above it.
-// The first test that is not passed ends the sweep. It takes vertical segments, any number of segments at one point, and segments on one line that touch at an end.
+// The status is the list of the open segments, those that span the strip just right of x, from the lowest up. It changes at events, the x at which segments
+// start or end. One event (`event`), which the first test that fails ends, and the sweep with it:
+// 1. the ends there, from the lowest up: none lies strictly between the ends of a vertical segment that starts there, and no two of these overlap
+//    (`verticals::are_unbroken`);
+// 2. what ends there leaves the list, and the two beside it are compared as new neighbours (`open_list::leave_all`);
+// 3. what starts there, node by node, a node being all that starts at one point (`starts::start_all`): what is not vertical enters the list and is compared
+//    with both neighbours;
+// 4. then the top counts of the node are written, each that of the segment below it in the list and its own winding;
+// 5. last its vertical segments, which stand in gaps of the list as it then is; what enters later starts at their heads or above.
 //
-// The top count of a segment is that of the one below it in the list, and its own winding; it is written when its node is complete, because all that starts at one
-// point stands side by side then. So a drawing that is clear has its top counts too.
+// Degenerate cases are taken as they are:
+// - vertical segments are never open, steps 1 and 5 have them. Others may start or end at their ends, and they may stand on each other;
+// - many segments at one point: those that start there enter in any order and stand side by side, so they are counted once all have entered;
+// - common ends: two with one start are ordered by their directions, two with one end by the side on which the later starts, and two on one line may touch at
+//   an end;
+// - ends on one x are one event: what ends there leaves before anything enters, so it is no neighbour of what starts there.
 //
-// `flat` has the ordered ends (end e below n is the a of segment e, end n + i the b of segment i), `list[..count]` the open segments; `passed` ends and `started`
-// segments are behind the sweep, and `near` is a place to look at first.
-use open_list::Held;
+// Names: `s` is the drawing, six numbers a segment; `flat` its ends in order of x, then y (of n segments, end e below n is the a of segment e, and n + i the b
+// of segment i); `list[..used]` has the places of the open segments; `tops` a top count for each place; `passed` ends and `started` segments are behind the
+// sweep; `near` and `guess` are places of the list to look at first; `clear` says that all tests were passed so far.
+use open_list::Status;
 ghost use mathlib.Core.Path.{_≡_};
 ghost use mathlib.Core.Logic.{_↔_};
 ghost use mathlib.Core.Bool.{true, false};
@@ -27,9 +34,9 @@ ghost use Rattle.ends.specs.Ends.{endPoint, endBefore};
 ghost use Rattle.ends.specs.Ordering.{ordering};
 ghost use Rattle.meetings.specs.Meetings.{NoneMeetWrongly};
 ghost use Rattle.faults.specs.Faultless.{Faultless};
-ghost use Rattle.neighbours.specs.Neighbours.{Known, Ordered, Distinct};
-ghost use Rattle.scan.specs.Scan.{Room};
-ghost use Rattle.count_up.specs.CountUp.{Within, Counted};
+ghost use Rattle.strip.specs.Neighbours.{PlacesOf, InOrder, Distinct};
+ghost use Rattle.scan.specs.Scan.{RoomFor};
+ghost use Rattle.count_up.specs.CountUp.{BoundedBy, Counted};
 ghost use Rattle.verticals.specs.Verticals.{Column};
 ghost use Rattle.starts.specs.Starts.{Splits};
 ghost use Rattle.meeting_sweep.specs.Events.{Past, Happened, ClearEvent};
@@ -41,36 +48,36 @@ fn event(
     from: usize,
     to: usize,
     list: &mut [u16],
-    count: usize,
+    used: usize,
     guess: usize,
     tops: &mut [i32],
-) -> Held
-    requires { ⌜ (let d = segments (now s) in let l = take count (now list) in
+) -> Status
+    requires { ⌜ (let d = segments (now s) in let l = take used (now list) in
         Faultless d
         × Column d (now ends)
         × (from ≤ to)
         × (to ≤ length d)
-        × (count ≤ from)
-        × Room (length d) (now list)
+        × (used ≤ from)
+        × RoomFor (length d) (now list)
         × (length d ≤ length (now tops))
-        × Known d l
-        × Ordered d l
+        × PlacesOf d l
+        × InOrder d l
         × Distinct l
         × Splits d from
         × Splits d to
-        × Within (2048000 * from) (now tops)) ⌝ }
-    ensures { λ r. ⌜ (let d = segments (now (s .entry)) in let l = take count (now (list .entry)) in let l′ = take (r .count) (now (list .exit)) in
-        (r .clear ≡ true → ((r .count ≤ to) × Happened d (now (ends .entry)) from to l l′ (now (tops .entry)) (now (tops .exit)) × Within (2048000 * to) (now (tops .exit))))
+        × BoundedBy (2048000 * from) (now tops)) ⌝ }
+    ensures { λ r. ⌜ (let d = segments (now (s .entry)) in let l = take used (now (list .entry)) in let l′ = take (r .used) (now (list .exit)) in
+        (r .clear ≡ true → ((r .used ≤ to) × Happened d (now (ends .entry)) from to l l′ (now (tops .entry)) (now (tops .exit)) × BoundedBy (2048000 * to) (now (tops .exit))))
         × (ClearEvent d (now (ends .entry)) from to l → r .clear ≡ true)) ⌝ }
 {
     if !verticals::are_unbroken(s, ends) {
         return open_list::unclear();
     }
-    let left = open_list::leave_all(s, ends, list, count, guess);
+    let left = open_list::leave_all(s, ends, list, used, guess);
     if !left.clear {
         return open_list::unclear();
     }
-    starts::start_all(s, from, to, list, left.count, left.near, tops)
+    starts::start_all(s, from, to, list, left.used, left.near, tops)
 }
 
 // Whether ends e and f lie at one x.
@@ -116,18 +123,18 @@ fn starts_past(s: &[i32], k: usize, e: usize) -> usize
 }
 
 // The sweep, from x to x of the ordered ends. The list is working memory; the tops are 0 before it.
-fn sweep(s: &[i32], flat: &[u16], list: &mut [u16], tops: &mut [i32]) -> bool
+fn sweep_events(s: &[i32], flat: &[u16], list: &mut [u16], tops: &mut [i32]) -> bool
     requires { ⌜ (let d = segments (now s) in
         Faultless d
         × (now flat ≡ ordering (endBefore d) (upFrom 0 (2 * length d)))
-        × Room (length d) (now list)
+        × RoomFor (length d) (now list)
         × (length d ≤ length (now tops))
-        × Within 0 (now tops)) ⌝ }
+        × BoundedBy 0 (now tops)) ⌝ }
     ensures { λ r. ⌜ ((r ≡ true) ↔ NoneMeetWrongly (segments (now (s .entry)))) × (r ≡ true → Counted (segments (now (s .entry))) (now (tops .exit))) ⌝ }
 {
     let mut passed: usize = 0;
     let mut started: usize = 0;
-    let mut count: usize = 0;
+    let mut used: usize = 0;
     let mut near: usize = 0;
     while passed < flat.len() {
         let ends = ends_past(s, flat, passed);
@@ -138,7 +145,7 @@ fn sweep(s: &[i32], flat: &[u16], list: &mut [u16], tops: &mut [i32]) -> bool
             started,
             starts,
             list,
-            count,
+            used,
             near,
             tops,
         );
@@ -147,7 +154,7 @@ fn sweep(s: &[i32], flat: &[u16], list: &mut [u16], tops: &mut [i32]) -> bool
         }
         passed = ends;
         started = starts;
-        count = held.count;
+        used = held.used;
         near = held.near;
     }
     true
@@ -159,13 +166,13 @@ pub fn is_clear(s: &[i32], flat: &[u16], tops: &mut [i32]) -> bool
         Faultless d
         × (now flat ≡ ordering (endBefore d) (upFrom 0 (2 * length d)))
         × (length d ≤ length (now tops))
-        × Within 0 (now tops)) ⌝ }
+        × BoundedBy 0 (now tops)) ⌝ }
     ensures { λ r. ⌜ ((r ≡ true) ↔ NoneMeetWrongly (segments (now (s .entry)))) × (r ≡ true → Counted (segments (now (s .entry))) (now (tops .exit))) ⌝ }
 {
     if segm::count(s) <= segm::SMALL {
         let mut list = [0u16; 144];
-        return sweep(s, flat, &mut list, tops);
+        return sweep_events(s, flat, &mut list, tops);
     }
     let mut list = [0u16; 1040];
-    sweep(s, flat, &mut list, tops)
+    sweep_events(s, flat, &mut list, tops)
 }

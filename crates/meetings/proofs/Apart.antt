@@ -5,12 +5,12 @@ use Rattle.integers.proofs.Booleans.{both, both-l, both-r, nor-r}
 use Rattle.geom.specs.Points.{eqP}
 use Rattle.geom.proofs.Points.{eqP-true, eq-eqP}
 use Rattle.segm.specs.declared.Segment.{Segment}
-use Rattle.meetings.specs.Meetings.{parts, inside, sameEnds, meetsWrongly}
+use Rattle.meetings.specs.Meetings.{parts, inInterior, sameEnds, meetsWrongly}
 
 pub apart-ends : (s t : Segment) → meetsWrongly s t ≡ false → sameEnds s t ≡ false
 unfolding meetsWrongly
 apart-ends s t e =
-    nor-r (inside t (s .a) || inside t (s .b)) (sameEnds s t) (nor-r (inside s (t .a) || inside s (t .b)) _ (nor-r (parts s t && parts t s) _ e))
+    nor-r (inInterior t (s .a) || inInterior t (s .b)) (sameEnds s t) (nor-r (inInterior s (t .a) || inInterior s (t .b)) _ (nor-r (parts s t && parts t s) _ e))
 
 pub same-ends-sym : (s t : Segment) → sameEnds s t ≡ true → sameEnds t s ≡ true
 unfolding sameEnds

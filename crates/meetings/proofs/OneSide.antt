@@ -13,7 +13,7 @@ use Rattle.geom.specs.Points.{eqZ, ltP, eqP, cross, between}
 use Rattle.geom.proofs.Points.{Before, eqZ-true, eqP-true, ltP-true, before-irrefl, before-le}
 use Rattle.geom.proofs.CrossProduct.{crossE, cross-swap, cross-rot}
 use Rattle.segm.specs.declared.Segment.{Segment}
-use Rattle.meetings.specs.Meetings.{side, parts, inside, sameEnds, meetsWrongly}
+use Rattle.meetings.specs.Meetings.{side, parts, inInterior, sameEnds, meetsWrongly}
 use Rattle.meetings.proofs.Right.{Opposite, parts-true}
 
 -- p and q are strictly on one side of 0
@@ -128,16 +128,16 @@ module _ (s t : Segment) (one : OneSide (side s (t .a)) (side s (t .b))) where
       go (inr h) (inl k) = let i = h .1 in let j = k .1 in omega ints
       go (inr h) (inr k) = let i = h .0 in let j = k .0 in omega ints
 
-  not-on-s : (p : Point) → (side s p ≡ pos 0 → ⊥) → inside s p ≡ false
-  unfolding inside side
+  not-on-s : (p : Point) → (side s p ≡ pos 0 → ⊥) → inInterior s p ≡ false
+  unfolding inInterior side
   not-on-s p f = is-false (between (s .a) (s .b) p) (λ e. f (on (s .a) (s .b) p e .line))
 
-  a-not-on : inside t (s .a) ≡ false
-  unfolding inside
+  a-not-on : inInterior t (s .a) ≡ false
+  unfolding inInterior
   a-not-on = is-false (between (t .a) (t .b) (s .a)) (λ e. let o = on (t .a) (t .b) (s .a) e in no-one-side (side s (t .a)) (side s (t .b)) one (cancels s (t .a) (t .b) (s .a) (o .after) (o .until) (weighed-a s (t .a) (t .b) (o .line))))
 
-  b-not-on : inside t (s .b) ≡ false
-  unfolding inside
+  b-not-on : inInterior t (s .b) ≡ false
+  unfolding inInterior
   b-not-on = is-false (between (t .a) (t .b) (s .b)) (λ e. let o = on (t .a) (t .b) (s .b) e in no-one-side (side s (t .a)) (side s (t .b)) one (cancels s (t .a) (t .b) (s .b) (o .after) (o .until) (weighed-b s (t .a) (t .b) (o .line))))
 
   -- seen from s
@@ -160,7 +160,7 @@ module _ (s t : Segment) (one : OneSide (side s (t .a)) (side s (t .b))) where
 
 -- one start, and t ends above s
 pub one-start : (s t : Segment) → s .a ≡ t .a → pos 0 <ℤ side s (t .b) → meetsWrongly s t ≡ false
-unfolding meetsWrongly inside sameEnds side
+unfolding meetsWrongly inInterior sameEnds side
 one-start s t e h =
     neither (not-l (parts t s) (is-false (parts s t) (λ k. opposite (parts-true s t k))))
     (neither (neither (off (s .a) (s .b) (t .a) (λ o. irrefl (o .after))) (off (s .a) (s .b) (t .b) (λ o. above (o .line))))
@@ -208,12 +208,12 @@ module _ (s t : Segment) (e : s .b ≡ t .b) (off-s : side s (t .a) ≡ pos 0 �
   unfolding side
   turned z = off-s (cross-swap (s .a) (s .b) (t .a) ∙ ap negℤ (cross-rot (s .a) (t .a) (s .b) ∙ ap (λ (p : Point). cross (t .a) p (s .a)) e ∙ z))
 
-  s-clear : (inside s (t .a) ≡ false) × (inside s (t .b) ≡ false)
-  unfolding inside side
+  s-clear : (inInterior s (t .a) ≡ false) × (inInterior s (t .b) ≡ false)
+  unfolding inInterior side
   s-clear = (out (s .a) (s .b) (t .a) (λ o. off-s (o .line)), out (s .a) (s .b) (t .b) (λ o. before-irrefl (subst (λ (p : Point). Before p (s .b)) (sym e) (o .until))))
 
-  t-clear : (inside t (s .a) ≡ false) × (inside t (s .b) ≡ false)
-  unfolding inside
+  t-clear : (inInterior t (s .a) ≡ false) × (inInterior t (s .b) ≡ false)
+  unfolding inInterior
   t-clear = (out (t .a) (t .b) (s .a) (λ o. turned (o .line)), out (t .a) (t .b) (s .b) (λ o. before-irrefl (subst (λ (p : Point). Before (s .b) p) (sym e) (o .until))))
 
   starts : s .a ≡ t .a → ⊥

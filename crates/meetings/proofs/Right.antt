@@ -15,7 +15,7 @@ use Rattle.geom.specs.Points.{eqZ, ltP, eqP, cross, between}
 use Rattle.geom.proofs.Points.{ltP-true, ltP-right, eqP-apart, before-le}
 use Rattle.geom.proofs.CrossProduct.{crossE}
 use Rattle.segm.specs.declared.Segment.{Segment}
-use Rattle.meetings.specs.Meetings.{side, parts, inside, sameEnds, meetsWrongly}
+use Rattle.meetings.specs.Meetings.{side, parts, inInterior, sameEnds, meetsWrongly}
 use Rattle.faults.specs.Faultless.{Proper}
 
 -- the sides differ by the same on both
@@ -101,7 +101,7 @@ module _ (s t : Segment) (ps : Proper s) (pt : Proper t) (right : s .b .x <ℤ t
   far-b = let h = before-le (ltP-true (pt .rises)) in omega ints
 
   pub starts-right : meetsWrongly s t ≡ false
-  unfolding meetsWrongly inside sameEnds
+  unfolding meetsWrongly inInterior sameEnds
   starts-right =
       neither (is-false (parts s t && parts t s) (λ e. no-crossing (parts-true s t (both-l (parts s t) (parts t s) e)) (parts-true t s (both-r (parts s t) (parts t s) e))))
       (neither (neither (beyond (s .a) (s .b) (t .a) (ltP-right (t .a) (s .b) (lt-ltZ right))) (beyond (s .a) (s .b) (t .b) (ltP-right (t .b) (s .b) (lt-ltZ far-b))))

@@ -19,9 +19,9 @@ parts s t =
     (ltZ (side s (t .a)) (pos 0) && ltZ (pos 0) (side s (t .b)))
     || (ltZ (pos 0) (side s (t .a)) && ltZ (side s (t .b)) (pos 0))
 
--- p lies on s strictly between its ends
-unfoldable pub inside : Segment → Point → Bool
-inside s p = between (s .a) (s .b) p
+-- p lies in the interior of s: on it, strictly between its ends
+unfoldable pub inInterior : Segment → Point → Bool
+inInterior s p = between (s .a) (s .b) p
 
 -- both ends are equal
 unfoldable pub sameEnds : Segment → Segment → Bool
@@ -31,8 +31,8 @@ sameEnds s t = eqP (s .a) (t .a) && eqP (s .b) (t .b)
 unfoldable pub meetsWrongly : Segment → Segment → Bool
 meetsWrongly s t =
     (parts s t && parts t s)
-    || ((inside s (t .a) || inside s (t .b))
-    || ((inside t (s .a) || inside t (s .b))
+    || ((inInterior s (t .a) || inInterior s (t .b))
+    || ((inInterior t (s .a) || inInterior t (s .b))
     || sameEnds s t))
 
 -- no two segments of a drawing meet wrongly

@@ -3,7 +3,7 @@ use segm::Segment;
 ghost use mathlib.Core.Path.{_≡_};
 ghost use mathlib.Core.Bool.{_&&_, _||_};
 ghost use Rattle.faults.specs.Faultless.{Proper};
-ghost use Rattle.meetings.specs.Meetings.{parts, inside, sameEnds, meetsWrongly};
+ghost use Rattle.meetings.specs.Meetings.{parts, inInterior, sameEnds, meetsWrongly};
 
 // Whether t's ends lie strictly on opposite sides of s.
 fn parts(s: Segment, t: Segment) -> bool
@@ -35,9 +35,9 @@ fn crosses(s: Segment, t: Segment) -> bool
 }
 
 // Whether an end of t lies on s strictly between its ends.
-fn end_inside(s: Segment, t: Segment) -> bool
+fn end_in_interior(s: Segment, t: Segment) -> bool
     requires { ⌜ Proper s × Proper t ⌝ }
-    ensures { λ r. ⌜ r ≡ (inside s (t .a) || inside s (t .b)) ⌝ }
+    ensures { λ r. ⌜ r ≡ (inInterior s (t .a) || inInterior s (t .b)) ⌝ }
 {
     let a = s.a;
     let b = s.b;
@@ -76,10 +76,10 @@ pub fn meets_wrongly(s: Segment, t: Segment) -> bool
     if crosses(s, t) {
         return true;
     }
-    if end_inside(s, t) {
+    if end_in_interior(s, t) {
         return true;
     }
-    if end_inside(t, s) {
+    if end_in_interior(t, s) {
         return true;
     }
     same_ends(s, t)

@@ -9,27 +9,27 @@ use lib.IntN.{ℤ}
 use Rattle.lists.specs.Members.{_∈_}
 use Rattle.segm.specs.Segments.{Drawing, segmentAt}
 use Rattle.meetings.specs.Meetings.{NoneMeetWrongly}
-use Rattle.strip.specs.Strip.{isVertical, spans, Next}
-use Rattle.neighbours.specs.Neighbours.{Ordered, Distinct}
+use Rattle.strip.specs.Strip.{isVertical, spans, LowerNeighbour}
+use Rattle.strip.specs.Neighbours.{InOrder, Distinct}
 
 -- ---- neighbours
 -- i may stand right over the one before place k, if there is one
 abbrev pub StandsOver : Drawing → ℕ → ℕ → List ℕ → Type 0
-StandsOver d k i l = (j : ℕ) → suc j ≡ k → Next (segmentAt d (getD l j 0)) (segmentAt d i)
+StandsOver d k i l = (j : ℕ) → suc j ≡ k → LowerNeighbour (segmentAt d (getD l j 0)) (segmentAt d i)
 
 -- i may stand right under the one at place k, if there is one
 abbrev pub StandsUnder : Drawing → ℕ → ℕ → List ℕ → Type 0
-StandsUnder d k i l = k < length l → Next (segmentAt d i) (segmentAt d (getD l k 0))
+StandsUnder d k i l = k < length l → LowerNeighbour (segmentAt d i) (segmentAt d (getD l k 0))
 
 -- both, of a place in the list or at its end
 pub record FitsAt (d : Drawing) (k i : ℕ) (l : List ℕ) : Type 0 where
-  pub inside : k ≤ length l
+  pub till : k ≤ length l
   pub over : StandsOver d k i l
   pub under : StandsUnder d k i l
 
 -- the two beside place k may become neighbours
 abbrev pub ClosesAt : Drawing → ℕ → List ℕ → Type 0
-ClosesAt d k l = (j : ℕ) → suc j ≡ k → suc k < length l → Next (segmentAt d (getD l j 0)) (segmentAt d (getD l (suc k) 0))
+ClosesAt d k l = (j : ℕ) → suc j ≡ k → suc k < length l → LowerNeighbour (segmentAt d (getD l j 0)) (segmentAt d (getD l (suc k) 0))
 
 -- ---- where every test is passed
 -- no two segments meet wrongly, and those of the list span strip x
@@ -42,7 +42,7 @@ pub record CanLeave (d : Drawing) (ends l : List ℕ) : Type 0 where
   pub x : ℤ
   pub spanning : Spanning d x l
   pub distinct : Distinct ends
-  pub inside : (i : ℕ) → length d + i ∈ ends → isVertical (segmentAt d i) ≡ false → i ∈ l
+  pub in-list : (i : ℕ) → length d + i ∈ ends → isVertical (segmentAt d i) ≡ false → i ∈ l
 
 -- what enters of places from..to, all that is not vertical, spans the strip of the list too. All of the list are places before these
 pub record CanEnter (d : Drawing) (from to : ℕ) (l : List ℕ) : Type 0 where
@@ -53,8 +53,8 @@ pub record CanEnter (d : Drawing) (from to : ℕ) (l : List ℕ) : Type 0 where
 
 -- ---- what happens to the list
 -- l′ is l without the segments that are not vertical and end at one of the ends
-pub record Left (d : Drawing) (ends l l′ : List ℕ) : Type 0 where
-  pub order : Ordered d l′
+pub record HasLeft (d : Drawing) (ends l l′ : List ℕ) : Type 0 where
+  pub order : InOrder d l′
   pub distinct : Distinct l′
   pub kept : (i : ℕ) → i ∈ l′ → i ∈ l
   pub gone : (i : ℕ) → length d + i ∈ ends → isVertical (segmentAt d i) ≡ false → i ∈ l′ → ⊥
@@ -62,7 +62,7 @@ pub record Left (d : Drawing) (ends l l′ : List ℕ) : Type 0 where
 
 -- l′ is l with the segments of places from..to that are not vertical
 pub record Entered (d : Drawing) (from to : ℕ) (l l′ : List ℕ) : Type 0 where
-  pub order : Ordered d l′
+  pub order : InOrder d l′
   pub kept : (i : ℕ) → i ∈ l → i ∈ l′
   pub came : (i : ℕ) → from ≤ i → i < to → isVertical (segmentAt d i) ≡ false → i ∈ l′
   pub mine : (i : ℕ) → i ∈ l′ → (i ∈ l) ⊎ ((from ≤ i) × (i < to) × (isVertical (segmentAt d i) ≡ false))

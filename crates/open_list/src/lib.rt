@@ -1,6 +1,12 @@
-// What enters and leaves the ordered list of the open segments, with a test of every two that become neighbours. Every function here is proved, and the crate
-// assumes nothing of its own. Each promise has two halves: what holds of the list where all tests were passed, and where they are: in a drawing in which no two
-// segments meet wrongly, of a list that spans one strip.
+// The status of the sweep: the list of the open segments, from the lowest up, in which every two that become neighbours are compared. Where one leaves these
+// are the two beside it (`leave_all`), where one enters it and both its neighbours (`enter_all`). Each in turn: its place is found, near the last one's or by
+// search, the new neighbours are compared, and the list is moved. Vertical segments are passed over.
+//
+// Each promise has two halves: what holds of the list where all tests were passed, and where they are: in a drawing in which no two segments meet wrongly, of
+// a list that spans one strip.
+//
+// Names: `list[..used]` has places of the drawing; k is a place of the list, i and j are places of the drawing with the segments t and u, and e is an end;
+// `near` is where the last one left or entered, `guess` where to look first.
 use scan::Sought;
 use segm::Segment;
 ghost use mathlib.Core.Path.{_≡_};
@@ -13,25 +19,25 @@ ghost use lib.IntN.{ℤ};
 ghost use Rattle.lists.specs.Members.{_∈_};
 ghost use Rattle.segm.specs.Segments.{segments, segmentAt};
 ghost use Rattle.faults.specs.Faultless.{Proper, Faultless};
-ghost use Rattle.strip.specs.Strip.{Next};
-ghost use Rattle.neighbours.specs.Neighbours.{Known, Ordered, Distinct};
-ghost use Rattle.scan.specs.Scan.{Room, Listed};
-ghost use Rattle.open_list.specs.OpenList.{StandsOver, StandsUnder, FitsAt, ClosesAt, Spanning, CanLeave, CanEnter, Left, Entered, Older, Marked, Marks};
+ghost use Rattle.strip.specs.Strip.{LowerNeighbour};
+ghost use Rattle.strip.specs.Neighbours.{PlacesOf, InOrder, Distinct};
+ghost use Rattle.scan.specs.Scan.{RoomFor, ProperAt};
+ghost use Rattle.open_list.specs.OpenList.{StandsOver, StandsUnder, FitsAt, ClosesAt, Spanning, CanLeave, CanEnter, HasLeft, Entered, Older, Marked, Marks};
 
 // How many segments are open, a place of the list, and whether all tests were passed so far. The place is where a segment left or entered: at one x ends and
 // starts come in order, so that of the next one is near; and what changes at the next x is often near the lowest that changed at this one.
-pub struct Held {
-    pub count: usize,
+pub struct Status {
+    pub used: usize,
     pub near: usize,
     pub clear: bool,
 }
 
 // A test was not passed.
-pub fn unclear() -> Held
+pub fn unclear() -> Status
     ensures { λ r. ⌜ r .clear ≡ false ⌝ }
 {
-    Held {
-        count: 0,
+    Status {
+        used: 0,
         near: 0,
         clear: false,
     }
@@ -41,7 +47,7 @@ pub fn unclear() -> Held
 // segment, or the two have one end or one start, nothing more has to be looked at.
 fn follows(t: Segment, u: Segment) -> bool
     requires { ⌜ Proper t × Proper u ⌝ }
-    ensures { λ r. ⌜ (r ≡ true) ↔ Next t u ⌝ }
+    ensures { λ r. ⌜ (r ≡ true) ↔ LowerNeighbour t u ⌝ }
 {
     let a = t.a;
     let b = t.b;
@@ -75,9 +81,9 @@ fn follows(t: Segment, u: Segment) -> bool
 }
 
 // Whether the segment at place i may stand right under that at place j.
-fn is_next(s: &[i32], i: u16, j: u16) -> bool
-    requires { ⌜ Listed (segments (now s)) i × Listed (segments (now s)) j ⌝ }
-    ensures { λ r. ⌜ (r ≡ true) ↔ Next (segmentAt (segments (now (s .entry))) i) (segmentAt (segments (now (s .entry))) j) ⌝ }
+fn is_lower_neighbour(s: &[i32], i: u16, j: u16) -> bool
+    requires { ⌜ ProperAt (segments (now s)) i × ProperAt (segments (now s)) j ⌝ }
+    ensures { λ r. ⌜ (r ≡ true) ↔ LowerNeighbour (segmentAt (segments (now (s .entry))) i) (segmentAt (segments (now (s .entry))) j) ⌝ }
 {
     follows(
         segm::segment_in(s, i as usize),
@@ -88,30 +94,30 @@ fn is_next(s: &[i32], i: u16, j: u16) -> bool
 // Whether the segment at place i may stand right over the one before place k of the list, if there is one.
 fn stands_over(s: &[i32], list: &[u16], k: usize, i: u16) -> bool
     requires { ⌜ (let d = segments (now s) in
-        Faultless d × Known d (now list) × (i < length d) × (k ≤ length (now list))) ⌝ }
+        Faultless d × PlacesOf d (now list) × (i < length d) × (k ≤ length (now list))) ⌝ }
     ensures { λ r. ⌜ (r ≡ true) ↔ StandsOver (segments (now (s .entry))) k i (now (list .entry)) ⌝ }
 {
     if k == 0 {
         return true;
     }
-    is_next(s, list[k - 1], i)
+    is_lower_neighbour(s, list[k - 1], i)
 }
 
 // Whether it may stand right under the one at place k, if there is one.
 fn stands_under(s: &[i32], list: &[u16], k: usize, i: u16) -> bool
     requires { ⌜ (let d = segments (now s) in
-        Faultless d × Known d (now list) × (i < length d)) ⌝ }
+        Faultless d × PlacesOf d (now list) × (i < length d)) ⌝ }
     ensures { λ r. ⌜ (r ≡ true) ↔ StandsUnder (segments (now (s .entry))) k i (now (list .entry)) ⌝ }
 {
     if list.len() <= k {
         return true;
     }
-    is_next(s, i, list[k])
+    is_lower_neighbour(s, i, list[k])
 }
 
 // Whether the two beside place k of the list may become neighbours.
 fn closes_at(s: &[i32], list: &[u16], k: usize) -> bool
-    requires { ⌜ Faultless (segments (now s)) × Known (segments (now s)) (now list) × (k < length (now list)) ⌝ }
+    requires { ⌜ Faultless (segments (now s)) × PlacesOf (segments (now s)) (now list) × (k < length (now list)) ⌝ }
     ensures { λ r. ⌜ (r ≡ true) ↔ ClosesAt (segments (now (s .entry))) k (now (list .entry)) ⌝ }
 {
     if k == 0 {
@@ -120,27 +126,27 @@ fn closes_at(s: &[i32], list: &[u16], k: usize) -> bool
     if list.len() <= k + 1 {
         return true;
     }
-    is_next(s, list[k - 1], list[k + 1])
+    is_lower_neighbour(s, list[k - 1], list[k + 1])
 }
 
 // End e is passed: where a segment that is not vertical ends there, it leaves the list.
-fn leave_one(s: &[i32], e: u16, list: &mut [u16], count: usize, near: usize) -> Held
-    requires { ⌜ (let d = segments (now s) in let l = take count (now list) in
+fn leave_one(s: &[i32], e: u16, list: &mut [u16], used: usize, near: usize) -> Status
+    requires { ⌜ (let d = segments (now s) in let l = take used (now list) in
         Faultless d
         × (e < 2 * length d)
-        × Room count (now list)
-        × Known d l
-        × Ordered d l
+        × RoomFor used (now list)
+        × PlacesOf d l
+        × InOrder d l
         × Distinct l) ⌝ }
-    ensures { λ r. ⌜ (let d = segments (now (s .entry)) in let l = take count (now (list .entry)) in
-        (r .clear ≡ true → ((r .count ≤ count) × Left d (e ∷ []) l (take (r .count) (now (list .exit)))))
+    ensures { λ r. ⌜ (let d = segments (now (s .entry)) in let l = take used (now (list .entry)) in
+        (r .clear ≡ true → ((r .used ≤ used) × HasLeft d (e ∷ []) l (take (r .used) (now (list .exit)))))
         × (CanLeave d (e ∷ []) l → r .clear ≡ true)) ⌝ }
 {
     let n = segm::count(s);
     let end = e as usize;
     if end < n {
-        return Held {
-            count: count,
+        return Status {
+            used: used,
             near: near,
             clear: true,
         };
@@ -148,13 +154,13 @@ fn leave_one(s: &[i32], e: u16, list: &mut [u16], count: usize, near: usize) -> 
     let i = end - n;
     let t = segm::segment_in(s, i);
     if scan::is_vertical(t) {
-        return Held {
-            count: count,
+        return Status {
+            used: used,
             near: near,
             clear: true,
         };
     }
-    take_out(s, t, i, list, count, near)
+    take_out(s, t, i, list, used, near)
 }
 
 // A place of the list for i, whose segment is t: where the last one left or before it, if it stands there, else by search. Without a wrong meeting it stands
@@ -164,8 +170,8 @@ fn place_to_leave(s: &[i32], t: Segment, i: usize, list: &[u16], near: usize) ->
         Faultless d
         × (t ≡ segmentAt d i)
         × (i < length d)
-        × Known d (now list)
-        × Ordered d (now list)) ⌝ }
+        × PlacesOf d (now list)
+        × InOrder d (now list)) ⌝ }
     ensures { λ r. ⌜ (let l = now (list .entry) in
         (x : ℤ) → Spanning (segments (now (s .entry))) x l → i ∈ l → ((r < length l) × (getD l r 0 ≡ i))) ⌝ }
 {
@@ -185,33 +191,33 @@ fn place_to_leave(s: &[i32], t: Segment, i: usize, list: &[u16], near: usize) ->
 }
 
 // The segment t, at place i of the drawing, leaves the list.
-fn take_out(s: &[i32], t: Segment, i: usize, list: &mut [u16], count: usize, near: usize) -> Held
-    requires { ⌜ (let d = segments (now s) in let l = take count (now list) in
+fn take_out(s: &[i32], t: Segment, i: usize, list: &mut [u16], used: usize, near: usize) -> Status
+    requires { ⌜ (let d = segments (now s) in let l = take used (now list) in
         Faultless d
         × (t ≡ segmentAt d i)
         × (i < length d)
-        × Room count (now list)
-        × Known d l
-        × Ordered d l
+        × RoomFor used (now list)
+        × PlacesOf d l
+        × InOrder d l
         × Distinct l) ⌝ }
-    ensures { λ r. ⌜ (let d = segments (now (s .entry)) in let l = take count (now (list .entry)) in
-        (r .clear ≡ true → ((r .count ≤ count) × Left d ((length d + i) ∷ []) l (take (r .count) (now (list .exit)))))
+    ensures { λ r. ⌜ (let d = segments (now (s .entry)) in let l = take used (now (list .entry)) in
+        (r .clear ≡ true → ((r .used ≤ used) × HasLeft d ((length d + i) ∷ []) l (take (r .used) (now (list .exit)))))
         × ((x : ℤ) → Spanning d x l → i ∈ l → r .clear ≡ true)) ⌝ }
 {
-    let k = place_to_leave(s, t, i, &list[..count], near);
-    if count <= k {
+    let k = place_to_leave(s, t, i, &list[..used], near);
+    if used <= k {
         return unclear();
     }
     if list[k] as usize != i {
         return unclear();
     }
-    if !closes_at(s, &list[..count], k) {
+    if !closes_at(s, &list[..used], k) {
         return unclear();
     }
-    scan::remove(list, count, k);
-    let fewer = count - 1;
-    Held {
-        count: fewer,
+    scan::remove(list, used, k);
+    let fewer = used - 1;
+    Status {
+        used: fewer,
         near: k,
         clear: true,
     }
@@ -227,19 +233,19 @@ pub fn lowest_place(none_before: bool, lowest: usize, here: usize) -> usize {
 }
 
 // All these ends are passed, one after the other. The place told is the lowest at which one left, or the guess.
-pub fn leave_all(s: &[i32], ends: &[u16], list: &mut [u16], count: usize, guess: usize) -> Held
-    requires { ⌜ (let d = segments (now s) in let l = take count (now list) in
+pub fn leave_all(s: &[i32], ends: &[u16], list: &mut [u16], used: usize, guess: usize) -> Status
+    requires { ⌜ (let d = segments (now s) in let l = take used (now list) in
         Faultless d
         × ((e : ℕ) → e ∈ now ends → e < 2 * length d)
-        × Room count (now list)
-        × Known d l
-        × Ordered d l
+        × RoomFor used (now list)
+        × PlacesOf d l
+        × InOrder d l
         × Distinct l) ⌝ }
-    ensures { λ r. ⌜ (let d = segments (now (s .entry)) in let l = take count (now (list .entry)) in
-        (r .clear ≡ true → ((r .count ≤ count) × Left d (now (ends .entry)) l (take (r .count) (now (list .exit)))))
+    ensures { λ r. ⌜ (let d = segments (now (s .entry)) in let l = take used (now (list .entry)) in
+        (r .clear ≡ true → ((r .used ≤ used) × HasLeft d (now (ends .entry)) l (take (r .used) (now (list .exit)))))
         × (CanLeave d (now (ends .entry)) l → r .clear ≡ true)) ⌝ }
 {
-    let mut held = count;
+    let mut held = used;
     let mut near = guess;
     let mut lowest = guess;
     let mut k: usize = 0;
@@ -249,12 +255,12 @@ pub fn leave_all(s: &[i32], ends: &[u16], list: &mut [u16], count: usize, guess:
             return unclear();
         }
         near = left.near;
-        lowest = lowest_place(held == count, lowest, near);
-        held = left.count;
+        lowest = lowest_place(held == used, lowest, near);
+        held = left.used;
         k += 1;
     }
-    Held {
-        count: held,
+    Status {
+        used: held,
         near: lowest,
         clear: true,
     }
@@ -263,7 +269,7 @@ pub fn leave_all(s: &[i32], ends: &[u16], list: &mut [u16], count: usize, guess:
 // Whether the segment at place i may stand at place k of the list.
 fn fits_at(s: &[i32], list: &[u16], k: usize, i: u16) -> bool
     requires { ⌜ (let d = segments (now s) in
-        Faultless d × Known d (now list) × (i < length d) × (k ≤ length (now list))) ⌝ }
+        Faultless d × PlacesOf d (now list) × (i < length d) × (k ≤ length (now list))) ⌝ }
     ensures { λ r. ⌜ (r ≡ true) ↔ FitsAt (segments (now (s .entry))) k i (now (list .entry)) ⌝ }
 {
     if !stands_over(s, list, k, i) {
@@ -281,7 +287,7 @@ struct Place {
 // A place for the segment t, at place i of the drawing: where the last one entered, if it fits there, else by search. Without a wrong meeting it fits.
 fn place_to_enter(s: &[i32], t: Segment, i: u16, list: &[u16], near: usize) -> Place
     requires { ⌜ (let d = segments (now s) in
-        Faultless d × (t ≡ segmentAt d i) × Known d (now list) × (i < length d)) ⌝ }
+        Faultless d × (t ≡ segmentAt d i) × PlacesOf d (now list) × (i < length d)) ⌝ }
     ensures { λ r. ⌜ (let d = segments (now (s .entry)) in let l = now (list .entry) in
         (r .fits ≡ true → FitsAt d (r .at) i l)
         × ((x : ℤ) → Spanning d x (i ∷ l) → (i ∈ l → ⊥) → r .fits ≡ true)) ⌝ }
@@ -302,35 +308,35 @@ fn place_to_enter(s: &[i32], t: Segment, i: u16, list: &[u16], near: usize) -> P
 }
 
 // The segment at place i is passed: where it is not vertical it enters the list.
-fn enter_one(s: &[i32], i: usize, list: &mut [u16], count: usize, near: usize) -> Held
-    requires { ⌜ (let d = segments (now s) in let l = take count (now list) in
+fn enter_one(s: &[i32], i: usize, list: &mut [u16], used: usize, near: usize) -> Status
+    requires { ⌜ (let d = segments (now s) in let l = take used (now list) in
         Faultless d
         × (i < length d)
-        × Room count (now list)
-        × Known d l
-        × Ordered d l) ⌝ }
-    ensures { λ r. ⌜ (let d = segments (now (s .entry)) in let l = take count (now (list .entry)) in let l′ = take (r .count) (now (list .exit)) in
-        (r .clear ≡ true → ((r .count ≤ count + 1) × Entered d i (i + 1) l l′ × Marked i near l (r .near) l′))
+        × RoomFor used (now list)
+        × PlacesOf d l
+        × InOrder d l) ⌝ }
+    ensures { λ r. ⌜ (let d = segments (now (s .entry)) in let l = take used (now (list .entry)) in let l′ = take (r .used) (now (list .exit)) in
+        (r .clear ≡ true → ((r .used ≤ used + 1) × Entered d i (i + 1) l l′ × Marked i near l (r .near) l′))
         × (CanEnter d i (i + 1) l → r .clear ≡ true)) ⌝ }
 {
     let t = segm::segment_in(s, i);
     if scan::is_vertical(t) {
-        return Held {
-            count: count,
+        return Status {
+            used: used,
             near: near,
             clear: true,
         };
     }
-    let place = place_to_enter(s, t, i as u16, &list[..count], near);
+    let place = place_to_enter(s, t, i as u16, &list[..used], near);
     if !place.fits {
         return unclear();
     }
     let k = place.at;
-    scan::insert(list, count, k, i as u16);
-    let more = count + 1;
+    scan::insert(list, used, k, i as u16);
+    let more = used + 1;
     let after = k + 1;
-    Held {
-        count: more,
+    Status {
+        used: more,
         near: after,
         clear: true,
     }
@@ -342,22 +348,22 @@ pub fn enter_all(
     from: usize,
     to: usize,
     list: &mut [u16],
-    count: usize,
+    used: usize,
     guess: usize,
-) -> Held
-    requires { ⌜ (let d = segments (now s) in let l = take count (now list) in
+) -> Status
+    requires { ⌜ (let d = segments (now s) in let l = take used (now list) in
         Faultless d
         × (from ≤ to)
         × (to ≤ length d)
-        × (count ≤ from)
-        × Room (length d) (now list)
-        × Known d l
-        × Ordered d l) ⌝ }
-    ensures { λ r. ⌜ (let d = segments (now (s .entry)) in let l = take count (now (list .entry)) in let l′ = take (r .count) (now (list .exit)) in
-        (r .clear ≡ true → ((r .count ≤ to) × Entered d from to l l′ × (Older from l → Marks from (r .near) l′)))
+        × (used ≤ from)
+        × RoomFor (length d) (now list)
+        × PlacesOf d l
+        × InOrder d l) ⌝ }
+    ensures { λ r. ⌜ (let d = segments (now (s .entry)) in let l = take used (now (list .entry)) in let l′ = take (r .used) (now (list .exit)) in
+        (r .clear ≡ true → ((r .used ≤ to) × Entered d from to l l′ × (Older from l → Marks from (r .near) l′)))
         × (CanEnter d from to l → r .clear ≡ true)) ⌝ }
 {
-    let mut held = count;
+    let mut held = used;
     let mut near = guess;
     let mut i = from;
     while i < to {
@@ -366,11 +372,11 @@ pub fn enter_all(
             return unclear();
         }
         near = entered.near;
-        held = entered.count;
+        held = entered.used;
         i += 1;
     }
-    Held {
-        count: held,
+    Status {
+        used: held,
         near: near,
         clear: true,
     }

@@ -20,10 +20,10 @@ use Rattle.segm.proofs.Segments.{only-cong, first-only, second-only, total-cong
 use Rattle.meetings.specs.Meetings.{side, meetsWrongly}
 use Rattle.checks.specs.Accepted.{Good}
 use Rattle.strip.specs.Strip.{spans, above, clockwise, reach, gap, under}
-use Rattle.strip.proofs.Signs.{Sign, minus, nil, plus, sign, up-pos, up-neg, down-pos, down-neg, down-nil, neg-pos, neg-neg, diff-nil}
-use Rattle.strip.proofs.Gap.{gap-at-b, gap-turn, side-at-a, side-at-b, side-vertical}
-use Rattle.strip.proofs.Apart.{Apart, apart, Wide, wide, Over, over-wide, under-right, under-total, under-irrefl, under-asym, under-trans, side-less}
-use Rattle.strip.proofs.Above.{spans-on, spans-over, spans-late, spans-past, above-on, above-off, above-yes, above-own-b, start-on}
+use Rattle.strip.proofs.Strip.Signs.{Sign, minus, nil, plus, sign, up-pos, up-neg, down-pos, down-neg, down-nil, neg-pos, neg-neg, diff-nil}
+use Rattle.strip.proofs.Strip.Gap.{gap-at-b, gap-turn, side-at-a, side-at-b, side-vertical}
+use Rattle.strip.proofs.Strip.Apart.{Apart, apart, Wide, wide, Over, over-wide, under-right, under-total, under-irrefl, under-asym, under-trans, side-less}
+use Rattle.strip.proofs.Strip.Above.{spans-on, spans-over, spans-late, spans-past, above-on, above-off, above-yes, above-own-b, start-on}
 use Rattle.ray.specs.Ray.{met, bottom}
 use Rattle.ray.proofs.Ray.{met-self, met-off, bottom-strip}
 use Rattle.ray.proofs.Flow.{flow}

@@ -20,10 +20,10 @@ use Rattle.segm.proofs.Segments.{straight, crossed, total-trade}
 use Rattle.meetings.specs.Meetings.{side, meetsWrongly}
 use Rattle.checks.specs.Accepted.{Good}
 use Rattle.strip.specs.Strip.{spans, above, gap, under}
-use Rattle.strip.proofs.Signs.{same-sign}
-use Rattle.strip.proofs.Gap.{gap-at-a, gap-at-b}
-use Rattle.strip.proofs.Apart.{Apart, turned, apart, Wide, wide, not-met, Over, over-wide, under-right, under-left, under-irrefl, vertical-one-side}
-use Rattle.strip.proofs.Above.{spans-on, spans-late, spans-past}
+use Rattle.strip.proofs.Strip.Signs.{same-sign}
+use Rattle.strip.proofs.Strip.Gap.{gap-at-a, gap-at-b}
+use Rattle.strip.proofs.Strip.Apart.{Apart, apart-sym, apart, Wide, wide, not-met, Over, over-wide, under-right, under-left, under-irrefl, vertical-one-side}
+use Rattle.strip.proofs.Strip.Above.{spans-on, spans-late, spans-past}
 use Rattle.ray.proofs.Flow.{flow}
 
 -- ---- what a good drawing gives of its members
@@ -33,7 +33,7 @@ one-or-apart {d} g j h m n = go (pairs-at (λ s t. meetsWrongly s t ≡ false) d
     go : (j ≡ h) ⊎ ((meetsWrongly j h ≡ false) ⊎ (meetsWrongly h j ≡ false)) → (j ≡ h) ⊎ Apart j h
     go (inl e) = inl e
     go (inr (inl e)) = inr (apart e)
-    go (inr (inr e)) = inr (turned (apart e))
+    go (inr (inr e)) = inr (apart-sym (apart e))
 
 pub proper : {d : Drawing} → Good d → (s : Segment) → s ∈ d → Before (s .a) (s .b)
 proper g s m = ltP-true (g .faultless .proper s m)

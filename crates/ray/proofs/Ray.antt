@@ -18,10 +18,10 @@ use Rattle.segm.proofs.Segments.{only-cong, total-cong, total-none}
 use Rattle.meetings.specs.Meetings.{side, sameEnds, meetsWrongly}
 use Rattle.checks.specs.Accepted.{Good}
 use Rattle.strip.specs.Strip.{spans, above, clockwise, gap, falls, under}
-use Rattle.strip.proofs.Signs.{Sign, minus, nil, plus, sign, up-pos, up-neg, up-nil, neg-pos, neg-neg, neg-nil, nil-le, falls-minus, falls-plus, falls-nil}
-use Rattle.strip.proofs.Gap.{gap-at-a, gap-turn, side-own-a}
-use Rattle.strip.proofs.Apart.{Apart, turned, apart, Wide, wide, Over, under-irrefl, sameEnds-off, sameEnds-on}
-use Rattle.strip.proofs.Above.{spans-over, above-on, above-off, above-own-a, above-own-b, start-on, start-turn}
+use Rattle.strip.proofs.Strip.Signs.{Sign, minus, nil, plus, sign, up-pos, up-neg, up-nil, neg-pos, neg-neg, neg-nil, nil-le, falls-minus, falls-plus, falls-nil}
+use Rattle.strip.proofs.Strip.Gap.{gap-at-a, gap-turn, side-own-a}
+use Rattle.strip.proofs.Strip.Apart.{Apart, apart-sym, apart, Wide, wide, Over, under-irrefl, sameEnds-off, sameEnds-on}
+use Rattle.strip.proofs.Strip.Above.{spans-over, above-on, above-off, above-own-a, above-own-b, start-on, start-turn}
 use Rattle.ray.specs.Ray.{met, bottom}
 use Rattle.ray.proofs.Invariance.{one-or-apart, beneath}
 
@@ -31,7 +31,7 @@ unfolding total sum
 once-in [] p h m = absurd m
 once-in (s ∷ d) p h (inl e) =
     ap₂ _+ℤ_ (only-cong (s .winding) (subst (λ t. sameEnds s t ≡ true) (sym e) (sameEnds-on s)))
-    (total-none d (λ j. sameEnds j h) (λ j n. subst (λ t. sameEnds j t ≡ false) (sym e) (sameEnds-off (turned (apart (p .0 j n))))))
+    (total-none d (λ j. sameEnds j h) (λ j n. subst (λ t. sameEnds j t ≡ false) (sym e) (sameEnds-off (apart-sym (apart (p .0 j n))))))
     ∙ +ℤ-idr (s .winding) ∙ ap (λ (t : Segment). t .winding) (sym e)
 once-in (s ∷ d) p h (inr m) = ap₂ _+ℤ_ (only-cong (s .winding) (sameEnds-off (apart (p .0 h m)))) (once-in d (p .1) h m) ∙ +ℤ-idl (h .winding)
 

@@ -16,9 +16,9 @@ use Rattle.lists.proofs.Members.{keep-in, pairs-keep}
 use Rattle.segm.proofs.Segments.{first-only, second-only, total-split}
 use Rattle.checks.specs.Accepted.{Good}
 use Rattle.strip.specs.Strip.{spans, above, clockwise}
-use Rattle.strip.proofs.Visits.{lowerStart, first, turn-wide, first-asym}
-use Rattle.strip.proofs.Apart.{Wide, Over}
-use Rattle.strip.proofs.Above.{spans-on, above-yes, above-own-a}
+use Rattle.strip.proofs.Strip.Visits.{lowerStart, first, turn-wide, first-asym}
+use Rattle.strip.proofs.Strip.Apart.{Wide, Over}
+use Rattle.strip.proofs.Strip.Above.{spans-on, above-yes, above-own-a}
 use Rattle.ray.specs.Ray.{met, bottom}
 use Rattle.ray.proofs.Visits.{visits-either, visits-chain}
 use Rattle.ray.proofs.Sorting.{Either}

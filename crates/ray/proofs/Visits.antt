@@ -6,8 +6,8 @@ use Rattle.segm.specs.Segments.{Drawing}
 use Rattle.lists.proofs.Members.{pairs-map}
 use Rattle.meetings.specs.Meetings.{meetsWrongly}
 use Rattle.checks.specs.Accepted.{Good}
-use Rattle.strip.proofs.Visits.{first, first-true, first-by, first-trans, first-total, first-either}
-use Rattle.strip.proofs.Apart.{apart}
+use Rattle.strip.proofs.Strip.Visits.{first, first-true, first-by, first-trans, first-total, first-either}
+use Rattle.strip.proofs.Strip.Apart.{apart}
 use Rattle.ray.proofs.Sorting.{Either, Chains}
 use Rattle.ray.proofs.Invariance.{proper}
 

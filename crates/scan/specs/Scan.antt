@@ -30,12 +30,12 @@ abbrev pub belowAt : Drawing → Sought → List ℕ → ℕ → Bool
 belowAt d sought l k = isBelow d sought (getD l k 0)
 
 -- i stands at place k, and those from there on one place further
-unfoldable pub putAt : ℕ → ℕ → List ℕ → List ℕ
-putAt k i l = take k l ++ (i ∷ drop k l)
+unfoldable pub insertAt : ℕ → ℕ → List ℕ → List ℕ
+insertAt k i l = take k l ++ (i ∷ drop k l)
 
 -- the one at place k is gone
-unfoldable pub outAt : ℕ → List ℕ → List ℕ
-outAt k l = take k l ++ drop (suc k) l
+unfoldable pub removeAt : ℕ → List ℕ → List ℕ
+removeAt k l = take k l ++ drop (suc k) l
 
 -- the n entries from place j on stand one place further, the last of them first
 unfoldable pub movedUp : ℕ → ℕ → List ℕ → List ℕ
@@ -48,17 +48,17 @@ movedDown zero j l = l
 movedDown (suc n) j l = movedDown n (suc j) (set l j (getD l (suc j) 0))
 
 -- memory for a list of so many, and for a block more that moves with it
-abbrev pub Room : ℕ → List ℕ → Type 0
-Room count list = count + 16 ≤ length list
+abbrev pub RoomFor : ℕ → List ℕ → Type 0
+RoomFor n list = n + 16 ≤ length list
 
 -- i is a place of the drawing, and its segment is proper
-pub record Listed (d : Drawing) (i : ℕ) : Type 0 where
+pub record ProperAt (d : Drawing) (i : ℕ) : Type 0 where
   pub inside : i < length d
   pub proper : Proper (segmentAt d i)
 
 -- all are
-abbrev pub AllListed : Drawing → List ℕ → Type 0
-AllListed d l = (i : ℕ) → i ∈ l → Listed d i
+abbrev pub AllProper : Drawing → List ℕ → Type 0
+AllProper d l = (i : ℕ) → i ∈ l → ProperAt d i
 
 -- what is sought is in range
 abbrev pub SoughtInRange : Sought → Type 0

@@ -1,4 +1,5 @@
-// The ordered list of the open segments, by their places, the lowest first. Every function here is proved, and the crate assumes nothing of its own.
+// The ordered list of the open segments, by their places, the lowest first: where a point or a segment stands in it, and how one enters and one leaves, in
+// place.
 use geom::Point;
 use segm::Segment;
 ghost use mathlib.Core.Path.{_≡_};
@@ -7,7 +8,7 @@ ghost use lib.ListN.{length, take};
 ghost use Rattle.segm.specs.Segments.{segments};
 ghost use Rattle.faults.specs.Faultless.{Proper};
 ghost use Rattle.strip.specs.Strip.{isVertical, underBySide};
-ghost use Rattle.scan.specs.Scan.{isBelow, belowAt, putAt, outAt, movedUp, movedDown, Room, Changes, Listed, AllListed, SoughtInRange};
+ghost use Rattle.scan.specs.Scan.{isBelow, belowAt, insertAt, removeAt, movedUp, movedDown, RoomFor, Changes, ProperAt, AllProper, SoughtInRange};
 
 // Whether t is lower than u, where both are: the later start is seen from the other segment.
 pub fn is_lower(t: Segment, u: Segment) -> bool
@@ -35,7 +36,7 @@ pub enum Sought {
 
 // Whether the segment at place i is below what is sought.
 fn is_below(s: &[i32], i: usize, sought: Sought) -> bool
-    requires { ⌜ Listed (segments (now s)) i × SoughtInRange sought ⌝ }
+    requires { ⌜ ProperAt (segments (now s)) i × SoughtInRange sought ⌝ }
     ensures { λ r. ⌜ r ≡ isBelow (segments (now (s .entry))) sought i ⌝ }
 {
     let t = segm::segment_in(s, i);
@@ -56,7 +57,7 @@ pub fn is_vertical(t: Segment) -> bool
 
 // A place at which the list changes from below to above what is sought, by bisection.
 pub fn place_of(s: &[i32], list: &[u16], sought: Sought) -> usize
-    requires { ⌜ AllListed (segments (now s)) (now list) × SoughtInRange sought ⌝ }
+    requires { ⌜ AllProper (segments (now s)) (now list) × SoughtInRange sought ⌝ }
     ensures { λ r. ⌜ Changes (belowAt (segments (now (s .entry))) sought (now (list .entry))) 0 (length (now (list .entry))) r ⌝ }
 {
     let mut low: usize = 0;
@@ -100,11 +101,11 @@ fn move_down(list: &mut [u16], j: usize)
 }
 
 // i goes to place k of the list, and those from there on move up.
-pub fn insert(list: &mut [u16], count: usize, k: usize, i: u16)
-    requires { ⌜ (k ≤ count) × Room count (now list) ⌝ }
-    ensures { λ _. ⌜ take (count + 1) (now (list .exit)) ≡ putAt k i (take count (now (list .entry))) ⌝ }
+pub fn insert(list: &mut [u16], used: usize, k: usize, i: u16)
+    requires { ⌜ (k ≤ used) × RoomFor used (now list) ⌝ }
+    ensures { λ _. ⌜ take (used + 1) (now (list .exit)) ≡ insertAt k i (take used (now (list .entry))) ⌝ }
 {
-    let mut j = k + (count - k + (BLOCK - 1)) / BLOCK * BLOCK;
+    let mut j = k + (used - k + (BLOCK - 1)) / BLOCK * BLOCK;
     while k < j {
         j -= BLOCK;
         move_up(list, j);
@@ -113,11 +114,11 @@ pub fn insert(list: &mut [u16], count: usize, k: usize, i: u16)
 }
 
 // The one at place k leaves the list, and those after it move down.
-pub fn remove(list: &mut [u16], count: usize, k: usize)
-    requires { ⌜ (k < count) × Room count (now list) ⌝ }
-    ensures { λ _. ⌜ take (count - 1) (now (list .exit)) ≡ outAt k (take count (now (list .entry))) ⌝ }
+pub fn remove(list: &mut [u16], used: usize, k: usize)
+    requires { ⌜ (k < used) × RoomFor used (now list) ⌝ }
+    ensures { λ _. ⌜ take (used - 1) (now (list .exit)) ≡ removeAt k (take used (now (list .entry))) ⌝ }
 {
-    let last = count - 1;
+    let last = used - 1;
     let mut j = k;
     while j < last {
         move_down(list, j);

@@ -1,4 +1,1 @@
-pub mod Held
-pub mod Nodes
-pub mod Counting
-pub mod Onward
+pub mod Starts

@@ -8,9 +8,9 @@ use lib.IntN.{ℤ}
 use Rattle.geom.specs.Points.{ltP}
 use Rattle.segm.specs.Segments.{Drawing, segmentAt}
 use Rattle.strip.specs.Strip.{isVertical}
-use Rattle.count_up.specs.CountUp.{Held, Counts, Tops}
+use Rattle.count_up.specs.CountUp.{OpenAt, Counts, Tops}
 use Rattle.open_list.specs.OpenList.{CanEnter, Entered}
-use Rattle.verticals.specs.Verticals.{CutIn, Clears}
+use Rattle.verticals.specs.Verticals.{StandsInGap, Clears}
 
 -- the places before k start before those from k on
 abbrev pub Splits : Drawing → ℕ → Type 0
@@ -31,11 +31,11 @@ pub record Gapped (d : Drawing) (from to : ℕ) (l : List ℕ) (v : ℕ) : Type 
   pub splits : Splits d m
   pub between : List ℕ
   pub entered : Entered d from m l between
-  pub cut : CutIn d (segmentAt d v) between
+  pub in-gap : StandsInGap d (segmentAt d v) between
 
 -- where the tops of the places before `from` are counts, those of the places before `to` are afterwards
 abbrev pub Counting : Drawing → (from to : ℕ) → List ℕ → (tops tops′ : List ℤ) → Type 0
-Counting d from to l tops tops′ = (count : ℕ → ℤ) → Counts d count → (y : ℤ) → Held d from y l → ((i : ℕ) → from ≤ i → i < to → segmentAt d i .a .x ≡ y)
+Counting d from to l tops tops′ = (count : ℕ → ℤ) → Counts d count → (y : ℤ) → OpenAt d from y l → ((i : ℕ) → from ≤ i → i < to → segmentAt d i .a .x ≡ y)
     → Tops count from tops → Tops count to tops′
 
 -- the segments of places from..to are passed: l becomes l′, and the tops become tops′

@@ -1,15 +1,19 @@
-// What starts at one x, node by node in order of their points: what is not vertical enters the list of the open segments, vertical ones are tested in it, and all
-// get their top counts. Every function here is proved, and the crate assumes nothing of its own.
-use open_list::Held;
+// What starts at one x, node by node in order of their points, a node being the segments that start at one point. One node (`start_node`): what is not
+// vertical enters the list of the open segments; the top counts of the node are written; its vertical segments stand in gaps of the list and get theirs. So
+// the list in which they stand has all that starts at their feet or lower, and what enters later starts at their heads or above.
+//
+// Names: places from..to of the drawing start at this x; `next` is the place after a node; `near` is a place of the list to look at first, and `high` the one
+// after those of a node.
+use open_list::Status;
 ghost use mathlib.Core.Path.{_≡_};
 ghost use mathlib.Core.Bool.{true};
 ghost use Prim.Native.Nat.{_*_, _≤_, _<_};
 ghost use lib.ListN.{length, take};
 ghost use Rattle.segm.specs.Segments.{segments};
 ghost use Rattle.faults.specs.Faultless.{Faultless};
-ghost use Rattle.neighbours.specs.Neighbours.{Known, Ordered};
-ghost use Rattle.scan.specs.Scan.{Room};
-ghost use Rattle.count_up.specs.CountUp.{Within};
+ghost use Rattle.strip.specs.Neighbours.{PlacesOf, InOrder};
+ghost use Rattle.scan.specs.Scan.{RoomFor};
+ghost use Rattle.count_up.specs.CountUp.{BoundedBy};
 ghost use Rattle.starts.specs.Starts.{Splits, NodeEnd, Started, CanStart};
 
 // The place after those from a place on that start at its point.
@@ -44,36 +48,36 @@ fn start_node(
     from: usize,
     to: usize,
     list: &mut [u16],
-    count: usize,
+    used: usize,
     guess: usize,
     tops: &mut [i32],
-) -> Held
-    requires { ⌜ (let d = segments (now s) in let l = take count (now list) in
+) -> Status
+    requires { ⌜ (let d = segments (now s) in let l = take used (now list) in
         Faultless d
         × (to ≤ length d)
-        × (count ≤ from)
-        × Room (length d) (now list)
+        × (used ≤ from)
+        × RoomFor (length d) (now list)
         × (length d ≤ length (now tops))
-        × Known d l
-        × Ordered d l
+        × PlacesOf d l
+        × InOrder d l
         × Splits d from
         × NodeEnd d from to to
-        × Within (2048000 * from) (now tops)) ⌝ }
-    ensures { λ r. ⌜ (let d = segments (now (s .entry)) in let l = take count (now (list .entry)) in let l′ = take (r .count) (now (list .exit)) in
-        (r .clear ≡ true → ((r .count ≤ to) × Started d from to l l′ (now (tops .entry)) (now (tops .exit)) × Within (2048000 * to) (now (tops .exit))))
+        × BoundedBy (2048000 * from) (now tops)) ⌝ }
+    ensures { λ r. ⌜ (let d = segments (now (s .entry)) in let l = take used (now (list .entry)) in let l′ = take (r .used) (now (list .exit)) in
+        (r .clear ≡ true → ((r .used ≤ to) × Started d from to l l′ (now (tops .entry)) (now (tops .exit)) × BoundedBy (2048000 * to) (now (tops .exit))))
         × (CanStart d from to l → r .clear ≡ true)) ⌝ }
 {
-    let entered = open_list::enter_all(s, from, to, list, count, guess);
+    let entered = open_list::enter_all(s, from, to, list, used, guess);
     if !entered.clear {
         return open_list::unclear();
     }
-    let near = lesser(entered.near, entered.count);
-    let high = count_up::count_node(s, &list[..entered.count], from, near, tops);
-    if !verticals::stand_all(s, from, to, &list[..entered.count], high, tops) {
+    let near = lesser(entered.near, entered.used);
+    let high = count_up::count_node(s, &list[..entered.used], from, near, tops);
+    if !verticals::stand_all(s, from, to, &list[..entered.used], high, tops) {
         return open_list::unclear();
     }
-    Held {
-        count: entered.count,
+    Status {
+        used: entered.used,
         near: high,
         clear: true,
     }
@@ -85,27 +89,27 @@ pub fn start_all(
     from: usize,
     to: usize,
     list: &mut [u16],
-    count: usize,
+    used: usize,
     guess: usize,
     tops: &mut [i32],
-) -> Held
-    requires { ⌜ (let d = segments (now s) in let l = take count (now list) in
+) -> Status
+    requires { ⌜ (let d = segments (now s) in let l = take used (now list) in
         Faultless d
         × (from ≤ to)
         × (to ≤ length d)
-        × (count ≤ from)
-        × Room (length d) (now list)
+        × (used ≤ from)
+        × RoomFor (length d) (now list)
         × (length d ≤ length (now tops))
-        × Known d l
-        × Ordered d l
+        × PlacesOf d l
+        × InOrder d l
         × Splits d from
         × Splits d to
-        × Within (2048000 * from) (now tops)) ⌝ }
-    ensures { λ r. ⌜ (let d = segments (now (s .entry)) in let l = take count (now (list .entry)) in let l′ = take (r .count) (now (list .exit)) in
-        (r .clear ≡ true → ((r .count ≤ to) × Started d from to l l′ (now (tops .entry)) (now (tops .exit)) × Within (2048000 * to) (now (tops .exit))))
+        × BoundedBy (2048000 * from) (now tops)) ⌝ }
+    ensures { λ r. ⌜ (let d = segments (now (s .entry)) in let l = take used (now (list .entry)) in let l′ = take (r .used) (now (list .exit)) in
+        (r .clear ≡ true → ((r .used ≤ to) × Started d from to l l′ (now (tops .entry)) (now (tops .exit)) × BoundedBy (2048000 * to) (now (tops .exit))))
         × (CanStart d from to l → r .clear ≡ true)) ⌝ }
 {
-    let mut held = count;
+    let mut held = used;
     let mut near = guess;
     let mut lowest = guess;
     let mut i = from;
@@ -117,11 +121,11 @@ pub fn start_all(
         }
         near = started.near;
         lowest = open_list::lowest_place(i == from, lowest, near);
-        held = started.count;
+        held = started.used;
         i = next;
     }
-    Held {
-        count: held,
+    Status {
+        used: held,
         near: lowest,
         clear: true,
     }

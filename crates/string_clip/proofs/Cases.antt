@@ -12,7 +12,7 @@ use Rattle.lists.specs.Written.{written}
 use Rattle.lists.specs.UpFrom.{upFrom}
 use Rattle.segm.specs.CaseA.{segment, A}
 use Rattle.segm.specs.Segments.{front, segmentsOf, count, whole, segments, segmentAt, total}
-use Rattle.meetings.specs.Meetings.{side, parts, inside, sameEnds, meetsWrongly}
+use Rattle.meetings.specs.Meetings.{side, parts, inInterior, sameEnds, meetsWrongly}
 use Rattle.refusal.specs.declared.Verdict.the-variants.{Accepted}
 use Rattle.balance.specs.Balance.{balance, balances}
 use Rattle.faults.specs.Faults.{endsInRange, rises, windingInRange, bitsInRange, fault, faultAt, faultsOf}
@@ -100,7 +100,7 @@ pub record Cases : Type 0 where
   pub accepted-A : accepts A (pos 1) (pos 0) (pos 1) ≡ true
 
 pub cases : Cases
-unfolding accepts clipRun verdict asked askedFirst drawingVerdict faultsOf meetingsOf unbalancedOf wrongLength unknownChoice tooShort first firstFrom faultAt meetingAt unbalancedAt fault endsInRange rises windingInRange bitsInRange balance balances meetsWrongly parts inside sameEnds side total any sum tally keep written upFrom front segmentsOf count whole segments segmentAt eqZ within ltP eqP coordinate inRange cross between spans above clockwise met bottom top filled ruleOf fillOf fill sidesSet keepsSides keeps filterOf keptLinks node has clear asDrawn remains taken takenAll bitsRemaining firstRemaining bothMoves begins way over other fitting goesOn follow pathFrom walkFrom walk through finished pathPoints clipPaths stepsFrom stepsOfPath stepsOf travelOf travel totals coordinates flatten clipOutcome
+unfolding accepts clipRun verdict asked askedFirst drawingVerdict faultsOf meetingsOf unbalancedOf wrongLength unknownChoice tooShort first firstFrom faultAt meetingAt unbalancedAt fault endsInRange rises windingInRange bitsInRange balance balances meetsWrongly parts inInterior sameEnds side total any sum tally keep written upFrom front segmentsOf count whole segments segmentAt eqZ within ltP eqP coordinate inRange cross between spans above clockwise met bottom top filled ruleOf fillOf fill sidesSet keepsSides keeps filterOf keptLinks node has clear asDrawn remains taken takenAll bitsRemaining firstRemaining bothMoves begins way over other fitting goesOn follow pathFrom walkFrom walk through finished pathPoints clipPaths stepsFrom stepsOfPath stepsOf travelOf travel totals coordinates flatten clipOutcome
 cases = record {
   inside-A = λ xs ns. refl;
   outside-A = λ xs ns. refl;

@@ -1,9 +1,2 @@
-pub mod Signs
-pub mod Gap
-pub mod Apart
-pub mod Vertical
-pub mod Above
-pub mod Visits
-pub mod Compare
-pub mod Tiers
-pub mod Clear
+pub mod Strip
+pub mod Neighbours

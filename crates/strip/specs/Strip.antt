@@ -50,7 +50,7 @@ under x j h = falls (gap j h x) (gap j h (x +ℤ pos 1))
 unfoldable pub underBySide : Segment → Segment → Bool
 underBySide j h = cond (ltP (j .a) (h .a)) (above j (h .a)) (cond (ltP (h .a) (j .a)) (ltZ (side h (j .a)) (pos 0)) (clockwise j h))
 
--- what is asked of neighbours in an ordered list: s is the lower, and the two do not meet wrongly. Nothing in it speaks of x
-pub record Next (s t : Segment) : Type 0 where
+-- s may stand right under t in the list: it is the lower, and the two do not meet wrongly. Nothing in it speaks of x
+pub record LowerNeighbour (s t : Segment) : Type 0 where
   pub lower : underBySide s t ≡ true
   pub clear : meetsWrongly s t ≡ false

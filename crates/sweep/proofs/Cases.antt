@@ -13,7 +13,7 @@ use Rattle.segm.specs.CaseA.{segment, A}
 use Rattle.ends.specs.Ordering.{insert, ordering}
 use Rattle.meetings.specs.Meetings.{side}
 use Rattle.strip.specs.Strip.{isVertical, spans, above, clockwise, reach, height, gap, falls, under}
-use Rattle.scan.specs.Scan.{isBelow, putAt}
+use Rattle.scan.specs.Scan.{isBelow, insertAt}
 use Rattle.fill_rule.specs.FillRule.{filled, ruleOf, fillOf}
 use Rattle.ray.specs.Ray.{met, bottom, top, fill, fills}
 use Rattle.sweep.specs.Sweep.{startingAt, nodeSize, nodeFrom, turnBefore, visit, visitNode, sweepFrom, sweepWith}
@@ -56,7 +56,7 @@ pub record Cases : Type 0 where
   pub triangles-negative : Alike triangles (pos 3) (0 ∷ 0 ∷ 9 ∷ 2 ∷ 0 ∷ 1 ∷ 12 ∷ [])
 
 pub cases : Cases
-unfolding eqZ ltP eqP cross sum keep written upFrom front segmentsOf count segments segmentAt total turnBefore insert ordering side spans above clockwise reach height gap falls under stillOpen bisect placeBy isBelow placeOf putAt filled ruleOf fillOf met bottom top fill fills isVertical startingAt nodeSize nodeFrom visit visitNode sweepFrom sweepWith isUnder higher highest countOf storedCount storeTop sweepInto sweep seekOpen countOpen storeOpen openSweep
+unfolding eqZ ltP eqP cross sum keep written upFrom front segmentsOf count segments segmentAt total turnBefore insert ordering side spans above clockwise reach height gap falls under stillOpen bisect placeBy isBelow placeOf insertAt filled ruleOf fillOf met bottom top fill fills isVertical startingAt nodeSize nodeFrom visit visitNode sweepFrom sweepWith isUnder higher highest countOf storedCount storeTop sweepInto sweep seekOpen countOpen storeOpen openSweep
 cases = record {
   A-even-odd = record { by-ray = refl; by-sweep = refl; by-open = refl };
   A-nonzero = record { by-ray = refl; by-sweep = refl; by-open = refl };

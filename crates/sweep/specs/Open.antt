@@ -11,7 +11,7 @@ use Rattle.geom.specs.declared.Point.{Point}
 use Rattle.lists.specs.Members.{keep}
 use Rattle.segm.specs.Segments.{Drawing, segmentAt}
 use Rattle.scan.specs.declared.Sought.the-variants.{At}
-use Rattle.scan.specs.Scan.{isBelow, putAt}
+use Rattle.scan.specs.Scan.{isBelow, insertAt}
 use Rattle.fill_rule.specs.declared.Rule.{Rule}
 use Rattle.sweep.specs.Sweep.{sweepWith}
 
@@ -53,7 +53,7 @@ countOpen p o = cond (eqb (o .next) 0) (pos 0) (getD (o .tops) (getD (o .list) (
 
 -- the segment at place i enters there with its top count, and the next one goes after it
 unfoldable pub storeOpen : ℕ → ℤ → Opened → Opened
-storeOpen i top o = record { list = putAt (o .next) i (o .list); tops = set (o .tops) i top; next = suc (o .next) }
+storeOpen i top o = record { list = insertAt (o .next) i (o .list); tops = set (o .tops) i top; next = suc (o .next) }
 
 -- into a list of fills, with a list for the top counts
 unfoldable pub openSweep : Rule → Drawing → List ℤ → List ℕ → List ℕ

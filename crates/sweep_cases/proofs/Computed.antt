@@ -11,7 +11,7 @@ use Rattle.segm.specs.Segments.{front, segmentsOf, count, segments, segmentAt}
 use Rattle.meetings.specs.Meetings.{side}
 use Rattle.ends.specs.Ordering.{insert, ordering}
 use Rattle.strip.specs.Strip.{isVertical, above, reach, height, gap, falls, under}
-use Rattle.scan.specs.Scan.{isBelow, putAt}
+use Rattle.scan.specs.Scan.{isBelow, insertAt}
 use Rattle.fill_rule.specs.FillRule.{filled, ruleOf, fillOf}
 use Rattle.sweep.specs.Sweep.{startingAt, nodeSize, nodeFrom, turnBefore, visit, visitNode, sweepFrom, sweepWith}
 use Rattle.sweep.specs.Stored.{isUnder, higher, highest, countOf, storedCount, storeTop, sweepInto, sweep}
@@ -27,5 +27,5 @@ swept = refl
 
 -- the lists of counts and of fills held something before
 pub opened : map (λ (c : Drawn). openSweep (ruleOf (c .rule)) (segments (c .numbers)) (map (λ s. pos 7) (segments (c .numbers))) (map (λ s. 99) (segments (c .numbers)))) drawings ≡ drawnFills
-unfolding openSweep sweepWith sweepFrom visitNode visit nodeFrom nodeSize startingAt isVertical seekOpen countOpen storeOpen stillOpen placeOf isBelow placeBy bisect putAt keep above side cross turnBefore ordering insert upFrom segmentAt segments segmentsOf count front eqP eqZ ruleOf fillOf filled
+unfolding openSweep sweepWith sweepFrom visitNode visit nodeFrom nodeSize startingAt isVertical seekOpen countOpen storeOpen stillOpen placeOf isBelow placeBy bisect insertAt keep above side cross turnBefore ordering insert upFrom segmentAt segments segmentsOf count front eqP eqZ ruleOf fillOf filled
 opened = refl

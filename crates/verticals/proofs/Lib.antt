@@ -1,4 +1,2 @@
 pub mod Sides
-pub mod Gaps
-pub mod ClearOf
-pub mod Columns
+pub mod Verticals

@@ -15,7 +15,7 @@ use Rattle.segm.specs.Segments.{Drawing, segmentAt}
 use Rattle.ends.specs.Ends.{endPoint}
 use Rattle.meetings.specs.Meetings.{side}
 use Rattle.strip.specs.Strip.{isVertical, above}
-use Rattle.neighbours.specs.Neighbours.{Cut, Distinct}
+use Rattle.strip.specs.Neighbours.{InGap, Distinct}
 use Rattle.count_up.specs.CountUp.{lastIn}
 
 -- t lies under p: strictly, or with its start there
@@ -28,19 +28,19 @@ liesAbove p t = ltZ (side t p) (pos 0) || eqP (t .a) p
 
 -- ---- beside the list
 -- the one before place k of the list lies under v's foot, and the one at it above v's head, if there is one
-pub record CutAt (d : Drawing) (v : Segment) (k : ℕ) (l : List ℕ) : Type 0 where
-  pub inside : k ≤ length l
+pub record InGapAt (d : Drawing) (v : Segment) (k : ℕ) (l : List ℕ) : Type 0 where
+  pub till : k ≤ length l
   pub under : 0 < k → liesUnder (v .a) (segmentAt d (getD l (k - 1) 0)) ≡ true
   pub over : k < length l → liesAbove (v .b) (segmentAt d (getD l k 0)) ≡ true
 
 -- v stands in a gap of the list
-abbrev pub CutIn : Drawing → Segment → List ℕ → Type 0
-CutIn d v l = Cut (λ s. s .a) (segmentAt d) 0 v l
+abbrev pub StandsInGap : Drawing → Segment → List ℕ → Type 0
+StandsInGap d v l = InGap (λ s. s .a) (segmentAt d) 0 v l
 
 -- the vertical segment at place v stands in a gap of the list, and its top count is written: that of the one below the gap, and its own winding
 pub record Stood (d : Drawing) (l : List ℕ) (tops tops′ : List ℤ) (v : ℕ) : Type 0 where
   pub place : ℕ
-  pub cut : CutAt d (segmentAt d v) place l
+  pub in-gap : InGapAt d (segmentAt d v) place l
   pub top : ((i : ℕ) → i ∈ l → isVertical (segmentAt d i) ≡ false) → getD tops′ v (pos 0) ≡ lastIn tops (take place l) +ℤ segmentAt d v .winding
 
 -- the vertical segments of places from..to stand in gaps of the list, and nothing else is written
@@ -56,21 +56,21 @@ pub record Column (d : Drawing) (ends : List ℕ) : Type 0 where
   pub distinct : Distinct ends
 
 -- a vertical segment starts at end v
-pub record Stands (d : Drawing) (v : ℕ) : Type 0 where
+pub record VerticalStart (d : Drawing) (v : ℕ) : Type 0 where
   pub inside : v < length d
   pub vertical : isVertical (segmentAt d v) ≡ true
 
 -- end e is passed, the last vertical segment going from foot to top: e does not lie strictly between, and if a vertical one starts there, not below the top, it is the last
 pub record Beyond (d : Drawing) (e : ℕ) (foot top foot′ top′ : ℤ) : Type 0 where
   pub out : (endPoint d e .y ≤ℤ foot) ⊎ (top ≤ℤ endPoint d e .y)
-  pub on : Stands d e → (top ≤ℤ endPoint d e .y) × (foot′ ≡ endPoint d e .y) × (top′ ≡ segmentAt d e .b .y)
-  pub by : (Stands d e → ⊥) → (foot′ ≡ foot) × (top′ ≡ top)
+  pub on : VerticalStart d e → (top ≤ℤ endPoint d e .y) × (foot′ ≡ endPoint d e .y) × (top′ ≡ segmentAt d e .b .y)
+  pub by : (VerticalStart d e → ⊥) → (foot′ ≡ foot) × (top′ ≡ top)
 
 -- no end lies strictly between the ends of a vertical segment that starts among them, and no two of these overlap
 pub record Unbroken (d : Drawing) (ends : List ℕ) : Type 0 where
-  pub beside : (v : ℕ) → v ∈ ends → Stands d v → (e : ℕ) → e ∈ ends
+  pub beside : (v : ℕ) → v ∈ ends → VerticalStart d v → (e : ℕ) → e ∈ ends
       → (endPoint d e .y ≤ℤ segmentAt d v .a .y) ⊎ (segmentAt d v .b .y ≤ℤ endPoint d e .y)
-  pub stack : (v w : ℕ) → v ∈ ends → w ∈ ends → Stands d v → Stands d w → (v ≡ w → ⊥)
+  pub stack : (v w : ℕ) → v ∈ ends → w ∈ ends → VerticalStart d v → VerticalStart d w → (v ≡ w → ⊥)
       → (segmentAt d v .b .y ≤ℤ segmentAt d w .a .y) ⊎ (segmentAt d w .b .y ≤ℤ segmentAt d v .a .y)
 
 -- ---- where the tests are passed

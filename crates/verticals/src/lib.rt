@@ -1,5 +1,12 @@
-// The tests of vertical segments: beside the ordered list of the open ones, and beside the ends at their x; and their top counts. Every function here is proved, and
-// the crate assumes nothing of its own. Each promise has two halves: what holds where the tests were passed, and where they are.
+// Vertical segments, which are never open: their tests and their top counts. Beside the ends at their x, from the lowest up (`are_unbroken`): no end lies
+// strictly between the ends of one, and no two overlap. Beside the list of the open segments, once all that starts at their feet has entered (`stand_all`):
+// each stands in a gap, the segment below the gap under its foot and the one above over its head, or they start there. Its top count is that of the segment
+// below the gap, and its own winding.
+//
+// Each promise has two halves: what holds where the tests were passed, and where they are.
+//
+// Names: v is a vertical segment, with its foot a and its head b; `foot` and `top` are their heights; k is a place of the list, i one of the drawing, and e is
+// an end.
 use geom::Point;
 use scan::Sought;
 use segm::Segment;
@@ -14,14 +21,14 @@ ghost use Rattle.geom.specs.Points.{inRange};
 ghost use Rattle.segm.specs.Segments.{segments, segmentAt};
 ghost use Rattle.ends.specs.Ends.{endPoint};
 ghost use Rattle.faults.specs.Faultless.{Proper, Faultless};
-ghost use Rattle.neighbours.specs.Neighbours.{Known};
-ghost use Rattle.scan.specs.Scan.{Listed};
-ghost use Rattle.count_up.specs.CountUp.{lastIn, Within};
-ghost use Rattle.verticals.specs.Verticals.{liesUnder, liesAbove, CutAt, AllStand, Column, Stands, Beyond, Unbroken, ClearIn, Clears};
+ghost use Rattle.strip.specs.Neighbours.{PlacesOf};
+ghost use Rattle.scan.specs.Scan.{ProperAt};
+ghost use Rattle.count_up.specs.CountUp.{lastIn, BoundedBy};
+ghost use Rattle.verticals.specs.Verticals.{liesUnder, liesAbove, InGapAt, AllStand, Column, VerticalStart, Beyond, Unbroken, ClearIn, Clears};
 
 // Whether the segment at place i lies under p: strictly, or with its start there.
 fn lies_under(s: &[i32], i: u16, p: Point) -> bool
-    requires { ⌜ Listed (segments (now s)) i × (inRange p ≡ true) ⌝ }
+    requires { ⌜ ProperAt (segments (now s)) i × (inRange p ≡ true) ⌝ }
     ensures { λ r. ⌜ r ≡ liesUnder p (segmentAt (segments (now (s .entry))) i) ⌝ }
 {
     let t = segm::segment_in(s, i as usize);
@@ -33,7 +40,7 @@ fn lies_under(s: &[i32], i: u16, p: Point) -> bool
 
 // The same, above.
 fn lies_above(s: &[i32], i: u16, p: Point) -> bool
-    requires { ⌜ Listed (segments (now s)) i × (inRange p ≡ true) ⌝ }
+    requires { ⌜ ProperAt (segments (now s)) i × (inRange p ≡ true) ⌝ }
     ensures { λ r. ⌜ r ≡ liesAbove p (segmentAt (segments (now (s .entry))) i) ⌝ }
 {
     let t = segm::segment_in(s, i as usize);
@@ -44,9 +51,9 @@ fn lies_above(s: &[i32], i: u16, p: Point) -> bool
 }
 
 // Whether the one before place k of the list lies under v, and the one at place k above it.
-fn is_cut(s: &[i32], v: Segment, list: &[u16], k: usize) -> bool
-    requires { ⌜ Faultless (segments (now s)) × Proper v × Known (segments (now s)) (now list) × (k ≤ length (now list)) ⌝ }
-    ensures { λ r. ⌜ (r ≡ true) ↔ CutAt (segments (now (s .entry))) v k (now (list .entry)) ⌝ }
+fn is_in_gap(s: &[i32], v: Segment, list: &[u16], k: usize) -> bool
+    requires { ⌜ Faultless (segments (now s)) × Proper v × PlacesOf (segments (now s)) (now list) × (k ≤ length (now list)) ⌝ }
+    ensures { λ r. ⌜ (r ≡ true) ↔ InGapAt (segments (now (s .entry))) v k (now (list .entry)) ⌝ }
 {
     let a = v.a;
     let b = v.b;
@@ -69,12 +76,12 @@ struct Gap {
 
 // Where the vertical segment v stands in a gap of the list, if it does: at the guess, else by search.
 fn gap_of(s: &[i32], v: Segment, list: &[u16], guess: usize) -> Gap
-    requires { ⌜ Faultless (segments (now s)) × Proper v × Known (segments (now s)) (now list) ⌝ }
-    ensures { λ r. ⌜ (r .clear ≡ true → CutAt (segments (now (s .entry))) v (r .place) (now (list .entry)))
+    requires { ⌜ Faultless (segments (now s)) × Proper v × PlacesOf (segments (now s)) (now list) ⌝ }
+    ensures { λ r. ⌜ (r .clear ≡ true → InGapAt (segments (now (s .entry))) v (r .place) (now (list .entry)))
         × (ClearIn (segments (now (s .entry))) v (now (list .entry)) → r .clear ≡ true) ⌝ }
 {
     if guess <= list.len() {
-        if is_cut(s, v, list, guess) {
+        if is_in_gap(s, v, list, guess) {
             return Gap {
                 place: guess,
                 clear: true,
@@ -85,7 +92,7 @@ fn gap_of(s: &[i32], v: Segment, list: &[u16], guess: usize) -> Gap
     let k = scan::place_of(s, list, Sought::At(b));
     Gap {
         place: k,
-        clear: is_cut(s, v, list, k),
+        clear: is_in_gap(s, v, list, k),
     }
 }
 
@@ -95,11 +102,11 @@ fn stand_one(s: &[i32], v: Segment, i: usize, list: &[u16], guess: usize, tops: 
         Faultless d
         × (v ≡ segmentAt d i)
         × (i < length d)
-        × Known d (now list)
+        × PlacesOf d (now list)
         × (length d ≤ length (now tops))
-        × Within 2110000000 (now tops)) ⌝ }
+        × BoundedBy 2110000000 (now tops)) ⌝ }
     ensures { λ r. ⌜ (let d = segments (now (s .entry)) in let l = now (list .entry) in let tops₀ = now (tops .entry) in
-        (r .clear ≡ true → (CutAt d v (r .place) l × (now (tops .exit) ≡ set tops₀ i (lastIn tops₀ (take (r .place) l) +ℤ v .winding))))
+        (r .clear ≡ true → (InGapAt d v (r .place) l × (now (tops .exit) ≡ set tops₀ i (lastIn tops₀ (take (r .place) l) +ℤ v .winding))))
         × (r .clear ≡ false → now (tops .exit) ≡ tops₀)
         × (ClearIn d v l → r .clear ≡ true)) ⌝ }
 {
@@ -123,12 +130,12 @@ pub fn stand_all(
     requires { ⌜ (let d = segments (now s) in
         Faultless d
         × (to ≤ length d)
-        × Known d (now list)
+        × PlacesOf d (now list)
         × (length d ≤ length (now tops))
-        × Within 2100000000 (now tops)) ⌝ }
+        × BoundedBy 2100000000 (now tops)) ⌝ }
     ensures { λ r. ⌜ (let d = segments (now (s .entry)) in let l = now (list .entry) in
         (r ≡ true → AllStand d from to l (now (tops .entry)) (now (tops .exit)))
-        × ((b : ℕ) → Within b (now (tops .entry)) → Within (b + 1000 * (to - from)) (now (tops .exit)))
+        × ((b : ℕ) → BoundedBy b (now (tops .entry)) → BoundedBy (b + 1000 * (to - from)) (now (tops .exit)))
         × (Clears d from to l → r ≡ true)) ⌝ }
 {
     let mut near = guess;
@@ -159,7 +166,7 @@ fn pass_end(s: &[i32], e: usize, foot: i32, top: i32) -> Last
     requires { ⌜ e < 2 * length (segments (now s)) ⌝ }
     ensures { λ r. ⌜ (let d = segments (now (s .entry)) in let y = endPoint d e .y in
         (r .clear ≡ true → Beyond d e foot top (r .foot) (r .top))
-        × ((foot <ℤ y → y <ℤ top → ⊥) → (Stands d e → y <ℤ top → ⊥) → r .clear ≡ true)) ⌝ }
+        × ((foot <ℤ y → y <ℤ top → ⊥) → (VerticalStart d e → y <ℤ top → ⊥) → r .clear ≡ true)) ⌝ }
 {
     let p = ends::end_point(s, e);
     let y = p.y;

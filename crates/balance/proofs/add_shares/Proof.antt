@@ -57,7 +57,7 @@ module _ (c : tie.In-loop Inv-loop μ-loop) where
   end-inside = omega (arith, c .loop-test .taken, s .pre .1 .each-end)
 
   node-inside : v < length (l .loop .sums)
-  node-inside = omega (arith, s .pre .1 .known e end-inside, l .loop .inv .room)
+  node-inside = omega (arith, s .pre .1 .has-sum e end-inside, l .loop .inv .room)
 
 mul-v : tie.Need-mul-v Inv-loop μ-loop
 mul-v c = search needs

@@ -6,7 +6,7 @@ use native.Mathlib.Omega.{arith}
 use Prim.Native.Nat.{ℕ, _+_, _-_, _≤_}
 use Rattle.balance.specs.Balance.{firstPlace}
 use Rattle.balance.specs.Sums.{endsUnbalanced}
-use Rattle.balance.proofs.Places.{step-passed, step-failed, step-end}
+use Rattle.balance.proofs.Balance.{place-passed, place-failed, place-end}
 use Rattle.balance.proofs.find_first.Statement.{statement}
 use Rattle.balance.proofs.find_first.Tie as tie
 
@@ -24,7 +24,7 @@ sums-to-zero-requires c κs =
     let l = c .before in
     let s = l .before .before in
     let k = s .pre .1 in
-    (omega (arith, c .loop-test .taken, k .each-end), k .known (l .loop .i) (omega (arith, c .loop-test .taken)))
+    (omega (arith, c .loop-test .taken, k .each-end), k .has-sum (l .loop .i) (omega (arith, c .loop-test .taken)))
 
 add-sums-to-zero : tie.Need-add-sums-to-zero Inv-loop μ-loop
 add-sums-to-zero c = let l = c .before .before in record { fits = omega (arith, l .before .before .pre .0, c .before .loop-test .taken) }
@@ -34,7 +34,7 @@ sums-to-zero-requires-2 c κs =
     let l = c .before .before in
     let s = l .before .before in
     let k = s .pre .1 in
-    (omega (arith, c .before .loop-test .taken, k .each-end), k .known (s .args .n + l .loop .i) (omega (arith, c .before .loop-test .taken)))
+    (omega (arith, c .before .loop-test .taken, k .each-end), k .has-sum (s .args .n + l .loop .i) (omega (arith, c .before .loop-test .taken)))
 
 -- the test at place i
 module _ (c : tie.After-sums-to-zero2 Inv-loop μ-loop) where
@@ -54,7 +54,7 @@ module _ (c : tie.After-sums-to-zero2 Inv-loop μ-loop) where
 returns : tie.Need-returns Inv-loop μ-loop
 returns c =
     let t = c .before in
-    sym (l t .loop .inv .1 ∙ step-passed (test t) (s t .args .n) (l t .loop .i) (t .before .before .loop-test .taken) (sym (test-is t) ∙ c .if1 .taken))
+    sym (l t .loop .inv .1 ∙ place-passed (test t) (s t .args .n) (l t .loop .i) (t .before .before .loop-test .taken) (sym (test-is t) ∙ c .if1 .taken))
 
 add-i : tie.Need-add-i Inv-loop μ-loop
 add-i c = search needs
@@ -65,13 +65,13 @@ loop-less c = search needs
 loop-again : tie.Need-loop-again Inv-loop μ-loop
 loop-again c =
     let t = c .before in
-    (omega (arith, t .before .before .loop-test .taken), l t .loop .inv .1 ∙ step-failed (test t) (s t .args .n) (l t .loop .i) (t .before .before .loop-test .taken) (sym (test-is t) ∙ c .if1 .left))
+    (omega (arith, t .before .before .loop-test .taken), l t .loop .inv .1 ∙ place-failed (test t) (s t .args .n) (l t .loop .i) (t .before .before .loop-test .taken) (sym (test-is t) ∙ c .if1 .left))
 
 returns-2 : tie.Need-returns-2 Inv-loop μ-loop
 returns-2 c =
     let l = c .before in
     let s = l .before .before in
-    sym (l .loop .inv .1 ∙ step-end (endsUnbalanced (s .args .n) (s .args .nodes .now) (s .args .sums .now)) (s .args .n) (l .loop .i) (l .loop .inv .0) (c .loop-test .left))
+    sym (l .loop .inv .1 ∙ place-end (endsUnbalanced (s .args .n) (s .args .nodes .now) (s .args .sums .now)) (s .args .n) (l .loop .i) (l .loop .inv .0) (c .loop-test .left))
 
 pub find-first-spec : {M : Type 1} → statement M
 find-first-spec =

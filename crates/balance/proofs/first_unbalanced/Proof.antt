@@ -9,8 +9,8 @@ use lib.IntN.{ℤ}
 use Rattle.segm.specs.Segments.{Drawing, segments}
 use Rattle.segm.proofs.Segments.{length-segments}
 use Rattle.balance.specs.Balance.{firstPlace}
-use Rattle.balance.specs.Sums.{Summed, Known, endsUnbalanced}
-use Rattle.balance.proofs.Sums.{sums-known, first-is}
+use Rattle.balance.specs.Sums.{Summed, HaveSums, endsUnbalanced}
+use Rattle.balance.proofs.Sums.{have-sums, first-is}
 use Rattle.balance.proofs.first_unbalanced.Statement.{statement}
 use Rattle.balance.proofs.first_unbalanced.Tie as tie
 
@@ -24,7 +24,7 @@ module _ (s : tie.Start) where
 add-shares-requires : tie.Need-add-shares-requires
 add-shares-requires c κs =
     let s = c .before .before in
-    (s .pre .0, sums-known (d s) (nodes s) (s .pre .1) (s .pre .2), s .pre .3)
+    (s .pre .0, have-sums (d s) (nodes s) (s .pre .1) (s .pre .2), s .pre .3)
 
 count-requires : tie.Need-count-requires
 count-requires c κs = search needs
@@ -43,14 +43,14 @@ module _ (c : tie.After-count) where
   n-is : c .count .result ≡ length (d s)
   n-is = c .count .ensures ∙ sym (length-segments (s .args .s .now))
 
-  known : Known (length (d s)) (nodes s) sums
-  known = sums-known (d s) (nodes s) (s .pre .1) (omega (arith, s .pre .2, a .add-shares .kept .1 .1 .0))
+  known : HaveSums (length (d s)) (nodes s) sums
+  known = have-sums (d s) (nodes s) (s .pre .1) (omega (arith, s .pre .2, a .add-shares .kept .1 .1 .0))
 
   summed : Summed (d s) (nodes s) (2 * length (d s)) sums
   summed = subst (λ m. Summed (d s) (nodes s) m sums) (known .each-end) (a .add-shares .ensures)
 
 find-first-requires : tie.Need-find-first-requires
-find-first-requires c κs = (omega (arith, n-is c, s c .pre .0 .few), subst (λ m. Known m (nodes (s c)) (sums c)) (sym (n-is c)) (known c))
+find-first-requires c κs = (omega (arith, n-is c, s c .pre .0 .few), subst (λ m. HaveSums m (nodes (s c)) (sums c)) (sym (n-is c)) (known c))
 
 same-length : tie.Need-same-length
 same-length c = search needs

@@ -8,7 +8,7 @@ use lib.Seq.{length-take-le}
 use lib.IntN.{natAbs}
 use Rattle.segm.specs.Segments.{Drawing, segments}
 use Rattle.graph.specs.Nodes.{Nodes}
-use Rattle.balance.proofs.Nodes.{numbered}
+use Rattle.balance.proofs.Balance.{nodes-by-point}
 use Rattle.checks.specs.Memory.{OrderedIn, NumberedIn}
 use Rattle.checks.proofs.check_ends.Statement.{statement}
 use Rattle.checks.proofs.check_ends.Tie as tie
@@ -42,7 +42,7 @@ module _ (w : tie.After-write-nodes) where
   each-end = omega (arith, s .pre .1 .nodes-room few, w .write-nodes .kept .1 .1 .1 .0)
 
   numbers : NumberedIn d (w .write-nodes .last .1 .1 .1 .0)
-  numbers = record { each-end = each-end; numbered = numbered written (length-take-le _ _ each-end) }
+  numbers = record { each-end = each-end; numbered = nodes-by-point written (length-take-le _ _ each-end) }
 
 find-by-ends-requires : tie.Need-find-by-ends-requires
 find-by-ends-requires c κs =

@@ -8,7 +8,7 @@ use lib.ListN.{length, take}
 use lib.Seq.{length-take-le}
 use Rattle.segm.specs.Segments.{Drawing, segments}
 use Rattle.segm.proofs.Segments.{length-segments}
-use Rattle.balance.specs.Balance.{Numbered}
+use Rattle.balance.specs.Balance.{NodesByPoint}
 use Rattle.refusal.specs.declared.Verdict.{Verdict}
 use Rattle.checks.specs.Drawing.{meetingsOf, unbalancedOf}
 use Rattle.refusal.specs.Order.{_then_}
@@ -81,7 +81,7 @@ slice-aggregate-find-unbalanced : tie.Need-slice-aggregate-find-unbalanced
 slice-aggregate-find-unbalanced c = let k = c .before .before .before .before .before .before .before in front-length k (s k .args .nodes .now) (s k .pre .2 .each-end)
 
 find-unbalanced-requires : tie.Need-find-unbalanced-requires
-find-unbalanced-requires c κs = let k = c .before .before .before .before .before .before .before .before in (s k .pre .0, subst (Numbered (d k)) (front k (s k .args .nodes .now)) (s k .pre .2 .numbered), s k .pre .3, s k .pre .4)
+find-unbalanced-requires c κs = let k = c .before .before .before .before .before .before .before .before in (s k .pre .0, subst (NodesByPoint (d k)) (front k (s k .args .nodes .now)) (s k .pre .2 .numbered), s k .pre .3, s k .pre .4)
 
 same-length-2 : tie.Need-same-length-2
 same-length-2 c = search needs

@@ -8,7 +8,7 @@ use lib.IntN.{pos}
 use mir.Syntax.{w32}
 use Rattle.integers.proofs.Machine.{read}
 use Rattle.lists.proofs.Members.{in-at}
-use Rattle.count_up.proofs.Stretch.{last-at, last-none}
+use Rattle.count_up.proofs.CountUp.{last-at, last-none}
 use Rattle.count_up.proofs.count_below.Statement.{statement}
 use Rattle.count_up.proofs.count_below.Tie as tie
 

@@ -11,7 +11,7 @@ use lib.Seq.{length-take-le}
 use Rattle.segm.specs.Segments.{segments}
 use Rattle.lists.proofs.Members.{in-take, in-drop}
 use Rattle.count_up.specs.CountUp.{countUp}
-use Rattle.count_up.proofs.Stretch.{last-within}
+use Rattle.count_up.proofs.CountUp.{last-within}
 use Rattle.count_up.proofs.count_node.Statement.{statement}
 use Rattle.count_up.proofs.count_node.Tie as tie
 

@@ -14,7 +14,7 @@ use Rattle.segm.specs.Segments.{Drawing, segments, segmentAt}
 use Rattle.lists.proofs.Members.{in-at}
 use Rattle.faults.proofs.Faultless.{winding-at}
 use Rattle.count_up.specs.CountUp.{countUp}
-use Rattle.count_up.proofs.Stretch.{count-more, count-none}
+use Rattle.count_up.proofs.CountUp.{count-more, count-none}
 use Rattle.count_up.proofs.count_up.Statement.{statement}
 use Rattle.count_up.proofs.count_up.Tie as tie
 

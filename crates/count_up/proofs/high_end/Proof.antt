@@ -5,7 +5,7 @@ use native.Mathlib.Decide.{ℕ-discrete}
 use mathlib.Core.List.{List}
 use Prim.Native.Nat.{ℕ, _-_, _<_, _≤_}
 use lib.ListN.{length, getD}
-use Rattle.count_up.proofs.Stretch.{but-one}
+use Rattle.count_up.proofs.CountUp.{but-one}
 use Rattle.count_up.proofs.high_end.Statement.{statement}
 use Rattle.count_up.proofs.high_end.Tie as tie
 

@@ -6,8 +6,8 @@ use Prim.Native.Nat.{_≤_}
 use lib.ListN.{take}
 use Rattle.integers.proofs.Booleans.{clash}
 use Rattle.segm.specs.Segments.{segments}
-use Rattle.open_list.specs.OpenList.{Left}
-use Rattle.open_list.proofs.Laws.{left-known}
+use Rattle.open_list.specs.OpenList.{HasLeft}
+use Rattle.open_list.proofs.OpenList.{left-known}
 use Rattle.meeting_sweep.proofs.event.Statement.{statement}
 use Rattle.meeting_sweep.proofs.event.Tie as tie
 
@@ -37,10 +37,10 @@ module _ (c : tie.Else2) where
   abbrev s : tie.Start
   s = c .before .before .before .before .before .before .before .before .before .before
 
-  fewer : c .before .before .before .before .leave-all .result .count ≤ s .args .count
+  fewer : c .before .before .before .before .leave-all .result .used ≤ s .args .used
   fewer = c .before .before .before .before .leave-all .ensures .0 (not-false _ (c .if2 .left)) .0
 
-  left : Left (segments (s .args .s .now)) (s .args .ends .now) (take (s .args .count) (s .args .list .now)) (take (c .before .before .before .before .leave-all .result .count) (c .before .before .before .before .leave-all .last .1 .1 .0))
+  left : HasLeft (segments (s .args .s .now)) (s .args .ends .now) (take (s .args .used) (s .args .list .now)) (take (c .before .before .before .before .leave-all .result .used) (c .before .before .before .before .leave-all .last .1 .1 .0))
   left = c .before .before .before .before .leave-all .ensures .0 (not-false _ (c .if2 .left)) .1
 
 start-all-requires : tie.Need-start-all-requires

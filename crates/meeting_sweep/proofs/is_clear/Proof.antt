@@ -8,11 +8,11 @@ use Rattle.meeting_sweep.proofs.is_clear.Tie as tie
 count-requires : tie.Need-count-requires
 count-requires c κs = search needs
 
-slice-aggregate-sweep : tie.Need-slice-aggregate-sweep
-slice-aggregate-sweep c = search needs
+slice-aggregate-sweep-events : tie.Need-slice-aggregate-sweep-events
+slice-aggregate-sweep-events c = search needs
 
-sweep-requires : tie.Need-sweep-requires
-sweep-requires c κs =
+sweep-events-requires : tie.Need-sweep-events-requires
+sweep-events-requires c κs =
     let t = c .before .before in
     let k = t .before in
     let s = k .before .before in
@@ -24,11 +24,11 @@ same-length c = search needs
 returns : tie.Need-returns
 returns c = search needs
 
-slice-aggregate-sweep-2 : tie.Need-slice-aggregate-sweep-2
-slice-aggregate-sweep-2 c = search needs
+slice-aggregate-sweep-events-2 : tie.Need-slice-aggregate-sweep-events-2
+slice-aggregate-sweep-events-2 c = search needs
 
-sweep-requires-2 : tie.Need-sweep-requires-2
-sweep-requires-2 c κs = search needs
+sweep-events-requires-2 : tie.Need-sweep-events-requires-2
+sweep-events-requires-2 c κs = search needs
 
 same-length-2 : tie.Need-same-length-2
 same-length-2 c = search needs
@@ -41,11 +41,11 @@ is-clear-spec =
     tie.close
     (tie.spec
     count-requires
-    slice-aggregate-sweep
-    sweep-requires
+    slice-aggregate-sweep-events
+    sweep-events-requires
     same-length
     returns
-    slice-aggregate-sweep-2
-    sweep-requires-2
+    slice-aggregate-sweep-events-2
+    sweep-events-requires-2
     same-length-2
     returns-2)

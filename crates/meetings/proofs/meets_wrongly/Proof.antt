@@ -6,7 +6,7 @@ use native.Mathlib.Omega.{arith}
 use mir.Syntax.{w32}
 use Rattle.integers.proofs.Machine.{res, flag-lt}
 use Rattle.integers.proofs.Order.{ltZ-true}
-use Rattle.meetings.specs.Meetings.{parts, inside, meetsWrongly}
+use Rattle.meetings.specs.Meetings.{parts, inInterior, meetsWrongly}
 use Rattle.meetings.proofs.Right.{starts-right}
 use Rattle.meetings.proofs.meets_wrongly.Statement.{statement}
 use Rattle.meetings.proofs.meets_wrongly.Tie as tie
@@ -27,26 +27,26 @@ module _ (c : tie.Else2) where
   not-crossing : (parts (start .args .s) (start .args .t) && parts (start .args .t) (start .args .s)) ≡ false
   not-crossing = sym (c .before .crosses .ensures) ∙ c .if2 .left
 
-none-inside : (c : tie.Else3) → (inside (start (c .before .before) .args .s) (start (c .before .before) .args .t .a) || inside (start (c .before .before) .args .s) (start (c .before .before) .args .t .b)) ≡ false
-none-inside c = sym (c .before .end-inside .ensures) ∙ c .if3 .left
+none-in-interior : (c : tie.Else3) → (inInterior (start (c .before .before) .args .s) (start (c .before .before) .args .t .a) || inInterior (start (c .before .before) .args .s) (start (c .before .before) .args .t .b)) ≡ false
+none-in-interior c = sym (c .before .end-in-interior .ensures) ∙ c .if3 .left
 
 returns-2 : tie.Need-returns-2
 unfolding meetsWrongly
 returns-2 c = simp (sym (c .before .crosses .ensures) ∙ c .if2 .taken)
 
-end-inside-requires : tie.Need-end-inside-requires
-end-inside-requires c κs = search needs
+end-in-interior-requires : tie.Need-end-in-interior-requires
+end-in-interior-requires c κs = search needs
 
 returns-3 : tie.Need-returns-3
 unfolding meetsWrongly
-returns-3 c = simp (not-crossing (c .before .before), sym (c .before .end-inside .ensures) ∙ c .if3 .taken)
+returns-3 c = simp (not-crossing (c .before .before), sym (c .before .end-in-interior .ensures) ∙ c .if3 .taken)
 
-end-inside-requires-2 : tie.Need-end-inside-requires-2
-end-inside-requires-2 c κs = search needs
+end-in-interior-requires-2 : tie.Need-end-in-interior-requires-2
+end-in-interior-requires-2 c κs = search needs
 
 returns-4 : tie.Need-returns-4
 unfolding meetsWrongly
-returns-4 c = simp (not-crossing (c .before .before .before .before), none-inside (c .before .before), sym (c .before .end-inside2 .ensures) ∙ c .if4 .taken)
+returns-4 c = simp (not-crossing (c .before .before .before .before), none-in-interior (c .before .before), sym (c .before .end-in-interior2 .ensures) ∙ c .if4 .taken)
 
 same-ends-requires : tie.Need-same-ends-requires
 same-ends-requires c κs = search needs
@@ -55,7 +55,7 @@ returns-5 : tie.Need-returns-5
 unfolding meetsWrongly
 returns-5 c =
     let e = c .before in
-    c .same-ends .ensures ∙ sym (simp (not-crossing (e .before .before .before .before), none-inside (e .before .before), sym (e .before .end-inside2 .ensures) ∙ e .if4 .left))
+    c .same-ends .ensures ∙ sym (simp (not-crossing (e .before .before .before .before), none-in-interior (e .before .before), sym (e .before .end-in-interior2 .ensures) ∙ e .if4 .left))
 
 pub meets-wrongly-spec : {M : Type 1} → statement M
 meets-wrongly-spec =
@@ -64,9 +64,9 @@ meets-wrongly-spec =
     returns
     crosses-requires
     returns-2
-    end-inside-requires
+    end-in-interior-requires
     returns-3
-    end-inside-requires-2
+    end-in-interior-requires-2
     returns-4
     same-ends-requires
     returns-5)

@@ -5,8 +5,8 @@ use native.Mathlib.Omega.{arith}
 use Prim.Native.Nat.{ℕ, suc, _-_, _+_}
 use lib.ListN.{getD}
 use Rattle.segm.specs.Segments.{segments, segmentAt}
-use Rattle.strip.specs.Strip.{Next}
-use Rattle.open_list.proofs.Laws.{listed}
+use Rattle.strip.specs.Strip.{LowerNeighbour}
+use Rattle.scan.proofs.Scan.{proper-entry}
 use Rattle.open_list.proofs.closes_at.Statement.{statement}
 use Rattle.open_list.proofs.closes_at.Tie as tie
 
@@ -19,28 +19,28 @@ add-if2 c = search needs
 returns-2 : tie.Need-returns-2
 returns-2 c = (λ t j e h. absurd (omega arith), λ f. refl)
 
-sub-is-next : tie.Need-sub-is-next
-sub-is-next c = search needs
+sub-is-lower-neighbour : tie.Need-sub-is-lower-neighbour
+sub-is-lower-neighbour c = search needs
 
-mul-is-next : tie.Need-mul-is-next
-mul-is-next c = search needs
+mul-is-lower-neighbour : tie.Need-mul-is-lower-neighbour
+mul-is-lower-neighbour c = search needs
 
-shared-slice-read-is-next : tie.Need-shared-slice-read-is-next
-shared-slice-read-is-next c = search needs
+shared-slice-read-is-lower-neighbour : tie.Need-shared-slice-read-is-lower-neighbour
+shared-slice-read-is-lower-neighbour c = search needs
 
-add-is-next : tie.Need-add-is-next
-add-is-next c = search needs
+add-is-lower-neighbour : tie.Need-add-is-lower-neighbour
+add-is-lower-neighbour c = search needs
 
-mul-is-next-2 : tie.Need-mul-is-next-2
-mul-is-next-2 c = search needs
+mul-is-lower-neighbour-2 : tie.Need-mul-is-lower-neighbour-2
+mul-is-lower-neighbour-2 c = search needs
 
-shared-slice-read-is-next-2 : tie.Need-shared-slice-read-is-next-2
-shared-slice-read-is-next-2 c = search needs
+shared-slice-read-is-lower-neighbour-2 : tie.Need-shared-slice-read-is-lower-neighbour-2
+shared-slice-read-is-lower-neighbour-2 c = search needs
 
-is-next-requires : tie.Need-is-next-requires
-is-next-requires c κs =
+is-lower-neighbour-requires : tie.Need-is-lower-neighbour-requires
+is-lower-neighbour-requires c κs =
     let s = c .before .before .before .before .before in
-    (listed (s .args .list .now) (s .pre .0) (s .pre .1) (s .args .k - 1) (omega arith), listed (s .args .list .now) (s .pre .0) (s .pre .1) (s .args .k + 1) (omega arith))
+    (proper-entry (s .pre .0) (s .args .list .now) (s .pre .1) (s .args .k - 1) (omega arith), proper-entry (s .pre .0) (s .args .list .now) (s .pre .1) (s .args .k + 1) (omega arith))
 
 returns-3 : tie.Need-returns-3
 returns-3 c =
@@ -48,9 +48,9 @@ returns-3 c =
     let d = segments (s .args .s .now) in
     let l = s .args .list .now in
     let high : s .args .k + 1 ≡ suc (s .args .k) = omega arith in
-    let two : ℕ → ℕ → Type 0 = λ m n. Next (segmentAt d (getD l m 0)) (segmentAt d (getD l n 0)) in (
-      (λ t j e h. let low : s .args .k - 1 ≡ j = omega arith in subst (two j) high (subst (λ (m : ℕ). two m (s .args .k + 1)) low (c .is-next .ensures .0 t))),
-      (λ f. c .is-next .ensures .1 (subst (two (s .args .k - 1)) (sym high) (f (s .args .k - 1) (omega arith) (omega arith)))),
+    let two : ℕ → ℕ → Type 0 = λ m n. LowerNeighbour (segmentAt d (getD l m 0)) (segmentAt d (getD l n 0)) in (
+      (λ t j e h. let low : s .args .k - 1 ≡ j = omega arith in subst (two j) high (subst (λ (m : ℕ). two m (s .args .k + 1)) low (c .is-lower-neighbour .ensures .0 t))),
+      (λ f. c .is-lower-neighbour .ensures .1 (subst (two (s .args .k - 1)) (sym high) (f (s .args .k - 1) (omega arith) (omega arith)))),
     )
 
 pub closes-at-spec : {M : Type 1} → statement M
@@ -60,11 +60,11 @@ closes-at-spec =
     returns
     add-if2
     returns-2
-    sub-is-next
-    mul-is-next
-    shared-slice-read-is-next
-    add-is-next
-    mul-is-next-2
-    shared-slice-read-is-next-2
-    is-next-requires
+    sub-is-lower-neighbour
+    mul-is-lower-neighbour
+    shared-slice-read-is-lower-neighbour
+    add-is-lower-neighbour
+    mul-is-lower-neighbour-2
+    shared-slice-read-is-lower-neighbour-2
+    is-lower-neighbour-requires
     returns-3)

@@ -9,24 +9,23 @@ use lib.ListN.{length, take}
 use Rattle.integers.proofs.Booleans.{clash}
 use Rattle.segm.specs.Segments.{Drawing, segments}
 use Rattle.open_list.specs.OpenList.{Entered, Older, Marks}
-use Rattle.open_list.proofs.Laws.{none-entered, entered-more, entered-known, marks-more}
-use Rattle.open_list.proofs.Spanning.{can-enter-next}
+use Rattle.open_list.proofs.OpenList.{none-entered, entered-more, entered-known, marks-more, can-enter-next}
 use Rattle.open_list.proofs.enter_all.Statement.{statement}
 use Rattle.open_list.proofs.enter_all.Tie as tie
 
-record Passed (d : Drawing) (from to : ℕ) (old : List ℕ) (count : ℕ) (list : List ℕ) (held near i : ℕ) : Type 0 where
+record Passed (d : Drawing) (from to : ℕ) (old : List ℕ) (used : ℕ) (list : List ℕ) (held near i : ℕ) : Type 0 where
   since : from ≤ i
   until : i ≤ to
   fewer : held ≤ i
   room : length list ≡ length old
-  entered : Entered d from i (take count old) (take held list)
-  marks : Older from (take count old) → Marks from near (take held list)
+  entered : Entered d from i (take used old) (take held list)
+  marks : Older from (take used old) → Marks from near (take held list)
 
 abbrev Inv-loop : tie.InvT-loop
-Inv-loop s from to list₀ count guess held₀ near₀ i₀ list held near i = Passed (segments s) from to list₀ count list held near i
+Inv-loop s from to list₀ used guess held₀ near₀ i₀ list held near i = Passed (segments s) from to list₀ used list held near i
 
 abbrev μ-loop : tie.MeasureT-loop
-μ-loop s from to list₀ count guess held₀ near₀ i₀ list held near i = to - i
+μ-loop s from to list₀ used guess held₀ near₀ i₀ list held near i = to - i
 
 loop-holds : tie.Need-loop-holds Inv-loop μ-loop
 loop-holds c =
@@ -50,7 +49,7 @@ returns c =
     let l = c .before .before .before .before .before .before .before .before .loop in
     let s = c .before .before .before .before .before .before .before .before .before .before in
     let one = c .before .before .before .before .before .enter-one in
-    let next = can-enter-next (segments (s .args .s .now)) (s .args .from) (l .i) (l .i + 1) (s .args .to) (take (s .args .count) (s .args .list .now)) (take (l .held) (l .list)) (l .inv .since) (omega arith) (omega arith) in
+    let next = can-enter-next (segments (s .args .s .now)) (s .args .from) (l .i) (l .i + 1) (s .args .to) (take (s .args .used) (s .args .list .now)) (take (l .held) (l .list)) (l .inv .since) (omega arith) (omega arith) in
     (λ t. absurd (clash t (c .unclear .ensures)), λ w. absurd (clash (one .ensures .1 (next w (l .inv .entered))) (not-true _ (c .before .if1 .taken))))
 
 add-i : tie.Need-add-i Inv-loop μ-loop
@@ -81,7 +80,7 @@ returns-2 c =
     let l = c .before .loop in
     let s = c .before .before .before in
     let there : l .i ≡ s .args .to = omega (arith, l .inv .until) in
-    (λ t. (omega (arith, l .inv .fewer), subst (λ (i : ℕ). Entered (segments (s .args .s .now)) (s .args .from) i (take (s .args .count) (s .args .list .now)) (take (l .held) (l .list))) there (l .inv .entered), l .inv .marks), λ w. refl)
+    (λ t. (omega (arith, l .inv .fewer), subst (λ (i : ℕ). Entered (segments (s .args .s .now)) (s .args .from) i (take (s .args .used) (s .args .list .now)) (take (l .held) (l .list))) there (l .inv .entered), l .inv .marks), λ w. refl)
 
 pub enter-all-spec : {M : Type 1} → statement M
 enter-all-spec =

@@ -12,10 +12,9 @@ use lib.Seq.{length-take-le}
 use Rattle.integers.proofs.Booleans.{clash}
 use Rattle.segm.specs.Segments.{segments, segmentAt}
 use Rattle.strip.specs.Strip.{isVertical}
-use Rattle.scan.proofs.Laws.{length-put}
+use Rattle.scan.proofs.Scan.{length-insert}
 use Rattle.open_list.specs.OpenList.{FitsAt, Entered}
-use Rattle.open_list.proofs.Laws.{none-enters, one-enters, put-at}
-use Rattle.open_list.proofs.Spanning.{spanning-with}
+use Rattle.open_list.proofs.OpenList.{none-enters, one-enters, put-at, spanning-with}
 use Rattle.open_list.proofs.enter_one.Statement.{statement}
 use Rattle.open_list.proofs.enter_one.Tie as tie
 
@@ -37,7 +36,7 @@ slice-reshare-prefix-place-to-enter : tie.Need-slice-reshare-prefix-place-to-ent
 slice-reshare-prefix-place-to-enter c = search needs
 
 slice-aggregate-place-to-enter : tie.Need-slice-aggregate-place-to-enter
-slice-aggregate-place-to-enter c = let s = c .before .before .before .before .before in sym (length-take-le (s .args .count) (s .args .list .now) (omega (arith, s .pre .2)))
+slice-aggregate-place-to-enter c = let s = c .before .before .before .before .before in sym (length-take-le (s .args .used) (s .args .list .now) (omega (arith, s .pre .2)))
 
 place-to-enter-requires : tie.Need-place-to-enter-requires
 place-to-enter-requires c κs =
@@ -52,11 +51,11 @@ module _ (c : tie.Else2) where
   abbrev k : ℕ
   k = c .before .before .place-to-enter .result .at
 
-  fits : FitsAt (segments (start .args .s .now)) k (start .args .i) (take (start .args .count) (start .args .list .now))
+  fits : FitsAt (segments (start .args .s .now)) k (start .args .i) (take (start .args .used) (start .args .list .now))
   fits = c .before .before .place-to-enter .ensures .0 (not-false _ (c .if2 .left))
 
-  within : k ≤ start .args .count
-  within = omega (arith, fits .inside, length-take-le (start .args .count) (start .args .list .now) (omega (arith, start .pre .2)))
+  within : k ≤ start .args .used
+  within = omega (arith, fits .till, length-take-le (start .args .used) (start .args .list .now) (omega (arith, start .pre .2)))
 
 unclear-requires : tie.Need-unclear-requires
 unclear-requires c κs = search needs
@@ -93,13 +92,13 @@ returns-3 c =
     let s = start e in
     let d = segments (s .args .s .now) in
     let old = s .args .list .now in
-    let l = take (s .args .count) old in
+    let l = take (s .args .used) old in
     let put = c .before .before .insert .ensures in
     let slanted : isVertical (segmentAt d (s .args .i)) ≡ false = ap isVertical (sym (c .before .before .before .before .before .before .before .before .before .before .segment-in .ensures)) ∙ sym (c .before .before .before .before .before .before .before .before .before .is-vertical .ensures) ∙ c .before .before .before .before .before .before .before .before .if1 .left in (
       (λ t. (
         omega arith,
-        subst (Entered d (s .args .i) (s .args .i + 1) (take (s .args .count) old)) (sym put) (one-enters (k e) (s .args .i) (s .pre .4) slanted (fits e)),
-        inr (omega arith, subst (λ (l : List ℕ). k e + 1 ≤ length l) (sym put) (omega (arith, length-put (k e) (s .args .i) l, fits e .inside)), ap (λ (l : List ℕ). getD l (k e + 1 - 1) 0) put ∙ put-at (k e) (s .args .i) l (fits e .inside)),
+        subst (Entered d (s .args .i) (s .args .i + 1) (take (s .args .used) old)) (sym put) (one-enters (k e) (s .args .i) (s .pre .4) slanted (fits e)),
+        inr (omega arith, subst (λ (l : List ℕ). k e + 1 ≤ length l) (sym put) (omega (arith, length-insert (k e) (s .args .i) l, fits e .till)), ap (λ (l : List ℕ). getD l (k e + 1 - 1) 0) put ∙ put-at (k e) (s .args .i) l (fits e .till)),
       )),
       (λ w. refl),
     )

@@ -9,7 +9,7 @@ use mir.Val.{toZ, ofZ}
 use Rattle.integers.proofs.Machine.{got}
 use Rattle.geom.proofs.Points.{eqP-true}
 use Rattle.meetings.specs.Meetings.{side}
-use Rattle.open_list.proofs.Neighbours.{first-not, first-rest, first-beyond, first-end, second-not, second-rest, second-beyond, second-end, at-one-start, tells-next}
+use Rattle.open_list.proofs.NeighbourTest.{s-first-not, s-first-rest, s-first-beyond, s-first-end, t-first-not, t-first-rest, t-first-beyond, t-first-end, at-one-start, tells-neighbour}
 use Rattle.open_list.proofs.follows.Statement.{statement}
 use Rattle.open_list.proofs.follows.Tie as tie
 
@@ -33,7 +33,7 @@ returns c =
     let x = c .before in
     let l = x .before .before in
     let a = l .before .before .before .before .before .args in
-    tells-next (a .t) (a .u) (sym (first-not (a .t) (a .u) (sym (l .less .ensures) ∙ x .before .if1 .taken) (sym (first-is x) ∙ c .if2 .taken)))
+    tells-neighbour (a .t) (a .u) (sym (s-first-not (a .t) (a .u) (sym (l .less .ensures) ∙ x .before .if1 .taken) (sym (first-is x) ∙ c .if2 .taken)))
 
 cross-requires-2 : tie.Need-cross-requires-2
 cross-requires-2 c κs = search needs
@@ -45,7 +45,7 @@ returns-2 c =
     let x = e .before in
     let l = x .before .before in
     let a = l .before .before .before .before .before .args in
-    tells-next (a .t) (a .u) (sym (first-beyond (a .t) (a .u) (sym (l .less .ensures) ∙ x .before .if1 .taken) (sym (first-is x) ∙ e .if2 .left)
+    tells-neighbour (a .t) (a .u) (sym (s-first-beyond (a .t) (a .u) (sym (l .less .ensures) ∙ x .before .if1 .taken) (sym (first-is x) ∙ e .if2 .left)
     (sym (ap (ltZ (pos 0)) (got w64 (c .before .cross2 .result) (c .before .cross2 .ok) (c .before .cross2 .ensures))) ∙ c .if3 .taken)))
 
 same-requires : tie.Need-same-requires
@@ -57,7 +57,7 @@ returns-3 c =
     let x = e .before in
     let l = x .before .before in
     let a = l .before .before .before .before .before .args in
-    tells-next (a .t) (a .u) (sym (first-end (a .t) (a .u) (sym (l .less .ensures) ∙ x .before .if1 .taken) (sym (first-is x) ∙ e .if2 .left) (eqP-true (sym (c .before .same .ensures) ∙ c .if4 .taken))))
+    tells-neighbour (a .t) (a .u) (sym (s-first-end (a .t) (a .u) (sym (l .less .ensures) ∙ x .before .if1 .taken) (sym (first-is x) ∙ e .if2 .left) (eqP-true (sym (c .before .same .ensures) ∙ c .if4 .taken))))
 
 meets-wrongly-requires : tie.Need-meets-wrongly-requires
 meets-wrongly-requires c κs = search needs
@@ -68,7 +68,7 @@ returns-4 c =
     let x = e .before in
     let l = x .before .before in
     let a = l .before .before .before .before .before .args in
-    tells-next (a .t) (a .u) (ap not (c .meets-wrongly .ensures) ∙ sym (first-rest (a .t) (a .u) (sym (l .less .ensures) ∙ x .before .if1 .taken) (sym (first-is x) ∙ e .if2 .left)))
+    tells-neighbour (a .t) (a .u) (ap not (c .meets-wrongly .ensures) ∙ sym (s-first-rest (a .t) (a .u) (sym (l .less .ensures) ∙ x .before .if1 .taken) (sym (first-is x) ∙ e .if2 .left)))
 
 less-requires-2 : tie.Need-less-requires-2
 less-requires-2 c κs = search needs
@@ -82,7 +82,7 @@ returns-5 c =
     let m = x .before .before in
     let l = m .before .before in
     let a = l .before .before .before .before .before .args in
-    tells-next (a .t) (a .u) (sym (second-not (a .t) (a .u) (sym (l .less .ensures) ∙ m .before .if1 .left) (sym (m .less2 .ensures) ∙ x .before .if5 .taken) (sym (third-is x) ∙ c .if6 .taken)))
+    tells-neighbour (a .t) (a .u) (sym (t-first-not (a .t) (a .u) (sym (l .less .ensures) ∙ m .before .if1 .left) (sym (m .less2 .ensures) ∙ x .before .if5 .taken) (sym (third-is x) ∙ c .if6 .taken)))
 
 cross-requires-4 : tie.Need-cross-requires-4
 cross-requires-4 c κs = search needs
@@ -95,7 +95,7 @@ returns-6 c =
     let m = x .before .before in
     let l = m .before .before in
     let a = l .before .before .before .before .before .args in
-    tells-next (a .t) (a .u) (sym (second-beyond (a .t) (a .u) (sym (l .less .ensures) ∙ m .before .if1 .left) (sym (m .less2 .ensures) ∙ x .before .if5 .taken) (sym (third-is x) ∙ e .if6 .left)
+    tells-neighbour (a .t) (a .u) (sym (t-first-beyond (a .t) (a .u) (sym (l .less .ensures) ∙ m .before .if1 .left) (sym (m .less2 .ensures) ∙ x .before .if5 .taken) (sym (third-is x) ∙ e .if6 .left)
     (sym (ap (λ z. ltZ z (pos 0)) (got w64 (c .before .cross4 .result) (c .before .cross4 .ok) (c .before .cross4 .ensures))) ∙ c .if7 .taken)))
 
 same-requires-2 : tie.Need-same-requires-2
@@ -108,7 +108,7 @@ returns-7 c =
     let m = x .before .before in
     let l = m .before .before in
     let a = l .before .before .before .before .before .args in
-    tells-next (a .t) (a .u) (sym (second-end (a .t) (a .u) (sym (l .less .ensures) ∙ m .before .if1 .left) (sym (m .less2 .ensures) ∙ x .before .if5 .taken) (sym (third-is x) ∙ e .if6 .left) (eqP-true (sym (c .before .same2 .ensures) ∙ c .if8 .taken))))
+    tells-neighbour (a .t) (a .u) (sym (t-first-end (a .t) (a .u) (sym (l .less .ensures) ∙ m .before .if1 .left) (sym (m .less2 .ensures) ∙ x .before .if5 .taken) (sym (third-is x) ∙ e .if6 .left) (eqP-true (sym (c .before .same2 .ensures) ∙ c .if8 .taken))))
 
 meets-wrongly-requires-2 : tie.Need-meets-wrongly-requires-2
 meets-wrongly-requires-2 c κs = search needs
@@ -120,7 +120,7 @@ returns-8 c =
     let m = x .before .before in
     let l = m .before .before in
     let a = l .before .before .before .before .before .args in
-    tells-next (a .t) (a .u) (ap not (c .meets-wrongly2 .ensures) ∙ sym (second-rest (a .t) (a .u) (sym (l .less .ensures) ∙ m .before .if1 .left) (sym (m .less2 .ensures) ∙ x .before .if5 .taken) (sym (third-is x) ∙ e .if6 .left)))
+    tells-neighbour (a .t) (a .u) (ap not (c .meets-wrongly2 .ensures) ∙ sym (t-first-rest (a .t) (a .u) (sym (l .less .ensures) ∙ m .before .if1 .left) (sym (m .less2 .ensures) ∙ x .before .if5 .taken) (sym (third-is x) ∙ e .if6 .left)))
 
 cross-requires-5 : tie.Need-cross-requires-5
 cross-requires-5 c κs = search needs
@@ -131,7 +131,7 @@ returns-9 c =
     let m = c .before .before in
     let l = m .before .before in
     let a = l .before .before .before .before .before .args in
-    tells-next (a .t) (a .u) (ap (ltZ (pos 0)) (got w64 (c .cross5 .result) (c .cross5 .ok) (c .cross5 .ensures))
+    tells-neighbour (a .t) (a .u) (ap (ltZ (pos 0)) (got w64 (c .cross5 .result) (c .cross5 .ok) (c .cross5 .ensures))
     ∙ sym (at-one-start (a .t) (a .u) (sym (l .less .ensures) ∙ m .before .if1 .left) (sym (m .less2 .ensures) ∙ c .before .if5 .left)))
 
 pub follows-spec : {M : Type 1} → statement M

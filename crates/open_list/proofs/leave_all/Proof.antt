@@ -11,23 +11,22 @@ use lib.Seq.{take-suc, take-all}
 use Rattle.integers.proofs.Booleans.{clash}
 use Rattle.segm.specs.Segments.{Drawing, segments}
 use Rattle.lists.proofs.Members.{in-at}
-use Rattle.open_list.specs.OpenList.{Left}
-use Rattle.open_list.proofs.Laws.{none-left, left-more, left-known}
-use Rattle.open_list.proofs.Spanning.{can-leave-next}
+use Rattle.open_list.specs.OpenList.{HasLeft}
+use Rattle.open_list.proofs.OpenList.{none-left, left-more, left-known, can-leave-next}
 use Rattle.open_list.proofs.leave_all.Statement.{statement}
 use Rattle.open_list.proofs.leave_all.Tie as tie
 
-record Passed (d : Drawing) (ends old : List ℕ) (count : ℕ) (list : List ℕ) (held k : ℕ) : Type 0 where
+record Passed (d : Drawing) (ends old : List ℕ) (used : ℕ) (list : List ℕ) (held k : ℕ) : Type 0 where
   until : k ≤ length ends
-  fewer : held ≤ count
+  fewer : held ≤ used
   room : length list ≡ length old
-  left : Left d (take k ends) (take count old) (take held list)
+  left : HasLeft d (take k ends) (take used old) (take held list)
 
 abbrev Inv-loop : tie.InvT-loop
-Inv-loop s ends list₀ count guess held₀ near₀ lowest₀ k₀ list held near lowest k = Passed (segments s) ends list₀ count list held k
+Inv-loop s ends list₀ used guess held₀ near₀ lowest₀ k₀ list held near lowest k = Passed (segments s) ends list₀ used list held k
 
 abbrev μ-loop : tie.MeasureT-loop
-μ-loop s ends list₀ count guess held₀ near₀ lowest₀ k₀ list held near lowest k = length ends - k
+μ-loop s ends list₀ used guess held₀ near₀ lowest₀ k₀ list held near lowest k = length ends - k
 
 loop-holds : tie.Need-loop-holds Inv-loop μ-loop
 loop-holds c =
@@ -57,7 +56,7 @@ returns c =
     let l = c .before .before .before .before .before .before .before .before .before .loop in
     let s = c .before .before .before .before .before .before .before .before .before .before .before .before in
     let one = c .before .before .before .before .before .leave-one in
-    let next = can-leave-next (segments (s .args .s .now)) (s .args .ends .now) (take (s .args .count) (s .args .list .now)) (take (l .held) (l .list)) (l .k) (omega arith) in
+    let next = can-leave-next (segments (s .args .s .now)) (s .args .ends .now) (take (s .args .used) (s .args .list .now)) (take (l .held) (l .list)) (l .k) (omega arith) in
     (λ t. absurd (clash t (c .unclear .ensures)), λ w. absurd (clash (one .ensures .1 (next w (l .inv .left))) (not-true _ (c .before .if1 .taken))))
 
 lowest-place-requires : tie.Need-lowest-place-requires Inv-loop μ-loop
@@ -81,7 +80,7 @@ loop-again c =
       until = omega arith;
       fewer = omega (arith, r .0, l .inv .fewer);
       room = omega (arith, one .kept, l .inv .room);
-      left = subst (λ (a : List ℕ). Left (segments (s .args .s .now)) a (take (s .args .count) (s .args .list .now)) (take (one .result .count) (one .last .1 .1 .0)))
+      left = subst (λ (a : List ℕ). HasLeft (segments (s .args .s .now)) a (take (s .args .used) (s .args .list .now)) (take (one .result .used) (one .last .1 .1 .0)))
           (sym (ap (λ n. take n ends) (add-one (l .k)) ∙ take-suc ends (l .k) 0 h)) (left-more (getD ends (l .k) 0) (l .inv .left) (r .1));
     }
 
@@ -93,7 +92,7 @@ returns-2 c =
     let l = c .before .loop in
     let s = c .before .before .before .before in
     let ends = s .args .ends .now in
-    (λ t. (l .inv .fewer, subst (λ (a : List ℕ). Left (segments (s .args .s .now)) a (take (s .args .count) (s .args .list .now)) (take (l .held) (l .list))) (take-all (l .k) ends (omega arith)) (l .inv .left)), λ w. refl)
+    (λ t. (l .inv .fewer, subst (λ (a : List ℕ). HasLeft (segments (s .args .s .now)) a (take (s .args .used) (s .args .list .now)) (take (l .held) (l .list))) (take-all (l .k) ends (omega arith)) (l .inv .left)), λ w. refl)
 
 pub leave-all-spec : {M : Type 1} → statement M
 leave-all-spec =

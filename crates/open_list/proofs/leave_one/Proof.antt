@@ -11,8 +11,8 @@ use Rattle.integers.proofs.Booleans.{clash}
 use Rattle.segm.specs.Segments.{segments, segmentAt}
 use Rattle.segm.proofs.Segments.{length-segments}
 use Rattle.strip.specs.Strip.{isVertical}
-use Rattle.open_list.specs.OpenList.{Left}
-use Rattle.open_list.proofs.Laws.{none-leaves}
+use Rattle.open_list.specs.OpenList.{HasLeft}
+use Rattle.open_list.proofs.OpenList.{none-leaves}
 use Rattle.open_list.proofs.leave_one.Statement.{statement}
 use Rattle.open_list.proofs.leave_one.Tie as tie
 
@@ -58,7 +58,7 @@ returns-3 c =
     let slanted : isVertical (segmentAt d (s .args .e - n)) ≡ false =
     ap isVertical (sym (c .before .before .before .before .before .before .segment-in .ensures)) ∙ sym (c .before .before .before .before .before .is-vertical .ensures) ∙ c .before .before .before .before .if2 .left in
     let r = c .before .before .take-out .ensures in
-    (λ t. (r .0 t .0, subst (λ (e : ℕ). Left d (e ∷ []) (take (s .args .count) (s .args .list .now)) (take (c .before .before .take-out .result .count) (c .before .before .take-out .last .1 .1 .1 .0))) there (r .0 t .1)), λ w. r .1 (w .x) (w .spanning) (w .inside (s .args .e - n) (inl there) slanted))
+    (λ t. (r .0 t .0, subst (λ (e : ℕ). HasLeft d (e ∷ []) (take (s .args .used) (s .args .list .now)) (take (c .before .before .take-out .result .used) (c .before .before .take-out .last .1 .1 .1 .0))) there (r .0 t .1)), λ w. r .1 (w .x) (w .spanning) (w .in-list (s .args .e - n) (inl there) slanted))
 
 pub leave-one-spec : {M : Type 1} → statement M
 leave-one-spec =

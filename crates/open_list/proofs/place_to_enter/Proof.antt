@@ -8,7 +8,8 @@ use Rattle.faults.specs.Faultless.{Proper}
 use Rattle.faults.proofs.Faultless.{proper-at}
 use Rattle.scan.specs.declared.Sought.the-variants.{Along}
 use Rattle.scan.specs.Scan.{belowAt, Changes}
-use Rattle.open_list.proofs.Spanning.{fits}
+use Rattle.scan.proofs.Scan.{all-proper}
+use Rattle.open_list.proofs.OpenList.{changes-fit}
 use Rattle.open_list.proofs.place_to_enter.Statement.{statement}
 use Rattle.open_list.proofs.place_to_enter.Tie as tie
 
@@ -19,7 +20,7 @@ returns : tie.Need-returns
 returns c = (λ t. c .before .fits-at .ensures .0 (c .if2 .taken), λ x w n. refl)
 
 place-of-requires : tie.Need-place-of-requires
-place-of-requires c κs = let s = c .before .before in (λ i m. record { inside = s .pre .2 i m; proper = proper-at (s .pre .0) i (s .pre .2 i m) }, subst Proper (sym (s .pre .1)) (proper-at (s .pre .0) (s .args .i) (s .pre .3)))
+place-of-requires c κs = let s = c .before .before in (all-proper (s .pre .0) (s .args .list .now) (s .pre .2), subst Proper (sym (s .pre .1)) (proper-at (s .pre .0) (s .args .i) (s .pre .3)))
 
 fits-at-requires-2 : tie.Need-fits-at-requires-2
 fits-at-requires-2 c κs = let s = c .before .before .before in (s .pre .0, s .pre .2, s .pre .3, c .place-of .ensures .till)
@@ -31,7 +32,7 @@ returns-2 c =
     let l = s .args .list .now in
     let place = c .before .place-of in
     let changes = subst (λ (t : Segment). Changes (belowAt d (Along t) l) 0 (length l) (place .result)) (s .pre .1) (place .ensures) in
-    (c .fits-at2 .ensures .0, λ x w n. c .fits-at2 .ensures .1 (fits d l (s .pre .2) (s .args .i) (place .result) (s .pre .3) n w changes))
+    (c .fits-at2 .ensures .0, λ x w n. c .fits-at2 .ensures .1 (changes-fit d l (s .pre .2) (s .args .i) (place .result) (s .pre .3) n w changes))
 
 pub place-to-enter-spec : {M : Type 1} → statement M
 place-to-enter-spec =

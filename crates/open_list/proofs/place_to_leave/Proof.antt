@@ -10,7 +10,8 @@ use Rattle.faults.specs.Faultless.{Proper}
 use Rattle.faults.proofs.Faultless.{proper-at}
 use Rattle.scan.specs.declared.Sought.the-variants.{Along}
 use Rattle.scan.specs.Scan.{belowAt, Changes}
-use Rattle.open_list.proofs.Spanning.{found}
+use Rattle.scan.proofs.Scan.{all-proper}
+use Rattle.open_list.proofs.OpenList.{changes-found}
 use Rattle.open_list.proofs.place_to_leave.Statement.{statement}
 use Rattle.open_list.proofs.place_to_leave.Tie as tie
 
@@ -45,7 +46,7 @@ returns-2 : tie.Need-returns-2
 returns-2 c x w m = (omega arith, omega (arith, c .if5 .taken))
 
 place-of-requires : tie.Need-place-of-requires
-place-of-requires c κs = let s = c .before .before .before in (λ i m. record { inside = s .pre .3 i m; proper = proper-at (s .pre .0) i (s .pre .3 i m) }, subst Proper (sym (s .pre .1)) (proper-at (s .pre .0) (s .args .i) (s .pre .2)))
+place-of-requires c κs = let s = c .before .before .before in (all-proper (s .pre .0) (s .args .list .now) (s .pre .3), subst Proper (sym (s .pre .1)) (proper-at (s .pre .0) (s .args .i) (s .pre .2)))
 
 returns-3 : tie.Need-returns-3
 returns-3 c x w m =
@@ -53,7 +54,7 @@ returns-3 c x w m =
     let d = segments (s .args .s .now) in
     let l = s .args .list .now in
     let changes = subst (λ (t : Segment). Changes (belowAt d (Along t) l) 0 (length l) (c .place-of .result)) (s .pre .1) (c .place-of .ensures) in
-    found d l (s .pre .3) (s .pre .4) w (s .args .i) (c .place-of .result) m changes
+    changes-found d l (s .pre .3) (s .pre .4) w (s .args .i) (c .place-of .result) m changes
 
 pub place-to-leave-spec : {M : Type 1} → statement M
 place-to-leave-spec =

@@ -7,27 +7,27 @@ use Prim.Native.Nat.{ℕ, _+_, _-_, _*_, _/_, _≤_, _<_}
 use lib.ListN.{length, getD, take, set, length-set}
 use lib.Seq.{length-take-le}
 use Rattle.lists.specs.Written.{written}
-use Rattle.scan.specs.Scan.{putAt}
-use Rattle.scan.proofs.Moving.{put-over, move-up, unmoved, put-within}
+use Rattle.scan.specs.Scan.{insertAt}
+use Rattle.scan.proofs.Scan.{insert-over, move-up, unmoved, insert-within}
 use Rattle.scan.proofs.insert.Statement.{statement}
 use Rattle.scan.proofs.insert.Tie as tie
 
 -- so many blocks of the entries up to `top` are still to move
-record Moved (old : List ℕ) (count k top : ℕ) (list : List ℕ) (j : ℕ) : Type 0 where
+record Moved (old : List ℕ) (used k top : ℕ) (list : List ℕ) (j : ℕ) : Type 0 where
   blocks : ℕ
   at : j ≡ k + 16 * blocks
   till : j ≤ top
-  reach : count ≤ top
+  reach : used ≤ top
   inside : top < length old
   room : length list ≡ length old
   between : ℕ
-  is : list ≡ written (putAt j between (take top old)) old
+  is : list ≡ written (insertAt j between (take top old)) old
 
 abbrev Inv-loop : tie.InvT-loop
-Inv-loop list₀ count k i j₀ list j = Moved list₀ count k j₀ list j
+Inv-loop list₀ used k i j₀ list j = Moved list₀ used k j₀ list j
 
 abbrev μ-loop : tie.MeasureT-loop
-μ-loop list₀ count k i j₀ list j = j
+μ-loop list₀ used k i j₀ list j = j
 
 sub-j : tie.Need-sub-j Inv-loop μ-loop
 sub-j c = search needs
@@ -48,7 +48,7 @@ loop-holds : tie.Need-loop-holds Inv-loop μ-loop
 loop-holds c =
     let s = c .before in
     let old = s .args .list .now in
-    let many = (s .args .count - s .args .k + 15) / 16 in
+    let many = (s .args .used - s .args .k + 15) / 16 in
     let top = s .args .k + many * 16 in
     record {
       blocks = many;
@@ -77,10 +77,10 @@ loop-again c =
     let i = l .inv in
     let s = o .before .before .before in
     let old = s .args .list .now in
-    let top = s .args .k + (s .args .count - s .args .k + 15) / 16 * 16 in
+    let top = s .args .k + (s .args .used - s .args .k + 15) / 16 * 16 in
     let long : length (take top old) ≡ top = length-take-le top old (omega (arith, i .inside)) in
     let back : l .j - 16 + 16 ≡ l .j = omega (arith, i .at, o .loop-test .taken) in
-    let moved = move-up (take top old) old 16 (l .j - 16) (i .between) (l .list) (omega (arith, back, long, i .till)) (i .is ∙ ap (λ n. written (putAt n (i .between) (take top old)) old) (sym back)) in
+    let moved = move-up (take top old) old 16 (l .j - 16) (i .between) (l .list) (omega (arith, back, long, i .till)) (i .is ∙ ap (λ n. written (insertAt n (i .between) (take top old)) old) (sym back)) in
     record {
       blocks = i .blocks - 1;
       at = omega (arith, i .at, o .loop-test .taken);
@@ -108,12 +108,12 @@ returns c =
     let s = c .before .before .before in
     let old = s .args .list .now in
     let k = s .args .k in
-    let top = k + (s .args .count - k + 15) / 16 * 16 in
+    let top = k + (s .args .used - k + 15) / 16 * 16 in
     let long : length (take top old) ≡ top = length-take-le top old (omega (arith, i .inside)) in
     let there : l .j ≡ k = omega (arith, i .at, c .loop-test .left) in
-    ap (λ (a : List ℕ). take (s .args .count + 1) (set a k (s .args .i))) (i .is ∙ ap (λ m. written (putAt m (i .between) (take top old)) old) there)
-    ∙ ap (take (s .args .count + 1)) (put-over (take top old) old k (i .between) (s .args .i) (omega (arith, long)))
-    ∙ put-within old k (s .args .count) top (s .args .i) (s .pre .0) (i .reach) (omega (arith, i .inside))
+    ap (λ (a : List ℕ). take (s .args .used + 1) (set a k (s .args .i))) (i .is ∙ ap (λ m. written (insertAt m (i .between) (take top old)) old) there)
+    ∙ ap (take (s .args .used + 1)) (insert-over (take top old) old k (i .between) (s .args .i) (omega (arith, long)))
+    ∙ insert-within old k (s .args .used) top (s .args .i) (s .pre .0) (i .reach) (omega (arith, i .inside))
 
 pub insert-spec : {M : Type 1} → statement M
 insert-spec =

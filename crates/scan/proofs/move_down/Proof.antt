@@ -5,7 +5,7 @@ use native.Mathlib.Omega.{arith}
 use Prim.Native.Nat.{_+_, _-_, _≤_}
 use lib.ListN.{length, length-set}
 use Rattle.scan.specs.Scan.{movedDown}
-use Rattle.scan.proofs.Moving.{move-down-next, move-down-none}
+use Rattle.scan.proofs.Scan.{move-down-next, move-down-none}
 use Rattle.scan.proofs.move_down.Statement.{statement}
 use Rattle.scan.proofs.move_down.Tie as tie
 

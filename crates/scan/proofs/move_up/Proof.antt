@@ -5,7 +5,7 @@ use native.Mathlib.Omega.{arith}
 use Prim.Native.Nat.{_≤_}
 use lib.ListN.{length, length-set}
 use Rattle.scan.specs.Scan.{movedUp}
-use Rattle.scan.proofs.Moving.{move-up-next, move-up-none}
+use Rattle.scan.proofs.Scan.{move-up-next, move-up-none}
 use Rattle.scan.proofs.move_up.Statement.{statement}
 use Rattle.scan.proofs.move_up.Tie as tie
 

@@ -6,22 +6,22 @@ use native.Mathlib.Omega.{arith}
 use Prim.Native.Nat.{ℕ, suc, _+_, _-_, _≤_, _<_}
 use lib.ListN.{length, take}
 use Rattle.lists.specs.Written.{written}
-use Rattle.scan.specs.Scan.{outAt}
-use Rattle.scan.proofs.Moving.{none-moved, move-down, out-within}
+use Rattle.scan.specs.Scan.{removeAt}
+use Rattle.scan.proofs.Scan.{none-moved, move-down, remove-within}
 use Rattle.scan.proofs.remove.Statement.{statement}
 use Rattle.scan.proofs.remove.Tie as tie
 
-record Moved (old : List ℕ) (count k : ℕ) (list : List ℕ) (j : ℕ) : Type 0 where
+record Moved (old : List ℕ) (used k : ℕ) (list : List ℕ) (j : ℕ) : Type 0 where
   from : k ≤ j
-  till : j < count + 15
+  till : j < used + 15
   room : length list ≡ length old
-  is : list ≡ written (outAt k (take (suc j) old)) old
+  is : list ≡ written (removeAt k (take (suc j) old)) old
 
 abbrev Inv-loop : tie.InvT-loop
-Inv-loop list₀ count k last j₀ list j = Moved list₀ count k list j
+Inv-loop list₀ used k last j₀ list j = Moved list₀ used k list j
 
 abbrev μ-loop : tie.MeasureT-loop
-μ-loop list₀ count k last j₀ list j = count - j
+μ-loop list₀ used k last j₀ list j = used - j
 
 sub-last : tie.Need-sub-last Inv-loop μ-loop
 sub-last c = search needs
@@ -59,8 +59,8 @@ returns : tie.Need-returns Inv-loop μ-loop
 returns c =
     let l = c .before .loop in
     let s = c .before .before .before in
-    ap (take (s .args .count - 1)) (l .inv .is)
-    ∙ out-within (s .args .list .now) (s .args .k) (s .args .count) (suc (l .j)) (s .pre .0) (omega (arith, c .loop-test .left)) (omega (arith, l .inv .till, s .pre .1))
+    ap (take (s .args .used - 1)) (l .inv .is)
+    ∙ remove-within (s .args .list .now) (s .args .k) (s .args .used) (suc (l .j)) (s .pre .0) (omega (arith, c .loop-test .left)) (omega (arith, l .inv .till, s .pre .1))
 
 pub remove-spec : {M : Type 1} → statement M
 remove-spec =

@@ -10,9 +10,9 @@ use Rattle.geom.proofs.Points.{eqP-true, eq-eqP}
 use Rattle.integers.proofs.Booleans.{clash}
 use Rattle.segm.specs.declared.Segment.{Segment}
 use Rattle.segm.specs.Segments.{Drawing, segments, segmentAt}
-use Rattle.count_up.proofs.Stretch.{but-one}
+use Rattle.count_up.proofs.CountUp.{but-one}
 use Rattle.starts.specs.Starts.{Splits}
-use Rattle.starts.proofs.Nodes.{splits-at}
+use Rattle.starts.proofs.Starts.Nodes.{splits-at}
 use Rattle.starts.proofs.node_end.Statement.{statement}
 use Rattle.starts.proofs.node_end.Tie as tie
 

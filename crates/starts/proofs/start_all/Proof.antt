@@ -9,28 +9,28 @@ use lib.ListN.{length, take}
 use lib.IntN.{ℤ}
 use Rattle.integers.proofs.Booleans.{clash}
 use Rattle.segm.specs.Segments.{Drawing, segments}
-use Rattle.count_up.specs.CountUp.{Within}
-use Rattle.open_list.proofs.Laws.{entered-known}
+use Rattle.count_up.specs.CountUp.{BoundedBy}
+use Rattle.open_list.proofs.OpenList.{entered-known}
 use Rattle.starts.specs.Starts.{Splits, Started}
-use Rattle.starts.proofs.Onward.{none-started, started-more, can-start-next}
+use Rattle.starts.proofs.Starts.Onward.{none-started, started-more, can-start-next}
 use Rattle.starts.proofs.start_all.Statement.{statement}
 use Rattle.starts.proofs.start_all.Tie as tie
 
-record Passed (d : Drawing) (from to : ℕ) (old : List ℕ) (count : ℕ) (oldTops : List ℤ) (list : List ℕ) (tops : List ℤ) (held i : ℕ) : Type 0 where
+record Passed (d : Drawing) (from to : ℕ) (old : List ℕ) (used : ℕ) (oldTops : List ℤ) (list : List ℕ) (tops : List ℤ) (held i : ℕ) : Type 0 where
   since : from ≤ i
   until : i ≤ to
   fewer : held ≤ i
   room : length list ≡ length old
   room-tops : length tops ≡ length oldTops
   splits : Splits d i
-  started : Started d from i (take count old) (take held list) oldTops tops
-  within : Within (2048000 * i) tops
+  started : Started d from i (take used old) (take held list) oldTops tops
+  within : BoundedBy (2048000 * i) tops
 
 abbrev Inv-loop : tie.InvT-loop
-Inv-loop s from to list₀ count guess tops₀ held₀ near₀ lowest₀ i₀ list tops held near lowest i = Passed (segments s) from to list₀ count tops₀ list tops held i
+Inv-loop s from to list₀ used guess tops₀ held₀ near₀ lowest₀ i₀ list tops held near lowest i = Passed (segments s) from to list₀ used tops₀ list tops held i
 
 abbrev μ-loop : tie.MeasureT-loop
-μ-loop s from to list₀ count guess tops₀ held₀ near₀ lowest₀ i₀ list tops held near lowest i = to - i
+μ-loop s from to list₀ used guess tops₀ held₀ near₀ lowest₀ i₀ list tops held near lowest i = to - i
 
 loop-holds : tie.Need-loop-holds Inv-loop μ-loop
 loop-holds c =
@@ -112,7 +112,7 @@ returns-2 c =
     let l = c .before .loop in
     let s = c .before .before .before in
     let there : l .i ≡ s .args .to = omega (arith, l .inv .until) in (
-      (λ t. (omega (arith, l .inv .fewer), subst (λ (i : ℕ). Started (segments (s .args .s .now)) (s .args .from) i (take (s .args .count) (s .args .list .now)) (take (l .held) (l .list)) (s .args .tops .now) (l .tops)) there (l .inv .started), subst (λ (i : ℕ). Within (2048000 * i) (l .tops)) there (l .inv .within))),
+      (λ t. (omega (arith, l .inv .fewer), subst (λ (i : ℕ). Started (segments (s .args .s .now)) (s .args .from) i (take (s .args .used) (s .args .list .now)) (take (l .held) (l .list)) (s .args .tops .now) (l .tops)) there (l .inv .started), subst (λ (i : ℕ). BoundedBy (2048000 * i) (l .tops)) there (l .inv .within))),
       (λ w. refl),
     )
 

@@ -10,13 +10,13 @@ use lib.Seq.{length-take-le}
 use lib.IntN.{ℤ}
 use Rattle.integers.proofs.Booleans.{clash}
 use Rattle.segm.specs.Segments.{Drawing, segments, segmentAt}
-use Rattle.neighbours.specs.Neighbours.{Known}
-use Rattle.count_up.specs.CountUp.{Within, Climbed}
-use Rattle.count_up.proofs.Stretch.{climbed-within}
+use Rattle.strip.specs.Neighbours.{PlacesOf}
+use Rattle.count_up.specs.CountUp.{BoundedBy, Climbed}
+use Rattle.count_up.proofs.CountUp.{climbed-within}
 use Rattle.open_list.specs.OpenList.{Entered, Older, Marks}
-use Rattle.open_list.proofs.Laws.{entered-known}
-use Rattle.verticals.proofs.Gaps.{cut-in}
-use Rattle.starts.proofs.Counting.{node-counting}
+use Rattle.open_list.proofs.OpenList.{entered-known}
+use Rattle.verticals.proofs.Verticals.Gaps.{stands-in-gap}
+use Rattle.starts.proofs.Starts.Counting.{node-counting}
 use Rattle.starts.proofs.start_node.Statement.{statement}
 use Rattle.starts.proofs.start_node.Tie as tie
 
@@ -47,27 +47,27 @@ module _ (c : tie.After-lesser) where
   from = s .args .from
 
   abbrev l : List ℕ
-  l = take (s .args .count) (s .args .list .now)
+  l = take (s .args .used) (s .args .list .now)
 
-  abbrev count : ℕ
-  count = e .enter-all .result .count
+  abbrev used : ℕ
+  used = e .enter-all .result .used
 
   abbrev l′ : List ℕ
-  l′ = take count (e .enter-all .last .1 .1 .1 .0)
+  l′ = take used (e .enter-all .last .1 .1 .1 .0)
 
-  came : (count ≤ s .args .to) × Entered d from (s .args .to) l l′ × (Older from l → Marks from (e .enter-all .result .near) l′)
+  came : (used ≤ s .args .to) × Entered d from (s .args .to) l l′ × (Older from l → Marks from (e .enter-all .result .near) l′)
   came = e .enter-all .ensures .0 (not-false _ (c .before .if1 .left))
 
-  room : count ≤ length (e .enter-all .last .1 .1 .1 .0)
+  room : used ≤ length (e .enter-all .last .1 .1 .1 .0)
   room = omega (arith, came .0, s .pre .1, s .pre .3, e .enter-all .kept)
 
-  long : length l′ ≡ count
-  long = length-take-le count (e .enter-all .last .1 .1 .1 .0) room
+  long : length l′ ≡ used
+  long = length-take-le used (e .enter-all .last .1 .1 .1 .0) room
 
-  known : Known d l′
+  known : PlacesOf d l′
   known = entered-known (s .pre .1) (s .pre .5) (came .1)
 
-  small : Within 2100000000 (s .args .tops .now)
+  small : BoundedBy 2100000000 (s .args .tops .now)
   small i = let h = s .pre .9 i in omega (arith, h, s .pre .8 .since, s .pre .1, s .pre .0 .few)
 
 lesser-requires : tie.Need-lesser-requires
@@ -98,10 +98,10 @@ module _ (c : tie.After-tops) where
   climbed : Climbed (d k) (from k) (k .lesser .result) (l′ k) tops₀ tops₁ (c .before .count-node .result)
   climbed = c .before .count-node .ensures
 
-  greater : Within (2048000 * from k + 1024000) tops₁
+  greater : BoundedBy (2048000 * from k + 1024000) tops₁
   greater = climbed-within climbed (s k .pre .0) (known k) (omega (arith, long k, came k .0, s k .pre .1, s k .pre .0 .few)) (s k .pre .9)
 
-  wide : Within 2100000000 tops₁
+  wide : BoundedBy 2100000000 tops₁
   wide i = let h = greater i in omega (arith, h, s k .pre .8 .since, s k .pre .1, s k .pre .0 .few)
 
 slice-reshare-prefix-stand-all : tie.Need-slice-reshare-prefix-stand-all
@@ -145,7 +145,7 @@ returns-3 c =
         came (k t) .0,
         record {
           entered = came (k t) .1;
-          gaps = λ v a b u. record { m = to; own = b; till = omega arith; splits = s (k t) .pre .8 .splits; between = l′ (k t); entered = came (k t) .1; cut = let g = all .each v a b u in cut-in (d (k t)) (segmentAt (d (k t)) v) (l′ (k t)) (g .place) (g .cut) };
+          gaps = λ v a b u. record { m = to; own = b; till = omega arith; splits = s (k t) .pre .8 .splits; between = l′ (k t); entered = came (k t) .1; in-gap = let g = all .each v a b u in stands-in-gap (d (k t)) (segmentAt (d (k t)) v) (l′ (k t)) (g .place) (g .in-gap) };
           counted = node-counting (s (k t) .pre .0) (s (k t) .pre .8) (s (k t) .pre .1) (s (k t) .pre .7) (s (k t) .pre .4) (came (k t) .1) (came (k t) .2) (λ h. k t .lesser .ensures .1 (omega (arith, h, long (k t)))) (climbed t) all;
         },
         (λ i. let h = stand .ensures .1 (2048000 * from (k t) + 1024000) (greater t) i in omega (arith, h, s (k t) .pre .8 .since, s (k t) .pre .1, s (k t) .pre .0 .few)),

@@ -20,17 +20,17 @@ use Rattle.lists.proofs.Members.{in-at, in-take, pairs-before}
 use Rattle.faults.proofs.Faultless.{proper-at}
 use Rattle.ends.specs.Ends.{endPoint}
 use Rattle.ends.proofs.Ends.{end-near}
-use Rattle.neighbours.proofs.Upright.{vertical-upright}
-use Rattle.verticals.specs.Verticals.{Stands, Beyond, Unbroken}
+use Rattle.strip.proofs.Neighbours.Upright.{vertical-upright}
+use Rattle.verticals.specs.Verticals.{VerticalStart, Beyond, Unbroken}
 use mir.Syntax.{w32}
 use mir.Val.{toZ, ofZ}
 use Rattle.segm.specs.Segments.{Drawing, segments, segmentAt}
-use Rattle.verticals.proofs.Columns.{Passed, none-passed, passes, not-between, not-below, stands?}
+use Rattle.verticals.proofs.Verticals.Columns.{ColumnPassed, none-passed, column-passes, not-between, not-below, vertical-start?}
 use Rattle.verticals.proofs.are_unbroken.Statement.{statement}
 use Rattle.verticals.proofs.are_unbroken.Tie as tie
 
 abbrev Inv-loop : tie.InvT-loop
-Inv-loop s ends foot₀ top₀ k₀ foot top k = (k ≤ length ends) × Passed (segments s) (take k ends) (toZ w32 foot) (toZ w32 top)
+Inv-loop s ends foot₀ top₀ k₀ foot top k = (k ≤ length ends) × ColumnPassed (segments s) (take k ends) (toZ w32 foot) (toZ w32 top)
 
 abbrev μ-loop : tie.MeasureT-loop
 μ-loop s ends foot₀ top₀ k₀ foot top k = length ends - k
@@ -72,7 +72,7 @@ module _ (c : tie.After-pass-end Inv-loop μ-loop) where
   inside : q .loop .k < length l
   inside = c .before .before .loop-test .taken
 
-  passed : Passed d (take (q .loop .k) l) (toZ w32 (q .loop .foot)) (toZ w32 (q .loop .top))
+  passed : ColumnPassed d (take (q .loop .k) l) (toZ w32 (q .loop .foot)) (toZ w32 (q .loop .top))
   passed = q .loop .inv .1
 
   here : e ∈ l
@@ -90,7 +90,7 @@ module _ (c : tie.After-pass-end Inv-loop μ-loop) where
   least : negℤ (pos 2147483648) ≤ℤ endPoint d e .y
   least = let n = near-y (endPoint d e) (end-near d (s .pre .0) e (s .pre .1 .known e here)) in omega (ints, n, of-abs (endPoint d e .y), of-neg (pos 2147483648), of-pos 2147483648)
 
-  up : Stands d e → segmentAt d e .a .y <ℤ segmentAt d e .b .y
+  up : VerticalStart d e → segmentAt d e .a .y <ℤ segmentAt d e .b .y
   up h = vertical-upright (ltP-true (proper-at (s .pre .0) e (h .inside) .rises)) (h .vertical) .rises
 
 returns : tie.Need-returns Inv-loop μ-loop
@@ -112,8 +112,8 @@ loop-again c =
     let foot = read w32 (r .foot) (omega arith) in
     let top = read w32 (r .top) (omega arith) in (
       omega (arith, inside p),
-      subst (λ (seen : List ℕ). Passed (d p) seen (toZ w32 (ofZ w32 (r .foot))) (toZ w32 (ofZ w32 (r .top)))) (sym (ap (λ (n : ℕ). take n (l p)) (add-one (q p .loop .k)) ∙ take-suc (l p) (q p .loop .k) 0 (inside p)))
-          (passes (d p) (passed p) (e p) (rises p) (least p) (subst (λ z. Beyond (d p) (e p) (toZ w32 (q p .loop .foot)) (toZ w32 (q p .loop .top)) z (toZ w32 (ofZ w32 (r .top)))) (sym foot) (subst (Beyond (d p) (e p) (toZ w32 (q p .loop .foot)) (toZ w32 (q p .loop .top)) (r .foot)) (sym top) b)) (λ h. lt-le (up p h)) (stands? (d p) (e p))),
+      subst (λ (seen : List ℕ). ColumnPassed (d p) seen (toZ w32 (ofZ w32 (r .foot))) (toZ w32 (ofZ w32 (r .top)))) (sym (ap (λ (n : ℕ). take n (l p)) (add-one (q p .loop .k)) ∙ take-suc (l p) (q p .loop .k) 0 (inside p)))
+          (column-passes (d p) (passed p) (e p) (rises p) (least p) (subst (λ z. Beyond (d p) (e p) (toZ w32 (q p .loop .foot)) (toZ w32 (q p .loop .top)) z (toZ w32 (ofZ w32 (r .top)))) (sym foot) (subst (Beyond (d p) (e p) (toZ w32 (q p .loop .foot)) (toZ w32 (q p .loop .top)) (r .foot)) (sym top) b)) (λ h. lt-le (up p h)) (vertical-start? (d p) (e p))),
     )
 
 returns-2 : tie.Need-returns-2 Inv-loop μ-loop

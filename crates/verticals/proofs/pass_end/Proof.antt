@@ -19,7 +19,7 @@ use Rattle.segm.specs.Segments.{Drawing, segments}
 use Rattle.segm.proofs.Segments.{length-segments}
 use Rattle.ends.specs.Ends.{endPoint}
 use Rattle.strip.specs.Strip.{isVertical}
-use Rattle.verticals.specs.Verticals.{Stands}
+use Rattle.verticals.specs.Verticals.{VerticalStart}
 use Rattle.verticals.proofs.pass_end.Statement.{statement}
 use Rattle.verticals.proofs.pass_end.Tie as tie
 
@@ -85,7 +85,7 @@ returns-2 : tie.Need-returns-2
 returns-2 c =
     let k = c .before .before .before .before in
     let p = k .before .before .before .before .before in
-    let stands : Stands (d p) (s p .args .e) = record { inside = omega (arith, length-segments (s p .args .s .now), k .before .before .count .ensures, k .before .if2 .taken); vertical = ap isVertical (sym (k .segment-in .ensures)) ∙ sym (c .before .before .before .is-vertical .ensures) ∙ c .before .before .if3 .taken } in (
+    let stands : VerticalStart (d p) (s p .args .e) = record { inside = omega (arith, length-segments (s p .args .s .now), k .before .before .count .ensures, k .before .if2 .taken); vertical = ap isVertical (sym (k .segment-in .ensures)) ∙ sym (c .before .before .before .is-vertical .ensures) ∙ c .before .before .if3 .taken } in (
       (λ t. record {
         out = outer p (k .before .before .before .if1 .left);
         on = λ _. (ltZ-false (sym (low-is p) ∙ not-true _ t), y-is p, got w32 (k .segment-in .result .b .y) (omega arith) (ap (λ (u : Segment). u .b .y) (k .segment-in .ensures)));

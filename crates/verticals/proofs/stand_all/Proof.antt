@@ -16,10 +16,10 @@ use Rattle.segm.specs.Segments.{Drawing, segments, segmentAt}
 use Rattle.strip.specs.Strip.{isVertical}
 use Rattle.faults.specs.Faultless.{Faultless}
 use Rattle.faults.proofs.Faultless.{winding-at}
-use Rattle.count_up.specs.CountUp.{lastIn, Within}
-use Rattle.count_up.proofs.Stretch.{last-within, set-within}
-use Rattle.verticals.specs.Verticals.{CutAt, AllStand, ClearIn}
-use Rattle.verticals.proofs.Gaps.{stand-by, stand-on}
+use Rattle.count_up.specs.CountUp.{lastIn, BoundedBy}
+use Rattle.count_up.proofs.CountUp.{last-within, set-within}
+use Rattle.verticals.specs.Verticals.{InGapAt, AllStand, ClearIn}
+use Rattle.verticals.proofs.Verticals.Gaps.{stand-by, stand-on}
 use Rattle.verticals.proofs.stand_all.Statement.{statement}
 use Rattle.verticals.proofs.stand_all.Tie as tie
 
@@ -28,7 +28,7 @@ record Standing (d : Drawing) (from to i : ℕ) (l : List ℕ) (old tops : List 
   span : i - from ≤ to - from
   room : length tops ≡ length old
   stand : AllStand d from i l old tops
-  within : (b : ℕ) → Within b old → Within (b + 1000 * (i - from)) tops
+  within : (b : ℕ) → BoundedBy b old → BoundedBy (b + 1000 * (i - from)) tops
 
 module _ {d : Drawing} {from to i : ℕ} {l : List ℕ} {old tops : List ℤ} (a : Standing d from to i l old tops) (inside : i < to) where
   standing-by : isVertical (segmentAt d i) ≡ false → Standing d from to (i + 1) l old tops
@@ -40,7 +40,7 @@ module _ {d : Drawing} {from to i : ℕ} {l : List ℕ} {old tops : List ℤ} (a
     within = λ b w j. let h = a .within b w j in omega (arith, a .since);
   }
 
-  standing-on : Faultless d → i < length d → i < length tops → isVertical (segmentAt d i) ≡ true → (k : ℕ) → CutAt d (segmentAt d i) k l
+  standing-on : Faultless d → i < length d → i < length tops → isVertical (segmentAt d i) ≡ true → (k : ℕ) → InGapAt d (segmentAt d i) k l
       → Standing d from to (i + 1) l old (set tops i (lastIn tops (take k l) +ℤ segmentAt d i .winding))
   standing-on r known room e k c = record {
     since = omega (arith, a .since);
@@ -126,7 +126,7 @@ loop-again c =
     let k = w .2 .result .place in
     let now = w .6 ∙ r .1 ∙ ap (λ (u : Segment). set (q .loop .tops) i (lastIn (q .loop .tops) (take k (s .args .list .now)) +ℤ u .winding)) (v .segment-in .ensures) in
     subst (Standing d (s .args .from) (s .args .to) (i + 1) (s .args .list .now) (s .args .tops .now)) (sym now)
-    (standing-on inv inside (s .pre .0) (omega (arith, inside, s .pre .1)) (omega (arith, inside, s .pre .1, s .pre .3, inv .room)) (is ∙ w .0 .taken) k (subst (λ (u : Segment). CutAt d u k (s .args .list .now)) (v .segment-in .ensures) (r .0))))
+    (standing-on inv inside (s .pre .0) (omega (arith, inside, s .pre .1)) (omega (arith, inside, s .pre .1, s .pre .3, inv .room)) (is ∙ w .0 .taken) k (subst (λ (u : Segment). InGapAt d u k (s .args .list .now)) (v .segment-in .ensures) (r .0))))
     (λ w. subst (Standing d (s .args .from) (s .args .to) (i + 1) (s .args .list .now) (s .args .tops .now)) (sym (w .1)) (standing-by inv inside (is ∙ w .0 .left)))
     (c .if1 .came)
 

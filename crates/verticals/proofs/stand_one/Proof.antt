@@ -15,7 +15,7 @@ use Rattle.lists.proofs.Members.{in-take}
 use Rattle.faults.specs.Faultless.{Proper}
 use Rattle.faults.proofs.Faultless.{proper-at, winding-at}
 use Rattle.count_up.specs.CountUp.{lastIn}
-use Rattle.count_up.proofs.Stretch.{last-within}
+use Rattle.count_up.proofs.CountUp.{last-within}
 use Rattle.verticals.proofs.stand_one.Statement.{statement}
 use Rattle.verticals.proofs.stand_one.Tie as tie
 
@@ -26,7 +26,7 @@ slice-aggregate-count-below : tie.Need-slice-aggregate-count-below
 slice-aggregate-count-below c =
     let s = c .before .before .before .before in
     let gap = c .before .before .gap-of in
-    sym (length-take-le (gap .result .place) (s .args .list .now) (gap .ensures .0 (c .before .if1 .taken) .inside))
+    sym (length-take-le (gap .result .place) (s .args .list .now) (gap .ensures .0 (c .before .if1 .taken) .till))
 
 count-below-requires : tie.Need-count-below-requires
 count-below-requires c κs =
