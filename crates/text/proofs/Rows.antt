@@ -2,28 +2,20 @@
 use mathlib.Core.Path.{_≡_, refl, sym, ap, ap₂, _∙_}
 use mathlib.Core.List.{List, [], _∷_, flatten}
 use mathlib.Core.Option.{Option, none, some}
-use Prim.Native.Nat.{ℕ, zero, suc, _+_, _*_, _-_, _<_, _≤_}
-use native.Mathlib.Nat.{zero-add}
+use Prim.Native.Nat.{ℕ, zero, suc, _+_, _-_, _<_, _≤_}
 use native.Mathlib.Omega.{arith}
-use mathlib.Core.Bool.{Bool, true, false}
-use borrow.Author.Tests.{eq-eqb, ne-eqb, eqb-true, ltb-false}
+use borrow.Author.Tests.{eq-eqb, ne-eqb, eqb-true}
 use lib.Dec.{eqb, eqb·suc-zero}
 use lib.ListN.{length, set, length-append}
-use lib.Seq.{sets, take-all}
+use lib.Seq.{sets}
 use lib.IntN.{ℤ}
 use Rattle.integers.proofs.Booleans.{same-test}
-use Rattle.lists.specs.Written.{written}
-use Rattle.refusal.specs.Order.{refuseIf}
-use Rattle.refusal.specs.Asked.{lent, tooShort}
-use Rattle.lists.proofs.Written.{sets-append, sets-front, sets-all}
-use Rattle.text.specs.declared.Reading.the-variants as reading-is
-use Rattle.text.specs.declared.lines.Scanned.{Scanned}
-use Rattle.text.specs.declared.lines.Scanned.the-variants as scanned-is
+use Rattle.lists.proofs.Written.{sets-append, sets-all}
 use Rattle.decimal.specs.declared.Field.{Field}
 use Rattle.decimal.specs.declared.Field.the-variants.{Number, Malformed}
 use Rattle.decimal.specs.Decimal.{fieldOf}
-use Rattle.text.specs.Grammar.{pieces, andRest, row, fieldsIn, RowsFound, Bad, Rows, afterLast, andLines, rowsFrom, Drawn, choicesOf, parsedRows}
-use Rattle.text.specs.Storing.{outcome, readVerdict, answered, readInto, rowStored, listIf, Nothing, Numbers, rowsStored, linesStored}
+use Rattle.text.specs.Grammar.{pieces, andRest, row, fieldsIn, RowsFound, Bad, Rows, afterLast, andLines, rowsFrom}
+use Rattle.text.specs.Storing.{rowStored, listIf, Numbers, rowsStored}
 use Rattle.text.proofs.Pieces.{Some, pieces-some}
 
 -- two constructors that would be equal
@@ -118,41 +110,7 @@ line-stored line at k l m (some r) (Rows rows) h e =
     let q : m ≡ sets l at r = cc in
     ap₂ Numbers (omega (arith, length-append r (flatten rows))) (sets-append l at r (flatten rows) ∙ rw (n, q))
 
--- ---- the answer
 -- the first line's numbers fill their list
 pub row-filled : (o : Option (List ℤ)) (l m : List ℤ) → ((zs : List ℤ) → o ≡ some zs → length zs ≡ length l) → some m ≡ rowStored 0 l o → o ≡ some m
 row-filled none l m h e = sym e
 row-filled (some r) l m h e = let q : m ≡ sets l 0 r = cc in ap some (sym (q ∙ sets-all r l (h r refl)))
-
--- storing nothing told of a bad line
-pub bad-answer : (first : List ℤ) (rest : RowsFound) (line : ℕ) (l old : List ℤ) → Nothing line ≡ rowsStored 0 l rest
-    → outcome (reading-is.Refused 1 line) old ≡ readInto old (parsedRows (andLines 1 (some first) rest))
-unfolding readVerdict
-bad-answer first (Bad later) line l old e = let q : line ≡ later = cc in rw q
-bad-answer first (Rows rows) line l old e = absurd (differ (cc))
-
--- ... or of none, and how many numbers there are: the list is too short for them,
-pub short-answer : (first : List ℤ) (rest : RowsFound) (count : ℕ) (l m old : List ℤ) → Numbers count m ≡ rowsStored 0 l rest → tooShort count (lent (length old) 1) ≡ true
-    → outcome (reading-is.Refused 11 0) old ≡ readInto old (parsedRows (andLines 1 (some first) rest))
-unfolding readVerdict
-short-answer first (Bad later) count l m old e t = absurd (differ (cc))
-short-answer first (Rows rows) count l m old e t =
-    let p : count ≡ 0 + length (flatten rows) = cc in
-    let n : length (flatten rows) ≡ count = sym (p ∙ zero-add (length (flatten rows))) in
-    rw (n, t)
-
--- or all are stored
-pub good-answer : (first : List ℤ) (rest : RowsFound) (count : ℕ) (l m old new : List ℤ) (again : Scanned) → Numbers count m ≡ rowsStored 0 l rest → linesStored again new ≡ rowsStored 0 old rest
-    → tooShort count (lent (length old) 1) ≡ false → outcome (reading-is.Read (choicesOf first) count) new ≡ readInto old (parsedRows (andLines 1 (some first) rest))
-unfolding readVerdict tooShort
-good-answer first (Bad later) count l m old new again e f t = absurd (differ (cc))
-good-answer first (Rows rows) count l m old new (scanned-is.Bad line) e f t = absurd (differ (cc))
-good-answer first (Rows rows) count l m old new (scanned-is.Good n) e f t =
-    let zs = flatten rows in
-    let p : count ≡ 0 + length zs = cc in
-    let q : new ≡ sets old 0 zs = cc in
-    let n : count ≡ length zs = p ∙ zero-add (length zs) in
-    let enough : length zs ≤ length old = omega (arith, n, ltb-false (length old) (1 * count) t) in
-    let all : new ≡ written zs old = q ∙ sets-front zs old ∙ ap (λ (l : List ℤ). written l old) (take-all (length old) zs enough) in
-    let long : tooShort (length zs) (lent (length old) 1) ≡ false = ap (λ k. tooShort k (lent (length old) 1)) (sym n) ∙ t in
-    ap₂ (λ k t. outcome (reading-is.Read (choicesOf first) k) t) n all ∙ sym (ap (λ (b : Bool). answered (refuseIf 11 b) (Drawn (choicesOf first) zs) old) long)
