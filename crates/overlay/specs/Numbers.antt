@@ -1,19 +1,11 @@
--- The answers of the public operations as the numbers that C is handed: number and place of a refusal, or 0 and 0 and the counts. Assumes nothing.
+-- What C is handed: the numbers that each public operation sets out its answer in, and its lent lists when it returns. Assumes nothing.
 use mathlib.Core.List.{List}
 use Prim.Native.Nat.{ℕ}
 use lib.IntN.{ℤ, pos}
-use Rattle.build.specs.declared.run.Filled.{Filled}
-use Rattle.build.specs.declared.run.Filled.the-variants.{Done, Refused}
-use Rattle.build.specs.Fills.{fillsOutcome}
-use Rattle.string_clip.specs.declared.Clipped.{Clipped}
-use Rattle.string_clip.specs.declared.Clipped.the-variants as clipped-is
-use Rattle.string_clip.specs.Run.{clipOutcome}
-use Rattle.string_slice.specs.declared.Sliced.{Sliced}
-use Rattle.string_slice.specs.declared.Sliced.the-variants as sliced-is
-use Rattle.string_slice.specs.Run.{sliceOutcome}
-use Rattle.string_split.specs.declared.Loops.{Loops}
-use Rattle.string_split.specs.declared.Loops.the-variants as loops-are
-use Rattle.string_split.specs.Run.{splitOutcome}
+use Rattle.build.specs.Fills as fills
+use Rattle.string_clip.specs.Run as clip
+use Rattle.string_slice.specs.Run as slice
+use Rattle.string_split.specs.Run as split
 use Rattle.text.specs.declared.Reading.{Reading}
 use Rattle.text.specs.declared.Reading.the-variants as reading-is
 use Rattle.text.specs.Storing.{readOutcome}
@@ -24,10 +16,9 @@ use Rattle.overlay.specs.declared.Split.{Split}
 use Rattle.overlay.specs.declared.Read.{Read}
 
 -- ---- fills
--- the answer of a fills run in numbers
-abbrev pub filledNumbers : Filled → Fills
-filledNumbers (Done count) = record { number = 0; place = 0; count = count }
-filledNumbers (Refused number place) = record { number = number; place = place; count = 0 }
+-- the answer of a fills run as C's struct
+abbrev pub fillsStruct : fills.Told → Fills
+fillsStruct t = record { number = t .number; place = t .place; count = t .count }
 
 -- what a call of `overlay_fills` returns, and the lent list then
 pub record Returned : Type 0 where
@@ -39,67 +30,71 @@ returned answer list = record { answer = answer; list = list }
 
 -- what `overlay_fills` promises
 unfoldable pub fillsNumbers : List ℤ → ℤ → List ℕ → Returned
-fillsNumbers numbers rule lent = let o = fillsOutcome numbers rule lent in returned (filledNumbers (o .answer)) (o .list)
+fillsNumbers numbers rule lent = let o = fills.fillsOutcome numbers rule lent in returned (fillsStruct (o .numbers)) (o .list)
 
 -- ---- clip
--- the answer of a clip run in numbers
-abbrev pub clippedNumbers : Clipped → Clip
-clippedNumbers (clipped-is.Done found) = record { number = 0; place = 0; paths = found .paths; points = found .points; steps = found .steps; travel = found .travel }
-clippedNumbers (clipped-is.Refused number place) = record { number = number; place = place; paths = 0; points = 0; steps = 0; travel = 0 }
+-- the answer of a clip run as C's struct
+abbrev pub clipStruct : clip.Told → Clip
+clipStruct t =
+    record { number = t .number; place = t .place; paths = t .totals .paths; points = t .totals .points; steps = t .totals .steps; travel = t .totals .travel }
+
+-- its lent lists
+abbrev pub clipLists : List ℤ → List ℕ → clip.Lists
+clipLists = clip.lists
 
 -- what a call of `overlay_clip` returns, and the lent lists then
 pub record ReturnedClip : Type 0 where
   pub answer : Clip
-  pub points : List ℤ
-  pub lengths : List ℕ
+  pub lists : clip.Lists
 
-abbrev pub returnedClip : Clip → List ℤ → List ℕ → ReturnedClip
-returnedClip answer points lengths = record { answer = answer; points = points; lengths = lengths }
+abbrev pub returnedClip : Clip → clip.Lists → ReturnedClip
+returnedClip answer ls = record { answer = answer; lists = ls }
 
 -- what `overlay_clip` promises
-unfoldable pub clipNumbers : List ℤ → (rule invert boundary : ℤ) → List ℤ → List ℕ → ReturnedClip
-clipNumbers numbers rule invert boundary points lengths =
-    let o = clipOutcome numbers rule invert boundary points lengths in returnedClip (clippedNumbers (o .answer)) (o .points) (o .lengths)
+unfoldable pub clipNumbers : List ℤ → (rule invert boundary : ℤ) → clip.Lists → ReturnedClip
+clipNumbers numbers rule invert boundary ls = let o = clip.clipOutcome numbers rule invert boundary ls in returnedClip (clipStruct (o .numbers)) (o .lists)
 
 -- ---- slice
--- the answer of a slice run in numbers
-abbrev pub slicedNumbers : Sliced → Slice
-slicedNumbers (sliced-is.Done found) = record { number = 0; place = 0; contours = found .contours; points = found .points }
-slicedNumbers (sliced-is.Refused number place) = record { number = number; place = place; contours = 0; points = 0 }
+-- the answer of a slice run as C's struct
+abbrev pub sliceStruct : slice.Told → Slice
+sliceStruct t = record { number = t .number; place = t .place; contours = t .contours; points = t .points }
+
+-- its lent lists
+abbrev pub sliceLists : List ℤ → List ℕ → List ℕ → slice.Lists
+sliceLists = slice.lists
 
 -- what a call of `overlay_slice` returns, and the lent lists then
 pub record ReturnedSlice : Type 0 where
   pub answer : Slice
-  pub points : List ℤ
-  pub lengths : List ℕ
-  pub roles : List ℕ
+  pub lists : slice.Lists
 
-abbrev pub returnedSlice : Slice → List ℤ → List ℕ → List ℕ → ReturnedSlice
-returnedSlice answer points lengths roles = record { answer = answer; points = points; lengths = lengths; roles = roles }
+abbrev pub returnedSlice : Slice → slice.Lists → ReturnedSlice
+returnedSlice answer ls = record { answer = answer; lists = ls }
 
 -- what `overlay_slice` promises
-unfoldable pub sliceNumbers : List ℤ → (rule direction : ℤ) → ℕ → List ℤ → List ℕ → List ℕ → ReturnedSlice
-sliceNumbers numbers rule direction least points lengths roles =
-    let o = sliceOutcome numbers rule direction least points lengths roles in returnedSlice (slicedNumbers (o .answer)) (o .points) (o .lengths) (o .roles)
+unfoldable pub sliceNumbers : List ℤ → (rule direction : ℤ) → ℕ → slice.Lists → ReturnedSlice
+sliceNumbers numbers rule direction least ls = let o = slice.sliceOutcome numbers rule direction least ls in returnedSlice (sliceStruct (o .numbers)) (o .lists)
 
 -- ---- split
--- the answer of a split run in numbers
-abbrev pub loopsNumbers : Loops → Split
-loopsNumbers (loops-are.Done found) = record { number = 0; place = 0; loops = found .loops; points = found .points }
-loopsNumbers (loops-are.Refused number place) = record { number = number; place = place; loops = 0; points = 0 }
+-- the answer of a split run as C's struct
+abbrev pub splitStruct : split.Told → Split
+splitStruct t = record { number = t .number; place = t .place; loops = t .loops; points = t .points }
+
+-- its lent lists
+abbrev pub splitLists : List ℤ → List ℕ → split.Lists
+splitLists = split.lists
 
 -- what a call of `overlay_split` returns, and the lent lists then
 pub record ReturnedSplit : Type 0 where
   pub answer : Split
-  pub out : List ℤ
-  pub lengths : List ℕ
+  pub lists : split.Lists
 
-abbrev pub returnedSplit : Split → List ℤ → List ℕ → ReturnedSplit
-returnedSplit answer out lengths = record { answer = answer; out = out; lengths = lengths }
+abbrev pub returnedSplit : Split → split.Lists → ReturnedSplit
+returnedSplit answer ls = record { answer = answer; lists = ls }
 
 -- what `overlay_split` promises
-unfoldable pub splitNumbers : List ℤ → ℕ → List ℤ → List ℕ → ReturnedSplit
-splitNumbers points least out lengths = let o = splitOutcome points least out lengths in returnedSplit (loopsNumbers (o .answer)) (o .out) (o .lengths)
+unfoldable pub splitNumbers : List ℤ → ℕ → split.Lists → ReturnedSplit
+splitNumbers points least ls = let o = split.splitOutcome points least ls in returnedSplit (splitStruct (o .numbers)) (o .lists)
 
 -- ---- read
 -- the answer of a reader in numbers: refusal 1 where the text is malformed

@@ -1,12 +1,11 @@
-// The functions that C and Rust call, and nothing else: numbers and slices in, a struct of numbers out. Every function here is proved, and the crate assumes
-// nothing of its own. No function has a `requires`.
+// The functions that C and Rust call, and nothing else: numbers and slices in, a struct of numbers out.
 use build::Filled;
 use string_clip::Clipped;
 use string_slice::Sliced;
 use string_split::Loops;
 use text::Reading;
 ghost use mathlib.Core.Path.{_≡_};
-ghost use Rattle.overlay.specs.Numbers.{fillsNumbers, returned, clipNumbers, returnedClip, sliceNumbers, returnedSlice, splitNumbers, returnedSplit, readNumbers, returnedRead};
+ghost use Rattle.overlay.specs.Numbers.{fillsNumbers, returned, clipLists, clipNumbers, returnedClip, sliceLists, sliceNumbers, returnedSlice, splitLists, splitNumbers, returnedSplit, readNumbers, returnedRead};
 
 // A refusal's number and place, or 0 and 0 and how many fills were written.
 #[repr(C)]
@@ -18,10 +17,10 @@ pub struct Fills {
 
 // The fills of a drawing, one entry a segment.
 #[no_mangle]
-pub extern "C" fn overlay_fills(segments: &[i32], rule: i32, fills: &mut [u8]) -> Fills
-    ensures { λ r. ⌜ returned r (now (fills .exit)) ≡ fillsNumbers (now (segments .entry)) rule (now (fills .entry)) ⌝ }
+pub extern "C" fn overlay_fills(numbers: &[i32], rule: i32, fills: &mut [u8]) -> Fills
+    ensures { λ r. ⌜ returned r (now (fills .exit)) ≡ fillsNumbers (now (numbers .entry)) rule (now (fills .entry)) ⌝ }
 {
-    match build::fills(segments, rule, fills) {
+    match build::fills(numbers, rule, fills) {
         Filled::Done(count) => Fills {
             number: 0,
             place: 0,
@@ -49,16 +48,16 @@ pub struct Clip {
 // The cut lines inside or outside, as x, y pairs and one length a path.
 #[no_mangle]
 pub extern "C" fn overlay_clip(
-    segments: &[i32],
+    numbers: &[i32],
     rule: i32,
     invert: i32,
     boundary: i32,
     points: &mut [i32],
     lengths: &mut [u32],
 ) -> Clip
-    ensures { λ r. ⌜ returnedClip r (now (points .exit)) (now (lengths .exit)) ≡ clipNumbers (now (segments .entry)) rule invert boundary (now (points .entry)) (now (lengths .entry)) ⌝ }
+    ensures { λ r. ⌜ returnedClip r (clipLists (now (points .exit)) (now (lengths .exit))) ≡ clipNumbers (now (numbers .entry)) rule invert boundary (clipLists (now (points .entry)) (now (lengths .entry))) ⌝ }
 {
-    match string_clip::clip(segments, rule, invert, boundary, points, lengths) {
+    match string_clip::clip(numbers, rule, invert, boundary, points, lengths) {
         Clipped::Done(found) => Clip {
             number: 0,
             place: 0,
@@ -90,7 +89,7 @@ pub struct Slice {
 // The contours of the filled area cut along all segments, as x, y pairs and one length and one role a contour.
 #[no_mangle]
 pub extern "C" fn overlay_slice(
-    segments: &[i32],
+    numbers: &[i32],
     rule: i32,
     direction: i32,
     min_area: u64,
@@ -98,9 +97,9 @@ pub extern "C" fn overlay_slice(
     lengths: &mut [u32],
     roles: &mut [u8],
 ) -> Slice
-    ensures { λ r. ⌜ returnedSlice r (now (points .exit)) (now (lengths .exit)) (now (roles .exit)) ≡ sliceNumbers (now (segments .entry)) rule direction «min_area» (now (points .entry)) (now (lengths .entry)) (now (roles .entry)) ⌝ }
+    ensures { λ r. ⌜ returnedSlice r (sliceLists (now (points .exit)) (now (lengths .exit)) (now (roles .exit))) ≡ sliceNumbers (now (numbers .entry)) rule direction «min_area» (sliceLists (now (points .entry)) (now (lengths .entry)) (now (roles .entry))) ⌝ }
 {
-    match string_slice::slice(segments, rule, direction, min_area, points, lengths, roles) {
+    match string_slice::slice(numbers, rule, direction, min_area, points, lengths, roles) {
         Sliced::Done(found) => Slice {
             number: 0,
             place: 0,
@@ -133,7 +132,7 @@ pub extern "C" fn overlay_split(
     out: &mut [i32],
     lengths: &mut [u32],
 ) -> Split
-    ensures { λ r. ⌜ returnedSplit r (now (out .exit)) (now (lengths .exit)) ≡ splitNumbers (now (points .entry)) «min_area» (now (out .entry)) (now (lengths .entry)) ⌝ }
+    ensures { λ r. ⌜ returnedSplit r (splitLists (now (out .exit)) (now (lengths .exit))) ≡ splitNumbers (now (points .entry)) «min_area» (splitLists (now (out .entry)) (now (lengths .entry))) ⌝ }
 {
     match string_split::split(points, min_area, out, lengths) {
         Loops::Done(found) => Split {

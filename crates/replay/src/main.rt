@@ -12,7 +12,7 @@ use string_clip::Clipped;
 use string_clip::Totals;
 use string_slice::Contours;
 use string_slice::Sliced;
-use string_split::Found;
+use string_split::LoopTotals;
 use string_split::Loops;
 
 // The letters that begin a line: f, c, s and l.
@@ -221,7 +221,7 @@ fn print_contours(found: Contours, points: &[i32], lengths: &[u32], roles: &[u8]
 }
 
 // What an accepted split run found.
-fn print_loops(found: Found, out: &[i32], lengths: &[u32]) {
+fn print_loops(found: LoopTotals, out: &[i32], lengths: &[u32]) {
     print_after_comma(found.loops as u64);
     print_after_comma(found.points as u64);
     print_lengths(lengths, found.loops);

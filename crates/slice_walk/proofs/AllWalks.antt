@@ -19,8 +19,10 @@ use Rattle.moves.specs.Moves.{Move, over, takenAll, bitsRemaining}
 use Rattle.moves.specs.Begins.{begins}
 use Rattle.moves.proofs.Moves.{takes-one, takes-spent}
 use Rattle.moves.proofs.Begins.{begins-some}
+use Rattle.faults.specs.Faultless.{Faultless}
+use Rattle.faults.proofs.Faultless.{ends-near}
 use Rattle.slice_walk.specs.Walk.{onto, bind, walkFrom, begun, walksFrom, walks, directionOf, walkPoints}
-use Rattle.slice_walk.specs.Writing.{ProperLinks, allPoints}
+use Rattle.slice_walk.specs.Writing.{allPoints}
 use Rattle.slice_walk.proofs.Choice.{IfSome}
 use Rattle.slice_walk.proofs.Till.{Begun, walk-begun}
 
@@ -40,14 +42,14 @@ length-all links (w ∷ ws) = omega (
   length-all links ws,
 )
 
--- the points of proper links are in range
-near-at : (links : Drawing) → ProperLinks links → (k : ℕ) → (inRange (segmentAt links k .a) ≡ true) × (inRange (segmentAt links k .b) ≡ true)
+-- the points of faultless links are in range
+near-at : (links : Drawing) → Faultless links → (k : ℕ) → (inRange (segmentAt links k .a) ≡ true) × (inRange (segmentAt links k .b) ≡ true)
 unfolding inRange coordinate within
 near-at links p k = go (decLe (length links) k)
   where
     go : Dec (length links ≤ k) → (inRange (segmentAt links k .a) ≡ true) × (inRange (segmentAt links k .b) ≡ true)
     go (yes h) = subst (λ (s : Segment). (inRange (s .a) ≡ true) × (inRange (s .b) ≡ true)) (sym (past links k h)) (refl, refl)
-    go (no h) = p .near (segmentAt links k) (segment-in links k refl (omega arith))
+    go (no h) = ends-near p (segmentAt links k) (segment-in links k refl (omega arith))
 
 start-near : (out forth : Bool) (s : Segment) → inRange (s .a) ≡ true → inRange (s .b) ≡ true → inRange (way out (asDrawn forth s) .start) ≡ true
 unfolding way asDrawn
@@ -56,7 +58,7 @@ start-near true false s a b = b
 start-near false true s a b = b
 start-near false false s a b = a
 
-pub walk-near : (links : Drawing) → ProperLinks links → (walk : List Move) → AllInRange (walkPoints links walk)
+pub walk-near : (links : Drawing) → Faultless links → (walk : List Move) → AllInRange (walkPoints links walk)
 unfolding walkPoints over
 walk-near links p walk q i =
     let f : Move → Point = λ m. over links (directionOf walk) m .start in

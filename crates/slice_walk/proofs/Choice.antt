@@ -16,11 +16,10 @@ use Rattle.integers.proofs.Booleans.{clash, both-r, same-test}
 use Rattle.integers.proofs.Linear.{ints, of-neg, of-pos}
 use Rattle.integers.proofs.Order.{le-leZ, lt-ltZ}
 use Rattle.geom.specs.declared.Point.{Point}
-use Rattle.geom.specs.Points.{ltP, eqP, inRange}
+use Rattle.geom.specs.Points.{ltP, eqP}
 use Rattle.geom.proofs.Points.{eq-eqP, ne-eqP, ltP-irrefl}
 use Rattle.lists.specs.Members.{_∈_, keep}
 use Rattle.segm.specs.Segments.{Drawing, segmentAt}
-use Rattle.segm.proofs.Segments.{segment-in}
 use Rattle.lists.proofs.Members.{keep-in}
 use Rattle.ends.specs.Ends.{endPoint}
 use Rattle.ends.proofs.Ends.{end-a, end-b}
@@ -33,9 +32,10 @@ use Rattle.moves.specs.Moves.{Move, remains}
 use Rattle.moves.specs.ByEnd.{moveOf}
 use Rattle.moves.proofs.Steps.{at-place}
 use Rattle.moves.proofs.ByEnd.{fits}
+use Rattle.faults.specs.Faultless.{Faultless}
 use Rattle.slice_walk.specs.Walk.{isNearer, moveFrom, nearest, ifRemains, orElse, findNearest}
 use Rattle.slice_walk.specs.Ends.{farPoint, addEnd, isOther, nearestEnd, Leaving}
-use Rattle.slice_walk.specs.Writing.{ProperLinks, NextIs}
+use Rattle.slice_walk.specs.Writing.{NextIs}
 
 -- ---- a comparison with 0, turned round
 pub le-turned : (z : ℤ) → leZ z (pos 0) ≡ leZ (pos 0) (negℤ z)
@@ -93,23 +93,13 @@ module _ (links : Drawing) (direction : Bool) (k : ℕ) (p : Point) (bits : List
           let h = keep-in isTaken j (node links p) i in
           subst (λ (n : Move). remains bits n ≡ true) r (both-r (not (eqb j k)) (remains bits (from j)) (h .1))
 
--- ---- ends of proper links
-module _ (links : Drawing) (proper : ProperLinks links) where
+-- ---- ends of faultless links
+module _ (links : Drawing) (faultless : Faultless links) where
   abbrev m : ℕ
   m = length links
 
   apart : (k : ℕ) → k < m → segmentAt links k .a ≡ segmentAt links k .b → ⊥
-  apart k h q = clash (at-place links (proper .rises) k h) (subst (λ p. ltP (segmentAt links k .a) p ≡ false) q (ltP-irrefl (segmentAt links k .a)))
-
-  pub near-end : (e : ℕ) → e < 2 * m → inRange (endPoint links e) ≡ true
-  near-end e b = go (decLe m e)
-    where
-      at : (k : ℕ) → k < m → (inRange (segmentAt links k .a) ≡ true) × (inRange (segmentAt links k .b) ≡ true)
-      at k h = proper .near (segmentAt links k) (segment-in links k refl h)
-
-      go : Dec (m ≤ e) → inRange (endPoint links e) ≡ true
-      go (yes h) = ap inRange (end-b links e h) ∙ at (e - m) (omega arith) .1
-      go (no h) = let l : e < m = omega arith in ap inRange (end-a links e l) ∙ at e l .0
+  apart k h q = clash (at-place links (faultless .proper) k h) (subst (λ p. ltP (segmentAt links k .a) p ≡ false) q (ltP-irrefl (segmentAt links k .a)))
 
   -- a link leads from one of its ends to the other
   other-is : (e : ℕ) → e < 2 * m → other (segmentAt links (linkOf m e)) (endPoint links e) ≡ farPoint links e
@@ -171,7 +161,7 @@ module _ (links : Drawing) (direction : Bool) (f : ℕ) where
       go false q = b
 
 -- over ends at the point of f, as over their links
-module _ (links : Drawing) (proper : ProperLinks links) (direction : Bool) (f : ℕ) (below : f < 2 * length links) (bits : List ℕ) where
+module _ (links : Drawing) (faultless : Faultless links) (direction : Bool) (f : ℕ) (below : f < 2 * length links) (bits : List ℕ) where
   abbrev p : Point
   p = endPoint links f
 
@@ -193,14 +183,14 @@ module _ (links : Drawing) (proper : ProperLinks links) (direction : Bool) (f : 
 
   move-is : (e : ℕ) → At e → moveFrom links direction p (link e) ≡ moveOf (length links) direction e
   unfolding moveFrom
-  move-is e h = fits links (proper .rises) direction e p (h .0) (h .1)
+  move-is e h = fits links (faultless .proper) direction e p (h .0) (h .1)
 
   taken-is : (e : ℕ) → At e → isTaken (link e) ≡ isOther links direction f bits e
   unfolding isOther
-  taken-is e h = ap₂ (λ (b : Bool) (n : Move). not b && remains bits n) (one-end links proper e f (h .0) below (h .1)) (move-is e h)
+  taken-is e h = ap₂ (λ (b : Bool) (n : Move). not b && remains bits n) (one-end links faultless e f (h .0) below (h .1)) (move-is e h)
 
   leads : (e : ℕ) → At e → other (segmentAt links (link e)) p ≡ farPoint links e
-  leads e h = subst (λ q. other (segmentAt links (link e)) q ≡ farPoint links e) (h .1) (other-is links proper e (h .0))
+  leads e h = subst (λ q. other (segmentAt links (link e)) q ≡ farPoint links e) (h .1) (other-is links faultless e (h .0))
 
   add-is : (e : ℕ) → At e → (best : NextEnd) → Leaving At best → (l : List ℕ)
       → nearest links direction p back (asLink best) (link e ∷ l) ≡ nearest links direction p back (asLink (addEnd links direction f best e)) l

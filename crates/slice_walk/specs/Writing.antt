@@ -3,17 +3,15 @@ use mathlib.Core.Path.{_≡_}
 use mathlib.Core.List.{List, map}
 use mathlib.Core.Option.{Option, none, some}
 use mathlib.Core.Bool.{Bool, true}
-use Prim.Native.Nat.{ℕ, _*_, _<_, _≤_}
+use Prim.Native.Nat.{ℕ, _*_, _<_}
 use lib.ListN.{length, getD}
 use lib.IntN.{ℤ}
 use Rattle.geom.specs.declared.Point.{Point}
-use Rattle.geom.specs.Points.{ltP, inRange}
-use Rattle.segm.specs.declared.Segment.{Segment}
-use Rattle.lists.specs.Members.{_∈_}
 use Rattle.lists.specs.Written.{written}
 use Rattle.lists.specs.Sums.{one}
 use Rattle.segm.specs.Segments.{Drawing}
 use Rattle.contour.specs.Points.{coordinates, Writes}
+use Rattle.faults.specs.Faultless.{Faultless}
 use Rattle.ends.specs.Ends.{endPoint}
 use Rattle.graph.specs.Nodes.{linkOf, Nodes}
 use Rattle.moves.specs.declared.NextEnd.{NextEnd}
@@ -27,15 +25,9 @@ use Rattle.slice_walk.specs.declared.Walks.{Walks}
 use Rattle.slice_walk.specs.declared.Walks.the-variants as walks-are
 use Rattle.slice_walk.specs.Walk.{findNearest, walkFrom, directionOf, walkPoints}
 
--- what the links of an accepted drawing have
-pub record ProperLinks (links : Drawing) : Type 0 where
-  pub few : length links ≤ 1024
-  pub near : (s : Segment) → s ∈ links → (inRange (s .a) ≡ true) × (inRange (s .b) ≡ true)
-  pub rises : (s : Segment) → s ∈ links → ltP (s .a) (s .b) ≡ true
-
 -- what a slice walk over links needs of its lists
 pub record SliceLists (links : Drawing) (flat starts nodes bits : List ℕ) : Type 0 where
-  pub proper : ProperLinks links
+  pub faultless : Faultless links
   pub nodes-are : Nodes links flat starts nodes
   pub as-many : length bits ≡ length links
 

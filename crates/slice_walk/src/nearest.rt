@@ -11,9 +11,10 @@ ghost use Rattle.segm.specs.Segments.{segments};
 ghost use Rattle.graph.specs.Nodes.{part};
 ghost use Rattle.moves.specs.declared.NextEnd.the-variants.{Stop};
 ghost use Rattle.moves.specs.ByEnd.{NodeAt};
+ghost use Rattle.faults.specs.Faultless.{Faultless};
 ghost use Rattle.slice_walk.specs.Walk.{isWide, isNearer};
 ghost use Rattle.slice_walk.specs.Ends.{farPoint, addEnd, nearestEnd, Leaving};
-ghost use Rattle.slice_walk.specs.Writing.{ProperLinks, SliceLists, NextIs};
+ghost use Rattle.slice_walk.specs.Writing.{SliceLists, NextIs};
 
 // Whether the angle from a to p about c is 180 degrees or more, or none.
 fn is_wide(clockwise: bool, c: Point, a: Point, p: Point) -> bool
@@ -48,7 +49,7 @@ fn far_point(links: &[i32], e: usize) -> Point
 
 // The nearer of the best end so far and e, of the ends at the point of f, whose link is the current one.
 fn add(links: &[i32], direction: bool, f: usize, best: NextEnd, e: usize) -> NextEnd
-    requires { ⌜ ProperLinks (segments (now links))
+    requires { ⌜ Faultless (segments (now links))
         × (f < 2 * length (segments (now links)))
         × Leaving (λ b. b < 2 * length (segments (now links))) best
         × (e < 2 * length (segments (now links))) ⌝ }
@@ -75,7 +76,7 @@ fn find_other(
     f: usize,
     direction: bool,
 ) -> NextEnd
-    requires { ⌜ ProperLinks (segments (now links))
+    requires { ⌜ Faultless (segments (now links))
         × (length (now bits) ≡ length (segments (now links)))
         × NodeAt (length (now bits)) (now flat) (now starts) v
         × (f < 2 * length (now bits)) ⌝ }

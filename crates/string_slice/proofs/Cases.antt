@@ -39,7 +39,7 @@ use Rattle.string_slice.specs.declared.Sliced.the-variants.{Done, Refuse
 use Rattle.contour.specs.Contour.{contour, contourOf}
 use Rattle.slice_cut.specs.Cutting.{walkContours}
 use Rattle.string_slice.specs.Contours.{sideBits, allContours, sliceContours}
-use Rattle.string_slice.specs.Run.{outcome, sliceOutcome}
+use Rattle.string_slice.specs.Run.{lists, outcome, sliceOutcome}
 
 abbrev at : ℕ → ℕ → Point
 at x y = record { x = pos x; y = pos y }
@@ -71,11 +71,14 @@ holeRound = at 6 3 ∷ at 6 6 ∷ at 3 6 ∷ at 3 3 ∷ []
 pub record Cases : Type 0 where
   pub case-A : (
       let points = map pos (upFrom 101 37) in
-      sliceOutcome A (pos 1) (pos 0) 0 points (upFrom 201 18) (upFrom 1 18)
+      sliceOutcome A (pos 1) (pos 0) 0 (lists points (upFrom 201 18) (upFrom 1 18))
       ≡ outcome (Done (record { contours = 2; points = 8 }))
-      (coordinates (at 10 0 ∷ at 10 5 ∷ at 0 5 ∷ at 0 0 ∷ at 10 5 ∷ at 10 10 ∷ at 0 10 ∷ at 0 5 ∷ []) ++ drop 16 points) (4 ∷ 4 ∷ upFrom 203 16) (0 ∷ 0 ∷ upFrom 3 16)
+      (lists (coordinates (at 10 0 ∷ at 10 5 ∷ at 0 5 ∷ at 0 0 ∷ at 10 5 ∷ at 10 10 ∷ at 0 10 ∷ at 0 5 ∷ []) ++ drop 16 points) (4 ∷ 4 ∷ upFrom 203 16) (0 ∷ 0 ∷ upFrom 3 16))
       )
-  pub roles-short : sliceOutcome A (pos 1) (pos 0) 0 (map pos (upFrom 101 36)) (upFrom 201 18) (upFrom 1 17) ≡ outcome (Refused 11 0) (map pos (upFrom 101 36)) (upFrom 201 18) (upFrom 1 17)
+  pub roles-short : (
+      let ls = lists (map pos (upFrom 101 36)) (upFrom 201 18) (upFrom 1 17) in
+      sliceOutcome A (pos 1) (pos 0) 0 ls ≡ outcome (Refused 11 0) ls
+      )
   -- counter-clockwise and clockwise; a hole goes the other way
   pub counter-clockwise : sliceContours NonZero false 0 (segments holed) ≡ some (contour outerRound 0 ∷ contour hole 1 ∷ [])
   pub clockwise-out : sliceContours NonZero true 0 (segments holed) ≡ some (contour outer 0 ∷ contour holeRound 1 ∷ [])

@@ -34,11 +34,11 @@ use Rattle.string_slice.specs.declared.Sliced.the-variants as sliced-is
 use Rattle.string_slice.specs.declared.walking.Walked.{Walked}
 use Rattle.string_slice.specs.declared.walking.Walked.the-variants.{Done, Refused}
 use Rattle.slice_cut.specs.Cutting.{counts, walkContours, Holds, pathsIn, cutWalks, Stand}
-use Rattle.string_slice.specs.Run.{outcome, handedOver, answered}
+use Rattle.string_slice.specs.Run.{Lists, lists, outcome, handedOver, answered}
 use Rattle.string_slice.specs.Walking.{WalkedAre}
 use Rattle.contour.specs.Contour.{Contour}
 use Rattle.string_slice.specs.Contours.{sideBits, allContours, sliceContours, ofWalks}
-use Rattle.string_slice.proofs.Sides.{proper, length-sides}
+use Rattle.string_slice.proofs.Sides.{length-sides}
 
 -- ---- paths and directions
 paths-written : (paths : List (List Point)) (old : List ℤ) → pathsIn (written (coordinates (flatten paths)) old) (map length paths) ≡ paths
@@ -93,8 +93,8 @@ pub record Made (links : Drawing) (o : Option (List (List Move))) (n : ℕ) (poi
 
 module _ (links : Drawing) (r : Walked) (points : List ℤ) (lengths dirs : List ℕ) where
   -- a refusal is the run's, and nothing is written
-  pub refused : (f : List (List Move) → List Contour) (v : Verdict) (o : Option (List (List Move))) {number place : ℕ} {outs : List ℤ} {counted roles : List ℕ} → WalkedAre v links o r points lengths dirs
-      → r ≡ Refused number place → outcome (sliced-is.Refused number place) outs counted roles ≡ answered v (ofWalks f o) outs counted roles
+  pub refused : (f : List (List Move) → List Contour) (v : Verdict) (o : Option (List (List Move))) {number place : ℕ} {ls : Lists} → WalkedAre v links o r points lengths dirs
+      → r ≡ Refused number place → outcome (sliced-is.Refused number place) ls ≡ answered v (ofWalks f o) ls
   refused f (verdict-is.Refused number place) o w e = cc
   refused f verdict-is.Accepted none w e = cc
   refused f verdict-is.Accepted (some ws) w e = not-both (cc)
@@ -135,7 +135,7 @@ module _ (rule : Rule) (d : Drawing) (good : Good d) {n : ℕ} {points : List �
       record {
         inside = omega (arith, sum, few-points, room);
         few = omega (arith, sum, few-points, good .faultless .few);
-        near = subst (λ (l : List (List Point)). AllInRange (flatten l)) (sym (m .paths-are)) (near-all (allPoints d (m .found)) (λ l i. let r = in-map (walkPoints d) l (m .found) i in subst AllInRange (sym (r .2)) (walk-near d (proper d good) (r .0))));
+        near = subst (λ (l : List (List Point)). AllInRange (flatten l)) (sym (m .paths-are)) (near-all (allPoints d (m .found)) (λ l i. let r = in-map (walkPoints d) l (m .found) i in subst AllInRange (sym (r .2)) (walk-near d (good .faultless) (r .0))));
       }
 
   -- the contours that are cut are those of the slice
@@ -146,7 +146,7 @@ module _ (rule : Rule) (d : Drawing) (good : Good d) {n : ℕ} {points : List �
       ∙ ap (ofWalks (allContours clockwise least d)) (sym (m .are))
 
 -- ---- the outcome
-pub handed : (o : Option (List Contour)) (contours : List Contour) {r : Contours} {points₀ points : List ℤ} {lengths₀ roles₀ lengths roles : List ℕ} → some contours ≡ o → r ≡ counts contours
-    → Holds contours points₀ lengths₀ roles₀ points lengths roles → outcome (sliced-is.Done r) points lengths roles ≡ handedOver o points₀ lengths₀ roles₀
-handed o contours {points₀} {lengths₀} {roles₀} e n h =
-    (λ i. outcome (sliced-is.Done (n i)) (h .points-are i) (h .lengths-are i) (h .roles-are i)) ∙ ap (λ (q : Option (List Contour)). handedOver q points₀ lengths₀ roles₀) e
+pub handed : (o : Option (List Contour)) (contours : List Contour) {r : Contours} (ls : Lists) {points : List ℤ} {lengths roles : List ℕ} → some contours ≡ o → r ≡ counts contours
+    → Holds contours (ls .points) (ls .lengths) (ls .roles) points lengths roles → outcome (sliced-is.Done r) (lists points lengths roles) ≡ handedOver o ls
+handed o contours ls e n h =
+    (λ i. outcome (sliced-is.Done (n i)) (lists (h .points-are i) (h .lengths-are i) (h .roles-are i))) ∙ ap (λ (q : Option (List Contour)). handedOver q ls) e

@@ -1,30 +1,17 @@
--- What the walks get of an accepted drawing: proper links, and one entry of side bits a link.
+-- Side bits: one entry a link, made of fills in place.
 use mathlib.Core.Path.{_≡_, sym, ap, ap₂, _∙_}
 use mathlib.Core.List.{List, _++_, map}
 use Prim.Native.Nat.{ℕ, _+_, _%_, _<_}
 use native.Mathlib.Omega.{arith}
 use lib.ListN.{length, getD, take, drop, set, length-map, length-take}
 use lib.Seq.{drop-cons, getD-at}
-use Rattle.integers.proofs.Booleans.{both-l, both-r}
-use Rattle.geom.specs.Points.{inRange}
 use Rattle.lists.specs.Written.{written}
 use Rattle.segm.specs.Segments.{Drawing}
 use Rattle.lists.proofs.Written.{written-map}
-use Rattle.faults.specs.Faults.{endsInRange}
-use Rattle.checks.specs.Accepted.{Good}
 use Rattle.fill_rule.specs.declared.Rule.{Rule}
 use Rattle.ray.specs.Ray.{fills}
 use Rattle.ray.proofs.Fills.{length-fills}
-use Rattle.slice_walk.specs.Writing.{ProperLinks}
 use Rattle.string_slice.specs.Contours.{sideBits}
-
-pub proper : (d : Drawing) → Good d → ProperLinks d
-unfolding endsInRange
-proper d g = record {
-  few = g .faultless .few;
-  near = λ s m. (both-l (inRange (s .a)) (inRange (s .b)) (g .faultless .near s m), both-r (inRange (s .a)) (inRange (s .b)) (g .faultless .near s m));
-  rises = g .faultless .proper;
-}
 
 pub length-sides : (rule : Rule) (d : Drawing) → length (sideBits rule d) ≡ length d
 unfolding sideBits

@@ -19,7 +19,7 @@ use Rattle.segm.specs.Segments.{Drawing, segments}
 use Rattle.segm.proofs.Segments.{length-segments}
 use Rattle.refusal.specs.declared.Verdict.{Verdict}
 use Rattle.refusal.specs.declared.Verdict.the-variants as verdict-is
-use Rattle.checks.specs.Runs.{Run, verdict, sliceRun}
+use Rattle.checks.specs.Runs.{Run, verdict, sliceRun, asked}
 use Rattle.refusal.specs.Asked.{lent}
 use Rattle.checks.specs.Accepted.{Good}
 use Rattle.checks.proofs.Accepted.{verdict-good}
@@ -31,11 +31,10 @@ use Rattle.slice_walk.specs.Walk.{walks}
 use Rattle.slice_cut.specs.declared.Contours.{Contours}
 use Rattle.slice_cut.specs.Cutting.{Holds, Stand, counts, pathsIn, cutWalks}
 use Rattle.string_slice.specs.declared.Sliced.the-variants as sliced-is
-use Rattle.string_slice.specs.declared.walking.Asked.{Asked}
 use Rattle.string_slice.specs.declared.walking.Walked.{Walked}
 use Rattle.string_slice.specs.declared.walking.Walked.the-variants.{Done, Refused}
 use Rattle.string_slice.specs.Contours.{sideBits, allContours, sliceContours}
-use Rattle.string_slice.specs.Run.{outcome, handedOver, answered, sliceOutcome}
+use Rattle.string_slice.specs.Run.{Lists, lists, runOf, outcome, handedOver, answered, sliceOutcome}
 use Rattle.string_slice.specs.Walking.{WalkRoom, WalkedOf}
 use Rattle.string_slice.proofs.Made.{Made, made, accepted, refused, few-found, few-points, stand, contours-are, handed}
 
@@ -47,40 +46,37 @@ is-one {z} f = go (dec (eqb (ofZ w32 z) 1))
     go (inl e) = e ∙ sym (is f 1 (lit< tt) (eqb-true (ofZ w32 z) 1 e))
     go (inr e) = e ∙ sym (is-not f 1 (eqb-false (ofZ w32 z) 1 e))
 
--- what is asked with these choices and lent lists
-abbrev pub askedOf : (rule direction : ℤ) → List ℤ → List ℕ → List ℕ → Asked
-askedOf rule direction outs counted roles = record { rule = rule; direction = direction; points = length outs; lengths = length counted; roles = length roles }
-
 -- n walks were made of a run on these numbers, with these choices and lent lists
-pub record Staged (numbers : List ℤ) (rule direction : ℤ) (outs : List ℤ) (counted roles : List ℕ) (n : ℕ) (points : List ℤ) (lengths dirs : List ℕ) : Type 0 where
-  pub is-accepted : verdict (sliceRun numbers rule direction (length outs) (length counted) (length roles)) ≡ verdict-is.Accepted
+pub record Staged (numbers : List ℤ) (rule direction : ℤ) (ls : Lists) (n : ℕ) (points : List ℤ) (lengths dirs : List ℕ) : Type 0 where
+  pub is-accepted : verdict (runOf numbers rule direction ls) ≡ verdict-is.Accepted
   pub walks-made : Made (segments numbers) (walks (segments numbers) (sideBits (ruleOf rule) (segments numbers))) n points lengths dirs
   pub room : WalkRoom numbers points lengths dirs
 
 -- ---- by the answer of the first stage
-module _ (numbers : List ℤ) (rule direction : ℤ) (outs : List ℤ) (counted roles : List ℕ) (r : Walked) (points : List ℤ) (lengths dirs : List ℕ) where
+module _ (numbers : List ℤ) (rule direction : ℤ) (ls : Lists) (r : Walked) (points : List ℤ) (lengths dirs : List ℕ) where
   abbrev given : Verdict
-  given = verdict (sliceRun numbers rule direction (length outs) (length counted) (length roles))
+  given = verdict (runOf numbers rule direction ls)
 
   abbrev found : Option (List (List Move))
   found = walks (segments numbers) (sideBits (ruleOf rule) (segments numbers))
 
-  pub staged : {n : ℕ} → WalkedOf numbers (askedOf rule direction outs counted roles) r points lengths dirs → r ≡ Done n → WalkRoom numbers points lengths dirs → Staged numbers rule direction outs counted roles n points lengths dirs
+  pub staged : {n : ℕ} → WalkedOf numbers (asked (runOf numbers rule direction ls)) rule r points lengths dirs → r ≡ Done n → WalkRoom numbers points lengths dirs → Staged numbers rule direction ls n points lengths dirs
+  unfolding verdict sliceRun
   staged w e room =
       record { is-accepted = accepted (segments numbers) r points lengths dirs given found w e; walks-made = made (segments numbers) r points lengths dirs given found w e; room = room }
 
-  pub refused-outcome : (least : ℕ) {number place : ℕ} → WalkedOf numbers (askedOf rule direction outs counted roles) r points lengths dirs → r ≡ Refused number place
-      → outcome (sliced-is.Refused number place) outs counted roles ≡ sliceOutcome numbers rule direction least outs counted roles
-  unfolding sliceOutcome sliceContours
+  pub refused-outcome : (least : ℕ) {number place : ℕ} → WalkedOf numbers (asked (runOf numbers rule direction ls)) rule r points lengths dirs → r ≡ Refused number place
+      → outcome (sliced-is.Refused number place) ls ≡ sliceOutcome numbers rule direction least ls
+  unfolding sliceOutcome sliceContours verdict sliceRun
   refused-outcome least w e = refused (segments numbers) r points lengths dirs (allContours (eqZ direction (pos 1)) least (segments numbers)) given found w e
 
 -- ---- the cut
-module _ {numbers : List ℤ} {rule direction : ℤ} {outs : List ℤ} {counted roles : List ℕ} {n : ℕ} {points : List ℤ} {lengths dirs : List ℕ} (g : Staged numbers rule direction outs counted roles n points lengths dirs) where
+module _ {numbers : List ℤ} {rule direction : ℤ} {ls : Lists} {n : ℕ} {points : List ℤ} {lengths dirs : List ℕ} (g : Staged numbers rule direction ls n points lengths dirs) where
   abbrev d : Drawing
   d = segments numbers
 
   abbrev run : Run
-  run = sliceRun numbers rule direction (length outs) (length counted) (length roles)
+  run = runOf numbers rule direction ls
 
   good : Good d
   unfolding sliceRun
@@ -104,24 +100,24 @@ module _ {numbers : List ℤ} {rule direction : ℤ} {outs : List ℤ} {counted 
   number : length (flatten (pathsIn points (take n lengths))) ≤ 2 * length d
   number = few-points (ruleOf rule) d good (g .walks-made)
 
-  pub points-fit : 2 * length (flatten (pathsIn points (take n lengths))) ≤ length outs
+  pub points-fit : 2 * length (flatten (pathsIn points (take n lengths))) ≤ length (ls .points)
   unfolding sliceRun
-  points-fit = omega (arith, number, length-segments numbers, verdict-room run (g .is-accepted) (lent (length outs) 4) (inl refl))
+  points-fit = omega (arith, number, length-segments numbers, verdict-room run (g .is-accepted) (lent (length (ls .points)) 4) (inl refl))
 
-  pub lengths-fit : length (flatten (pathsIn points (take n lengths))) ≤ length counted
+  pub lengths-fit : length (flatten (pathsIn points (take n lengths))) ≤ length (ls .lengths)
   unfolding sliceRun
-  lengths-fit = omega (arith, number, length-segments numbers, verdict-room run (g .is-accepted) (lent (length counted) 2) (inr (inl refl)))
+  lengths-fit = omega (arith, number, length-segments numbers, verdict-room run (g .is-accepted) (lent (length (ls .lengths)) 2) (inr (inl refl)))
 
-  pub roles-fit : length (flatten (pathsIn points (take n lengths))) ≤ length roles
+  pub roles-fit : length (flatten (pathsIn points (take n lengths))) ≤ length (ls .roles)
   unfolding sliceRun
-  roles-fit = omega (arith, number, length-segments numbers, verdict-room run (g .is-accepted) (lent (length roles) 2) (inr (inr (inl refl))))
+  roles-fit = omega (arith, number, length-segments numbers, verdict-room run (g .is-accepted) (lent (length (ls .roles)) 2) (inr (inr (inl refl))))
 
   pub cut-outcome : (clockwise : Bool) (least : ℕ) {r : Contours} {points₁ : List ℤ} {lengths₁ roles₁ : List ℕ} → clockwise ≡ eqZ direction (pos 1)
       → r ≡ counts (cutWalks clockwise least (pathsIn points (take n lengths)) (take n dirs))
-      → Holds (cutWalks clockwise least (pathsIn points (take n lengths)) (take n dirs)) outs counted roles points₁ lengths₁ roles₁
-      → outcome (sliced-is.Done r) points₁ lengths₁ roles₁ ≡ sliceOutcome numbers rule direction least outs counted roles
+      → Holds (cutWalks clockwise least (pathsIn points (take n lengths)) (take n dirs)) (ls .points) (ls .lengths) (ls .roles) points₁ lengths₁ roles₁
+      → outcome (sliced-is.Done r) (lists points₁ lengths₁ roles₁) ≡ sliceOutcome numbers rule direction least ls
   unfolding sliceOutcome
   cut-outcome clockwise least e k h =
-      handed _ _ (contours-are (ruleOf rule) d good (g .walks-made) clockwise least) k h
-      ∙ ap (λ b. handedOver (sliceContours (ruleOf rule) b least d) outs counted roles) e
-      ∙ ap (λ (v : Verdict). answered v (sliceContours (ruleOf rule) (eqZ direction (pos 1)) least d) outs counted roles) (sym (g .is-accepted))
+      handed _ _ ls (contours-are (ruleOf rule) d good (g .walks-made) clockwise least) k h
+      ∙ ap (λ b. handedOver (sliceContours (ruleOf rule) b least d) ls) e
+      ∙ ap (λ (v : Verdict). answered v (sliceContours (ruleOf rule) (eqZ direction (pos 1)) least d) ls) (sym (g .is-accepted))

@@ -8,13 +8,13 @@ use lib.IntN.{ℤ}
 use Rattle.segm.specs.Segments.{Drawing, segments}
 use Rattle.refusal.specs.declared.Verdict.{Verdict}
 use Rattle.refusal.specs.declared.Verdict.the-variants as verdict-is
-use Rattle.checks.specs.Runs.{verdict, sliceRun}
+use Rattle.refusal.specs.Order.{_then_}
+use Rattle.checks.specs.Drawing.{drawingVerdict}
 use Rattle.fill_rule.specs.FillRule.{ruleOf}
 use Rattle.moves.specs.Moves.{Move}
 use Rattle.slice_walk.specs.Walk.{walks}
 use Rattle.slice_walk.specs.Writing.{allPoints, directions}
 use Rattle.slice_cut.specs.Cutting.{pathsIn}
-use Rattle.string_slice.specs.declared.walking.Asked.{Asked}
 use Rattle.string_slice.specs.declared.walking.Walked.{Walked}
 use Rattle.string_slice.specs.declared.walking.Walked.the-variants.{Done, Refused}
 use Rattle.string_slice.specs.Contours.{sideBits}
@@ -37,8 +37,7 @@ WalkedAre (verdict-is.Refused number place) links o r points lengths dirs = r �
 WalkedAre verdict-is.Accepted links none r points lengths dirs = r ≡ Refused 12 0
 WalkedAre verdict-is.Accepted links (some walks) r points lengths dirs = (r ≡ Done (length walks)) × Standing links walks points lengths dirs
 
--- the same for any numbers, choices and lengths of lent lists
-abbrev pub WalkedOf : List ℤ → Asked → Walked → (points : List ℤ) → (lengths directions : List ℕ) → Type 0
-WalkedOf numbers asked =
-    WalkedAre (verdict (sliceRun numbers (asked .rule) (asked .direction) (asked .points) (asked .lengths) (asked .roles))) (segments numbers)
-    (walks (segments numbers) (sideBits (ruleOf (asked .rule)) (segments numbers)))
+-- the same for any numbers, unless something was refused before
+abbrev pub WalkedOf : List ℤ → Verdict → (rule : ℤ) → Walked → (points : List ℤ) → (lengths directions : List ℕ) → Type 0
+WalkedOf numbers before rule =
+    WalkedAre (before then drawingVerdict (segments numbers)) (segments numbers) (walks (segments numbers) (sideBits (ruleOf rule) (segments numbers)))

@@ -1,16 +1,14 @@
-// The slice run: a drawing's filled area cut along all its segments, as contours with roles. Every function here is proved, and the crate assumes nothing of
-// its own. No public operation has a `requires`: any numbers, any choices and any lengths of lent lists get an answer.
+// The slice run: a drawing's filled area cut along all its segments, as contours with roles.
 mod walking;
 
 pub use slice_cut::Contours;
 use slice_cut::cut_walks;
-use walking::Asked;
 use walking::Walked;
 use walking::make_walks;
 ghost use mathlib.Core.Path.{_≡_};
 ghost use Prim.Native.Nat.{_≤_};
 ghost use Rattle.segm.specs.Segments.{count};
-ghost use Rattle.string_slice.specs.Run.{outcome, sliceOutcome};
+ghost use Rattle.string_slice.specs.Run.{lists, outcome, sliceOutcome};
 
 // What a slice run answers: what it found, or a refusal's number and place.
 pub enum Sliced {
@@ -21,7 +19,7 @@ pub enum Sliced {
 // The slice run of a small drawing in two stages, the walks and their cut. All walks are made before the first contour is written, so that a walk that finds no
 // move leaves the lists as they were.
 fn slice_small(
-    segments: &[i32],
+    numbers: &[i32],
     rule: i32,
     direction: i32,
     min_area: u64,
@@ -29,23 +27,25 @@ fn slice_small(
     lengths: &mut [u32],
     roles: &mut [u8],
 ) -> Sliced
-    requires { ⌜ count (now segments) ≤ 128 ⌝ }
-    ensures { λ r. ⌜ outcome r (now (points .exit)) (now (lengths .exit)) (now (roles .exit))
-        ≡ sliceOutcome (now (segments .entry)) rule direction «min_area» (now (points .entry)) (now (lengths .entry)) (now (roles .entry)) ⌝ }
+    requires { ⌜ count (now numbers) ≤ 128 ⌝ }
+    ensures { λ r. ⌜ outcome r (lists (now (points .exit)) (now (lengths .exit)) (now (roles .exit)))
+        ≡ sliceOutcome (now (numbers .entry)) rule direction «min_area» (lists (now (points .entry)) (now (lengths .entry)) (now (roles .entry))) ⌝ }
 {
     let mut walks = [0i32; 2 * ends::SMALL];
     let mut walk_lengths = [0u16; ends::SMALL];
     let mut directions = [0u8; ends::SMALL];
-    let asked = Asked {
-        rule: rule,
-        direction: direction,
-        points: points.len(),
-        lengths: lengths.len(),
-        roles: roles.len(),
-    };
+    let asked = checks::ask_slice(
+        numbers,
+        rule,
+        direction,
+        points.len(),
+        lengths.len(),
+        roles.len(),
+    );
     match make_walks(
-        segments,
         asked,
+        numbers,
+        rule,
         &mut walks,
         &mut walk_lengths,
         &mut directions,
@@ -67,7 +67,7 @@ fn slice_small(
 // The same for any drawing. What is called from one place only may be compiled into its caller, memory and all; the stages are called from two, so that the
 // memory of each ends with it.
 fn slice_any(
-    segments: &[i32],
+    numbers: &[i32],
     rule: i32,
     direction: i32,
     min_area: u64,
@@ -75,22 +75,24 @@ fn slice_any(
     lengths: &mut [u32],
     roles: &mut [u8],
 ) -> Sliced
-    ensures { λ r. ⌜ outcome r (now (points .exit)) (now (lengths .exit)) (now (roles .exit))
-        ≡ sliceOutcome (now (segments .entry)) rule direction «min_area» (now (points .entry)) (now (lengths .entry)) (now (roles .entry)) ⌝ }
+    ensures { λ r. ⌜ outcome r (lists (now (points .exit)) (now (lengths .exit)) (now (roles .exit)))
+        ≡ sliceOutcome (now (numbers .entry)) rule direction «min_area» (lists (now (points .entry)) (now (lengths .entry)) (now (roles .entry))) ⌝ }
 {
     let mut walks = [0i32; 2 * ends::MOST];
     let mut walk_lengths = [0u16; ends::MOST];
     let mut directions = [0u8; ends::MOST];
-    let asked = Asked {
-        rule: rule,
-        direction: direction,
-        points: points.len(),
-        lengths: lengths.len(),
-        roles: roles.len(),
-    };
+    let asked = checks::ask_slice(
+        numbers,
+        rule,
+        direction,
+        points.len(),
+        lengths.len(),
+        roles.len(),
+    );
     match make_walks(
-        segments,
         asked,
+        numbers,
+        rule,
         &mut walks,
         &mut walk_lengths,
         &mut directions,
@@ -111,7 +113,7 @@ fn slice_any(
 
 // The contours of a drawing's filled area, as x, y pairs and one length and one role a contour, or the refusal.
 pub fn slice(
-    segments: &[i32],
+    numbers: &[i32],
     rule: i32,
     direction: i32,
     min_area: u64,
@@ -119,11 +121,11 @@ pub fn slice(
     lengths: &mut [u32],
     roles: &mut [u8],
 ) -> Sliced
-    ensures { λ r. ⌜ outcome r (now (points .exit)) (now (lengths .exit)) (now (roles .exit))
-        ≡ sliceOutcome (now (segments .entry)) rule direction «min_area» (now (points .entry)) (now (lengths .entry)) (now (roles .entry)) ⌝ }
+    ensures { λ r. ⌜ outcome r (lists (now (points .exit)) (now (lengths .exit)) (now (roles .exit)))
+        ≡ sliceOutcome (now (numbers .entry)) rule direction «min_area» (lists (now (points .entry)) (now (lengths .entry)) (now (roles .entry))) ⌝ }
 {
-    if segm::count(segments) <= segm::SMALL {
-        return slice_small(segments, rule, direction, min_area, points, lengths, roles);
+    if segm::count(numbers) <= segm::SMALL {
+        return slice_small(numbers, rule, direction, min_area, points, lengths, roles);
     }
-    slice_any(segments, rule, direction, min_area, points, lengths, roles)
+    slice_any(numbers, rule, direction, min_area, points, lengths, roles)
 }

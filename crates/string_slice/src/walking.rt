@@ -1,30 +1,20 @@
 // The first stage of a slice: a drawing's check and, where it is accepted, its walks, over all segments, each with its side bits. The memory for its nodes and
 // top counts ends with this stage.
-use checks::Verdict;
 use fill_rule::Rule;
+use refusal::Verdict;
 use slice_walk::Walks;
 ghost use mathlib.Core.Path.{_≡_};
 ghost use mathlib.Core.List.{map};
 ghost use Prim.Native.Nat.{_*_, _%_, _≤_};
 ghost use lib.ListN.{length};
+ghost use Rattle.refusal.specs.declared.Verdict.the-variants.{Accepted};
 ghost use Rattle.segm.specs.Segments.{segments};
-ghost use Rattle.graph.specs.Nodes.{NodesIn};
-ghost use Rattle.count_up.specs.CountUp.{Counted};
+ghost use Rattle.checks.specs.Memory.{DrawingRoom, Prepared};
 ghost use Rattle.checks.specs.Accepted.{Good};
-ghost use Rattle.checks.specs.Search.{RoomOf};
 ghost use Rattle.slice_walk.specs.Walk.{walks};
 ghost use Rattle.slice_walk.specs.Writing.{WalksAre};
 ghost use Rattle.string_slice.specs.Contours.{sideBits};
 ghost use Rattle.string_slice.specs.Walking.{WalkRoom, WalkedOf};
-
-// What a slice run is asked beside its drawing, as far as the check looks at it: its choices, and how long the lent lists are.
-pub struct Asked {
-    pub rule: i32,
-    pub direction: i32,
-    pub points: usize,
-    pub lengths: usize,
-    pub roles: usize,
-}
 
 // What the first stage answers: how many walks there are, or a refusal's number and place.
 pub enum Walked {
@@ -56,15 +46,16 @@ fn walk_links(
     lengths: &mut [u16],
     directions: &mut [u8],
 ) -> Walks
-    requires { ⌜ Good (segments (now s))
-        × NodesIn (segments (now s)) (now flat) (now starts) (now nodes)
-        × Counted (segments (now s)) (now tops)
-        × (length (segments (now s)) ≤ length (now tops))
-        × (length (segments (now s)) ≤ length (now bits))
-        × (4 * length (segments (now s)) ≤ length (now points))
-        × (2 * length (segments (now s)) ≤ length (now lengths))
-        × (2 * length (segments (now s)) ≤ length (now directions)) ⌝ }
-    ensures { λ r. ⌜ WalksAre (segments (now (s .entry))) (walks (segments (now (s .entry))) (sideBits rule (segments (now (s .entry))))) (now (points .entry)) (now (lengths .entry)) (now (directions .entry)) r (now (points .exit)) (now (lengths .exit)) (now (directions .exit)) ⌝ }
+    requires { ⌜ (let d = segments (now s) in
+        Good d
+        × Prepared d (now flat) (now starts) (now nodes) (now tops)
+        × (length d ≤ length (now tops))
+        × (length d ≤ length (now bits))
+        × (4 * length d ≤ length (now points))
+        × (2 * length d ≤ length (now lengths))
+        × (2 * length d ≤ length (now directions))) ⌝ }
+    ensures { λ r. ⌜ (let d = segments (now (s .entry)) in
+        WalksAre d (walks d (sideBits rule d)) (now (points .entry)) (now (lengths .entry)) (now (directions .entry)) r (now (points .exit)) (now (lengths .exit)) (now (directions .exit))) ⌝ }
 {
     let m = segm::count(s);
     let e = 2 * m;
@@ -82,10 +73,11 @@ fn walk_links(
     )
 }
 
-// Checks a drawing, and makes its walks where it is accepted. The lists from `flat` to `bits` are working memory.
+// Checks a drawing, unless something was refused before, and makes its walks where it is accepted. The lists from `flat` to `bits` are working memory.
 fn make_walks_in(
+    before: Verdict,
     s: &[i32],
-    asked: Asked,
+    rule: i32,
     flat: &mut [u16],
     starts: &mut [u16],
     nodes: &mut [u16],
@@ -95,26 +87,17 @@ fn make_walks_in(
     walk_lengths: &mut [u16],
     directions: &mut [u8],
 ) -> Walked
-    requires { ⌜ RoomOf (now s) (now flat) (now starts) (now nodes) (now tops)
-        × (length (segments (now s)) ≤ 1024 → length (segments (now s)) ≤ length (now bits))
-        × WalkRoom (now s) (now walks) (now «walk_lengths») (now directions) ⌝ }
-    ensures { λ r. ⌜ WalkedOf (now (s .entry)) asked r (now (walks .exit)) (now («walk_lengths» .exit)) (now (directions .exit)) ⌝ }
+    requires { ⌜ (let d = segments (now s) in
+        (before ≡ Accepted → length d ≤ 1024)
+        × DrawingRoom d (now flat) (now starts) (now nodes) (now tops)
+        × (length d ≤ 1024 → length d ≤ length (now bits))
+        × WalkRoom (now s) (now walks) (now «walk_lengths») (now directions)) ⌝ }
+    ensures { λ r. ⌜ WalkedOf (now (s .entry)) before rule r (now (walks .exit)) (now («walk_lengths» .exit)) (now (directions .exit)) ⌝ }
 {
-    match checks::check_slice(
-        s,
-        asked.rule,
-        asked.direction,
-        asked.points,
-        asked.lengths,
-        asked.roles,
-        flat,
-        starts,
-        nodes,
-        tops,
-    ) {
+    match checks::check_drawing(before, s, flat, starts, nodes, tops) {
         Verdict::Accepted => match walk_links(
             s,
-            fill_rule::rule_of(asked.rule),
+            fill_rule::rule_of(rule),
             flat,
             starts,
             nodes,
@@ -131,16 +114,17 @@ fn make_walks_in(
     }
 }
 
-// The same, with memory for a small drawing or for any: the walks' points, how many each has, and its direction.
+// The same: the walks' points, how many each has, and its direction. It owns the memory of this stage, for a small drawing or for any.
 pub fn make_walks(
+    before: Verdict,
     s: &[i32],
-    asked: Asked,
+    rule: i32,
     walks: &mut [i32],
     walk_lengths: &mut [u16],
     directions: &mut [u8],
 ) -> Walked
-    requires { ⌜ WalkRoom (now s) (now walks) (now «walk_lengths») (now directions) ⌝ }
-    ensures { λ r. ⌜ WalkedOf (now (s .entry)) asked r (now (walks .exit)) (now («walk_lengths» .exit)) (now (directions .exit)) ⌝ }
+    requires { ⌜ (before ≡ Accepted → length (segments (now s)) ≤ 1024) × WalkRoom (now s) (now walks) (now «walk_lengths») (now directions) ⌝ }
+    ensures { λ r. ⌜ WalkedOf (now (s .entry)) before rule r (now (walks .exit)) (now («walk_lengths» .exit)) (now (directions .exit)) ⌝ }
 {
     if segm::count(s) <= segm::SMALL {
         let mut flat = [0u16; ends::SMALL];
@@ -149,8 +133,9 @@ pub fn make_walks(
         let mut tops = [0i32; segm::SMALL];
         let mut bits = [0u8; segm::SMALL];
         return make_walks_in(
+            before,
             s,
-            asked,
+            rule,
             &mut flat,
             &mut starts,
             &mut nodes,
@@ -167,8 +152,9 @@ pub fn make_walks(
     let mut tops = [0i32; segm::MOST];
     let mut bits = [0u8; segm::MOST];
     make_walks_in(
+        before,
         s,
-        asked,
+        rule,
         &mut flat,
         &mut starts,
         &mut nodes,

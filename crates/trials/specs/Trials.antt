@@ -33,12 +33,13 @@ heldNumbers n = map pos (held n)
 
 -- a clip run over n segments under nonzero, boundary included, inside (0) or outside (1), with lists exactly long enough
 abbrev pub clipOf : ℤ → ℕ → List ℤ → clip.Outcome
-clipOf invert n numbers = clip.clipOutcome numbers (pos 1) invert (pos 1) (heldNumbers (8 * n)) (held (2 * n))
+clipOf invert n numbers = clip.clipOutcome numbers (pos 1) invert (pos 1) (clip.lists (heldNumbers (8 * n)) (held (2 * n)))
 
 -- it finds these paths, points, steps and this travel, and writes these numbers and lengths
 abbrev pub finds : ℕ → (paths points steps travel : ℕ) → List ℤ → List ℕ → clip.Outcome
 finds n paths points steps travel numbers lengths =
-    clip.outcome (clip-is.Done (record { paths = paths; points = points; steps = steps; travel = travel })) (numbers ++ drop (2 * points) (heldNumbers (8 * n))) (lengths ++ drop paths (held (2 * n)))
+    clip.outcome (clip-is.Done (record { paths = paths; points = points; steps = steps; travel = travel }))
+    (clip.lists (numbers ++ drop (2 * points) (heldNumbers (8 * n))) (lengths ++ drop paths (held (2 * n))))
 
 -- the verdict on such a run
 abbrev pub verdictOn : ℕ → List ℤ → Verdict

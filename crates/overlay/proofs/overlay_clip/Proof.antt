@@ -3,8 +3,8 @@ use borrow.Author.Needs.{needs}
 use mathlib.Core.Path.{_≡_, sym, ap, _∙_}
 use mir.Facts.{toZ-ofZ}
 use Rattle.string_clip.specs.declared.Clipped.{Clipped}
-use Rattle.string_clip.specs.Run.{Outcome, clipOutcome}
-use Rattle.overlay.specs.Numbers.{clippedNumbers, returnedClip, clipNumbers}
+use Rattle.string_clip.specs.Run.{lists, told, Outcome, clipOutcome}
+use Rattle.overlay.specs.Numbers.{clipStruct, returnedClip, clipNumbers}
 use Rattle.overlay.proofs.overlay_clip.Statement.{statement}
 use Rattle.overlay.proofs.overlay_clip.Tie as tie
 
@@ -26,13 +26,13 @@ module _ (c : tie.After-clip) where
   s = c .before .before .before .before
 
   numbers : {a : Clipped} → c .clip .result ≡ a
-      → returnedClip (clippedNumbers a) (c .clip .last .1 .1 .1 .1 .0) (c .clip .last .1 .1 .1 .1 .1 .0)
-      ≡ clipNumbers (s .args .segments .now) (s .args .rule) (s .args .invert) (s .args .boundary) (s .args .points .now) (s .args .lengths .now)
+      → returnedClip (clipStruct (told a)) (lists (c .clip .last .1 .1 .1 .1 .0) (c .clip .last .1 .1 .1 .1 .1 .0))
+      ≡ clipNumbers (s .args .numbers .now) (s .args .rule) (s .args .invert) (s .args .boundary) (lists (s .args .points .now) (s .args .lengths .now))
   unfolding clipNumbers
   numbers e =
-      ap (λ (a : Clipped). returnedClip (clippedNumbers a) (c .clip .last .1 .1 .1 .1 .0) (c .clip .last .1 .1 .1 .1 .1 .0)) (sym e)
-      ∙ ap (λ (o : Outcome). returnedClip (clippedNumbers (o .answer)) (o .points) (o .lengths))
-      (c .clip .ensures ∙ (λ i. clipOutcome (s .args .segments .now) (toZ-ofZ (s .fits .rule) i) (toZ-ofZ (s .fits .invert) i) (toZ-ofZ (s .fits .boundary) i) (s .args .points .now) (s .args .lengths .now)))
+      ap (λ (a : Clipped). returnedClip (clipStruct (told a)) (lists (c .clip .last .1 .1 .1 .1 .0) (c .clip .last .1 .1 .1 .1 .1 .0))) (sym e)
+      ∙ ap (λ (o : Outcome). returnedClip (clipStruct (o .numbers)) (o .lists))
+      (c .clip .ensures ∙ (λ i. clipOutcome (s .args .numbers .now) (toZ-ofZ (s .fits .rule) i) (toZ-ofZ (s .fits .invert) i) (toZ-ofZ (s .fits .boundary) i) (lists (s .args .points .now) (s .args .lengths .now))))
 
 same-length : tie.Need-same-length
 same-length c = search needs

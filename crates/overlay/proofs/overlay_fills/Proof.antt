@@ -4,8 +4,8 @@ use mathlib.Core.Path.{_≡_, sym, ap, _∙_}
 use lib.IntN.{ℤ}
 use mir.Facts.{toZ-ofZ}
 use Rattle.build.specs.declared.run.Filled.{Filled}
-use Rattle.build.specs.Fills.{Outcome, fillsOutcome}
-use Rattle.overlay.specs.Numbers.{returned, filledNumbers, fillsNumbers}
+use Rattle.build.specs.Fills.{told, Outcome, fillsOutcome}
+use Rattle.overlay.specs.Numbers.{returned, fillsStruct, fillsNumbers}
 use Rattle.overlay.proofs.overlay_fills.Statement.{statement}
 use Rattle.overlay.proofs.overlay_fills.Tie as tie
 
@@ -26,11 +26,11 @@ module _ (c : tie.After-fills) where
   abbrev s : tie.Start
   s = c .before .before .before
 
-  numbers : {a : Filled} → c .fills .result ≡ a → returned (filledNumbers a) (c .fills .last .1 .1 .0) ≡ fillsNumbers (s .args .segments .now) (s .args .rule) (s .args .fills .now)
+  numbers : {a : Filled} → c .fills .result ≡ a → returned (fillsStruct (told a)) (c .fills .last .1 .1 .0) ≡ fillsNumbers (s .args .numbers .now) (s .args .rule) (s .args .fills .now)
   unfolding fillsNumbers
   numbers e =
-      ap (λ (a : Filled). returned (filledNumbers a) (c .fills .last .1 .1 .0)) (sym e)
-      ∙ ap (λ (o : Outcome). returned (filledNumbers (o .answer)) (o .list)) (c .fills .ensures ∙ ap (λ (z : ℤ). fillsOutcome (s .args .segments .now) z (s .args .fills .now)) (toZ-ofZ (s .fits .rule)))
+      ap (λ (a : Filled). returned (fillsStruct (told a)) (c .fills .last .1 .1 .0)) (sym e)
+      ∙ ap (λ (o : Outcome). returned (fillsStruct (o .numbers)) (o .list)) (c .fills .ensures ∙ ap (λ (z : ℤ). fillsOutcome (s .args .numbers .now) z (s .args .fills .now)) (toZ-ofZ (s .fits .rule)))
 
 same-length : tie.Need-same-length
 same-length c = search needs

@@ -3,8 +3,8 @@ use borrow.Author.Needs.{needs}
 use mathlib.Core.Path.{_≡_, sym, ap, _∙_}
 use mir.Facts.{toZ-ofZ}
 use Rattle.string_slice.specs.declared.Sliced.{Sliced}
-use Rattle.string_slice.specs.Run.{Outcome, sliceOutcome}
-use Rattle.overlay.specs.Numbers.{slicedNumbers, returnedSlice, sliceNumbers}
+use Rattle.string_slice.specs.Run.{lists, told, Outcome, sliceOutcome}
+use Rattle.overlay.specs.Numbers.{sliceStruct, returnedSlice, sliceNumbers}
 use Rattle.overlay.proofs.overlay_slice.Statement.{statement}
 use Rattle.overlay.proofs.overlay_slice.Tie as tie
 
@@ -26,13 +26,13 @@ module _ (c : tie.After-slice) where
   s = c .before .before .before .before .before .before
 
   numbers : {a : Sliced} → c .slice .result ≡ a
-      → returnedSlice (slicedNumbers a) (c .slice .last .1 .1 .1 .1 .0) (c .slice .last .1 .1 .1 .1 .1 .0) (c .slice .last .1 .1 .1 .1 .1 .1 .0)
-      ≡ sliceNumbers (s .args .segments .now) (s .args .rule) (s .args .direction) (s .args .min-area) (s .args .points .now) (s .args .lengths .now) (s .args .roles .now)
+      → returnedSlice (sliceStruct (told a)) (lists (c .slice .last .1 .1 .1 .1 .0) (c .slice .last .1 .1 .1 .1 .1 .0) (c .slice .last .1 .1 .1 .1 .1 .1 .0))
+      ≡ sliceNumbers (s .args .numbers .now) (s .args .rule) (s .args .direction) (s .args .min-area) (lists (s .args .points .now) (s .args .lengths .now) (s .args .roles .now))
   unfolding sliceNumbers
   numbers e =
-      ap (λ (a : Sliced). returnedSlice (slicedNumbers a) (c .slice .last .1 .1 .1 .1 .0) (c .slice .last .1 .1 .1 .1 .1 .0) (c .slice .last .1 .1 .1 .1 .1 .1 .0)) (sym e)
-      ∙ ap (λ (o : Outcome). returnedSlice (slicedNumbers (o .answer)) (o .points) (o .lengths) (o .roles))
-      (c .slice .ensures ∙ (λ i. sliceOutcome (s .args .segments .now) (toZ-ofZ (s .fits .rule) i) (toZ-ofZ (s .fits .direction) i) (s .args .min-area) (s .args .points .now) (s .args .lengths .now) (s .args .roles .now)))
+      ap (λ (a : Sliced). returnedSlice (sliceStruct (told a)) (lists (c .slice .last .1 .1 .1 .1 .0) (c .slice .last .1 .1 .1 .1 .1 .0) (c .slice .last .1 .1 .1 .1 .1 .1 .0))) (sym e)
+      ∙ ap (λ (o : Outcome). returnedSlice (sliceStruct (o .numbers)) (o .lists))
+      (c .slice .ensures ∙ (λ i. sliceOutcome (s .args .numbers .now) (toZ-ofZ (s .fits .rule) i) (toZ-ofZ (s .fits .direction) i) (s .args .min-area) (lists (s .args .points .now) (s .args .lengths .now) (s .args .roles .now))))
 
 same-length : tie.Need-same-length
 same-length c = search needs

@@ -2,8 +2,8 @@
 use borrow.Author.Needs.{needs}
 use mathlib.Core.Path.{_≡_, sym, ap, _∙_}
 use Rattle.string_split.specs.declared.Loops.{Loops}
-use Rattle.string_split.specs.Run.{Outcome}
-use Rattle.overlay.specs.Numbers.{loopsNumbers, returnedSplit, splitNumbers}
+use Rattle.string_split.specs.Run.{lists, told, Outcome}
+use Rattle.overlay.specs.Numbers.{splitStruct, returnedSplit, splitNumbers}
 use Rattle.overlay.proofs.overlay_split.Statement.{statement}
 use Rattle.overlay.proofs.overlay_split.Tie as tie
 
@@ -25,12 +25,12 @@ module _ (c : tie.After-split) where
   s = c .before .before .before .before
 
   numbers : {a : Loops} → c .split .result ≡ a
-      → returnedSplit (loopsNumbers a) (c .split .last .1 .1 .0) (c .split .last .1 .1 .1 .0)
-      ≡ splitNumbers (s .args .points .now) (s .args .min-area) (s .args .out .now) (s .args .lengths .now)
+      → returnedSplit (splitStruct (told a)) (lists (c .split .last .1 .1 .0) (c .split .last .1 .1 .1 .0))
+      ≡ splitNumbers (s .args .points .now) (s .args .min-area) (lists (s .args .out .now) (s .args .lengths .now))
   unfolding splitNumbers
   numbers e =
-      ap (λ (a : Loops). returnedSplit (loopsNumbers a) (c .split .last .1 .1 .0) (c .split .last .1 .1 .1 .0)) (sym e)
-      ∙ ap (λ (o : Outcome). returnedSplit (loopsNumbers (o .answer)) (o .out) (o .lengths)) (c .split .ensures)
+      ap (λ (a : Loops). returnedSplit (splitStruct (told a)) (lists (c .split .last .1 .1 .0) (c .split .last .1 .1 .1 .0))) (sym e)
+      ∙ ap (λ (o : Outcome). returnedSplit (splitStruct (o .numbers)) (o .lists)) (c .split .ensures)
 
 same-length : tie.Need-same-length
 same-length c = search needs

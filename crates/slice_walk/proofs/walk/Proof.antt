@@ -96,7 +96,7 @@ module _ (c : tie.After-known-told Inv-loop μ-loop) where
   room = omega (arith, few (links h) (direction h) w, l .loop .inv .room, s h .pre .3)
 
   fits : l .loop .n < 2048
-  fits = omega (arith, few (links h) (direction h) w, bits-few (s h .args .bits .now), s h .pre .0 .as-many, s h .pre .0 .proper .few)
+  fits = omega (arith, few (links h) (direction h) w, bits-few (s h .args .bits .now), s h .pre .0 .as-many, s h .pre .0 .faultless .few)
 
 take-requires : tie.Need-take-requires Inv-loop μ-loop
 take-requires c κs =
@@ -105,7 +105,7 @@ take-requires c κs =
     let q = w k .as-many in
     let n = now (links (h k)) (direction (h k)) (w k) in (
       omega (arith, n .0, q),
-      omega (arith, p .proper .few, q),
+      omega (arith, p .faultless .few, q),
       omega (arith, p .nodes-are .each-end, q),
       ap (λ m. remains (l k .loop .bits) (moveOf m (direction (h k)) (e k))) q ∙ n .1,
     )
@@ -120,7 +120,7 @@ add-n : tie.Need-add-n Inv-loop μ-loop
 add-n c = record { fits = omega (arith, fits (c .before .before .before .before .before .before .before .before)) }
 
 other-end-requires : tie.Need-other-end-requires Inv-loop μ-loop
-other-end-requires c κs = let k = c .before .before .before .before .before .before .before .before in omega (arith, s (h k) .pre .0 .as-many, s (h k) .pre .0 .proper .few)
+other-end-requires c κs = let k = c .before .before .before .before .before .before .before .before in omega (arith, s (h k) .pre .0 .as-many, s (h k) .pre .0 .faultless .few)
 
 end-point-requires-3 : tie.Need-end-point-requires-3 Inv-loop μ-loop
 end-point-requires-3 c κs = search needs
@@ -180,7 +180,7 @@ find-nearest-requires c κs =
     let x = c .before .before in
     let r = s (h (k x)) .pre .0 in
     let n = now (links (h (k x))) (direction (h (k x))) (w (k x)) in (
-      record { proper = r .proper; nodes-are = r .nodes-are; as-many = as-many x },
+      record { faultless = r .faultless; nodes-are = r .nodes-are; as-many = as-many x },
       omega (arith, far-is x, other-end-below (m x) (e (k x)) (n .0), as-many x),
     )
 

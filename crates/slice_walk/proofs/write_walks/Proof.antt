@@ -52,7 +52,7 @@ slice-read-if1 : tie.Need-slice-read-if1 Inv-loop μ-loop
 slice-read-if1 c = let l = c .before .before in omega (arith, c .before .loop-test .taken, w l .as-many, s l .pre .0 .as-many)
 
 add-k : tie.Need-add-k Inv-loop μ-loop
-add-k c = let l = c .before .before .before in record { fits = omega (arith, c .before .before .loop-test .taken, s l .pre .0 .as-many, s l .pre .0 .proper .few) }
+add-k c = let l = c .before .before .before in record { fits = omega (arith, c .before .before .loop-test .taken, s l .pre .0 .as-many, s l .pre .0 .faultless .few) }
 
 loop-less : tie.Need-loop-less Inv-loop μ-loop
 loop-less c = let l = c .before .before .before in omega (arith, c .before .before .loop-test .taken)
@@ -75,7 +75,7 @@ module _ (e : tie.Else1 Inv-loop μ-loop) where
   line = e .if1 .left
 
   few : bitsRemaining (s l .args .bits .now) ≤ 2048
-  few = omega (arith, bits-few (s l .args .bits .now), s l .pre .0 .as-many, s l .pre .0 .proper .few)
+  few = omega (arith, bits-few (s l .args .bits .now), s l .pre .0 .as-many, s l .pre .0 .faultless .few)
 
   walks-room : l .loop .walks < 2 * length (s l .args .bits .now)
   walks-room = omega (arith, fits (links l) (w l) inside line, bits-few (s l .args .bits .now))
@@ -108,7 +108,7 @@ walk-requires : tie.Need-walk-requires Inv-loop μ-loop
 walk-requires c κs =
     let e = c .before .before .before in
     let p = s (l e) .pre .0 in (
-      record { proper = p .proper; nodes-are = p .nodes-are; as-many = w (l e) .as-many },
+      record { faultless = p .faultless; nodes-are = p .nodes-are; as-many = w (l e) .as-many },
       omega (arith, inside e, w (l e) .as-many),
       line e,
       omega (
@@ -182,7 +182,7 @@ module _ (c : tie.After-known-told Inv-loop μ-loop) where
   enough = omega (arith, few (e q), room (links (l (e q))) (w (l (e q))) (inside (e q)) (line (e q)) f)
 
   walks-few : l (e q) .loop .walks < 2048
-  walks-few = omega (arith, walks-room (e q), s (l (e q)) .pre .0 .as-many, s (l (e q)) .pre .0 .proper .few)
+  walks-few = omega (arith, walks-room (e q), s (l (e q)) .pre .0 .as-many, s (l (e q)) .pre .0 .faultless .few)
 
 cast-lengths : tie.Need-cast-lengths Inv-loop μ-loop
 cast-lengths c = record { fits = omega (arith, enough c) }

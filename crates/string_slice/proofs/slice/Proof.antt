@@ -3,7 +3,7 @@ use borrow.Author.Needs.{needs}
 use mathlib.Core.Path.{ap₂, _∙_}
 use lib.IntN.{ℤ}
 use mir.Facts.{toZ-ofZ}
-use Rattle.string_slice.specs.Run.{sliceOutcome}
+use Rattle.string_slice.specs.Run.{lists, sliceOutcome}
 use Rattle.string_slice.proofs.slice.Statement.{statement}
 use Rattle.string_slice.proofs.slice.Tie as tie
 
@@ -27,7 +27,7 @@ returns c =
     let k = c .before .before .before .before .before in
     let s = k .before .before .before .before .before .before .before .before in
     let a = s .args in
-    k .slice-small .ensures ∙ ap₂ (λ (rule direction : ℤ). sliceOutcome (a .segments .now) rule direction (a .min-area) (a .points .now) (a .lengths .now) (a .roles .now)) (toZ-ofZ (s .fits .rule)) (toZ-ofZ (s .fits .direction))
+    k .slice-small .ensures ∙ ap₂ (λ (rule direction : ℤ). sliceOutcome (a .numbers .now) rule direction (a .min-area) (lists (a .points .now) (a .lengths .now) (a .roles .now))) (toZ-ofZ (s .fits .rule)) (toZ-ofZ (s .fits .direction))
 
 slice-any-requires : tie.Need-slice-any-requires
 slice-any-requires c κs = search needs
@@ -46,7 +46,7 @@ returns-2 c =
     let k = c .before .before .before .before .before in
     let s = k .before .before .before .before .before .before .before .before in
     let a = s .args in
-    k .slice-any .ensures ∙ ap₂ (λ (rule direction : ℤ). sliceOutcome (a .segments .now) rule direction (a .min-area) (a .points .now) (a .lengths .now) (a .roles .now)) (toZ-ofZ (s .fits .rule)) (toZ-ofZ (s .fits .direction))
+    k .slice-any .ensures ∙ ap₂ (λ (rule direction : ℤ). sliceOutcome (a .numbers .now) rule direction (a .min-area) (lists (a .points .now) (a .lengths .now) (a .roles .now))) (toZ-ofZ (s .fits .rule)) (toZ-ofZ (s .fits .direction))
 
 pub slice-spec : {M : Type 1} → statement M
 slice-spec =

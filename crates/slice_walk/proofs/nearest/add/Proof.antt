@@ -14,7 +14,7 @@ use Rattle.moves.specs.declared.NextEnd.{NextEnd}
 use Rattle.moves.specs.declared.NextEnd.the-variants.{Leave}
 use Rattle.slice_walk.specs.Walk.{isNearer}
 use Rattle.slice_walk.specs.Ends.{farPoint, addEnd, Leaving}
-use Rattle.slice_walk.proofs.Choice.{near-end}
+use Rattle.ends.proofs.Ends.{end-near}
 use Rattle.slice_walk.proofs.nearest.add.Statement.{statement}
 use Rattle.slice_walk.proofs.nearest.add.Tie as tie
 
@@ -61,14 +61,14 @@ module _ (c : tie.After-far-point3) where
 
   far : (e : ℕ) → e < 2 * length links → inRange (farPoint links e) ≡ true
   unfolding farPoint
-  far e h = near-end links (s .pre .0) (otherEnd (length links) e) (other-end-below (length links) e h)
+  far e h = end-near links (s .pre .0) (otherEnd (length links) e) (other-end-below (length links) e h)
 
   best-below : b < 2 * length links
   best-below = subst (Leaving (λ e. e < 2 * length links)) best-is (s .pre .2)
 
 is-nearer-requires : tie.Need-is-nearer-requires
 is-nearer-requires c κs = (
-  ap inRange (c .before .before .before .end-point .ensures) ∙ near-end (links c) (s c .pre .0) (s c .args .f) (s c .pre .1),
+  ap inRange (c .before .before .before .end-point .ensures) ∙ end-near (links c) (s c .pre .0) (s c .args .f) (s c .pre .1),
   ap inRange (c .before .before .far-point .ensures) ∙ far c (s c .args .f) (s c .pre .1),
   ap inRange (c .before .far-point2 .ensures) ∙ far c (b c) (best-below c),
   ap inRange (c .far-point3 .ensures) ∙ far c (s c .args .e) (s c .pre .3),

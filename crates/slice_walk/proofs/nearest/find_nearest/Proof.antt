@@ -46,7 +46,7 @@ module _ (c : tie.After-shared-slice-known5) where
       (node-at (w .nodes-are) (s .args .f) below)
 
 find-other-requires : tie.Need-find-other-requires
-find-other-requires c κs = (w c .proper, w c .as-many, at-node c, s c .pre .1)
+find-other-requires c κs = (w c .faultless, w c .as-many, at-node c, s c .pre .1)
 
 enum-told : tie.Need-enum-told
 enum-told c = search needs
@@ -67,7 +67,7 @@ returns c =
     let o = c .before .before in
     let told = c .enum-told2 .given .1 in
     subst (NextIs (links (k o)) (s (k o) .args .direction) (s (k o) .args .bits .now) (s (k o) .args .f)) (sym told)
-    (next-other (links (k o)) (w (k o) .proper) (s (k o) .args .direction) (s (k o) .args .f) (below (k o)) (s (k o) .args .bits .now) _ _ _ (w (k o) .nodes-are) _ (found o _ told))
+    (next-other (links (k o)) (w (k o) .faultless) (s (k o) .args .direction) (s (k o) .args .f) (below (k o)) (s (k o) .args .bits .now) _ _ _ (w (k o) .nodes-are) _ (found o _ told))
 
 remains-requires : tie.Need-remains-requires
 remains-requires c κs = search needs
@@ -86,12 +86,12 @@ module _ (c : tie.After-remains) where
 returns-2 : tie.Need-returns-2
 returns-2 c =
     let o = o (c .before) in
-    next-current (links (k o)) (w (k o) .proper) (s (k o) .args .direction) (s (k o) .args .f) (below (k o)) (s (k o) .args .bits .now) _ _ _ (w (k o) .nodes-are) (found o Stop (c .before .before .enum-told .given .1)) (current (c .before) true (c .if1 .taken))
+    next-current (links (k o)) (w (k o) .faultless) (s (k o) .args .direction) (s (k o) .args .f) (below (k o)) (s (k o) .args .bits .now) _ _ _ (w (k o) .nodes-are) (found o Stop (c .before .before .enum-told .given .1)) (current (c .before) true (c .if1 .taken))
 
 returns-3 : tie.Need-returns-3
 returns-3 c =
     let o = o (c .before) in
-    next-none (links (k o)) (w (k o) .proper) (s (k o) .args .direction) (s (k o) .args .f) (below (k o)) (s (k o) .args .bits .now) _ _ _ (w (k o) .nodes-are) (found o Stop (c .before .before .enum-told .given .1)) (current (c .before) false (c .if1 .left))
+    next-none (links (k o)) (w (k o) .faultless) (s (k o) .args .direction) (s (k o) .args .f) (below (k o)) (s (k o) .args .bits .now) _ _ _ (w (k o) .nodes-are) (found o Stop (c .before .before .enum-told .given .1)) (current (c .before) false (c .if1 .left))
 
 pub find-nearest-spec : {M : Type 1} → statement M
 find-nearest-spec =

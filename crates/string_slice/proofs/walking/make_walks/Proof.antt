@@ -1,6 +1,7 @@
 -- Memory for a small drawing or for any. Assumes nothing.
 use borrow.Author.Needs.{needs}
 use native.Mathlib.Omega.{arith}
+use mir.Facts.{toZ-ofZ}
 use Rattle.segm.proofs.Segments.{length-segments}
 use Rattle.checks.proofs.Memory.{small-memory, any-memory}
 use Rattle.string_slice.proofs.walking.make_walks.Statement.{statement}
@@ -27,10 +28,10 @@ slice-aggregate-make-walks-in-5 c = search needs
 make-walks-in-requires : tie.Need-make-walks-in-requires
 make-walks-in-requires c κs =
     let t = c .before .before .before .before .before .before .before .before in
-    let k = t .before in
-    let s = k .before .before .before in
+    let k = c .before .before .before .before .before .before .before .before .before in
+    let s = c .before .before .before .before .before .before .before .before .before .before .before .before in
     let n = length-segments (s .args .s .now) in
-    (small-memory (s .args .s .now) (omega (arith, k .count .ensures, t .if1 .taken)), (λ _. omega (arith, n, k .count .ensures, t .if1 .taken)), s .pre)
+    (s .pre .0, small-memory (s .args .s .now) (omega (arith, k .count .ensures, t .if1 .taken)), (λ _. omega (arith, n, k .count .ensures, t .if1 .taken)), s .pre .1)
 
 same-length : tie.Need-same-length
 same-length c = search needs
@@ -42,7 +43,10 @@ same-length-3 : tie.Need-same-length-3
 same-length-3 c = search needs
 
 returns : tie.Need-returns
-returns c = c .before .before .before .before .before .before .before .before .before .before .make-walks-in .ensures
+returns c =
+    let k = c .before .before .before .before .before .before .before .before .before .before in
+    let s = c .before .before .before .before .before .before .before .before .before .before .before .before .before .before .before .before .before .before .before .before .before .before .before in
+    rw (toZ-ofZ (s .fits .rule)) at (k .make-walks-in .ensures)
 
 slice-aggregate-make-walks-in-6 : tie.Need-slice-aggregate-make-walks-in-6
 slice-aggregate-make-walks-in-6 c = search needs
@@ -60,7 +64,7 @@ slice-aggregate-make-walks-in-10 : tie.Need-slice-aggregate-make-walks-in-10
 slice-aggregate-make-walks-in-10 c = search needs
 
 make-walks-in-requires-2 : tie.Need-make-walks-in-requires-2
-make-walks-in-requires-2 c κs = let s = c .before .before .before .before .before .before .before .before .before .before .before .before in (any-memory (s .args .s .now), (λ few. omega arith), s .pre)
+make-walks-in-requires-2 c κs = let s = c .before .before .before .before .before .before .before .before .before .before .before .before in (s .pre .0, any-memory (s .args .s .now), (λ few. omega arith), s .pre .1)
 
 same-length-4 : tie.Need-same-length-4
 same-length-4 c = search needs
@@ -72,7 +76,10 @@ same-length-6 : tie.Need-same-length-6
 same-length-6 c = search needs
 
 returns-2 : tie.Need-returns-2
-returns-2 c = c .before .before .before .before .before .before .before .before .before .before .make-walks-in2 .ensures
+returns-2 c =
+    let k = c .before .before .before .before .before .before .before .before .before .before in
+    let s = c .before .before .before .before .before .before .before .before .before .before .before .before .before .before .before .before .before .before .before .before .before .before .before in
+    rw (toZ-ofZ (s .fits .rule)) at (k .make-walks-in2 .ensures)
 
 pub make-walks-spec : {M : Type 1} → statement M
 make-walks-spec =

@@ -1,18 +1,20 @@
--- The verdict decides whether walks are made. Assumes nothing.
+-- The verdict decides the arm, and where it is accepted the walks do. Assumes nothing.
 use borrow.Author.Needs.{needs}
-use mathlib.Core.Path.{_≡_, refl, sym, ap, ap₂, subst, _∙_}
+use mathlib.Core.Path.{_≡_, refl, sym, ap, subst, _∙_}
 use mathlib.Core.List.{List}
 use mathlib.Core.Option.{Option}
 use native.Mathlib.Omega.{arith}
-use Prim.Native.Nat.{ℕ}
+use Prim.Native.Nat.{ℕ, _≤_}
+use lib.ListN.{length}
 use lib.IntN.{ℤ}
-use mir.Syntax.{w32}
-use Rattle.integers.proofs.Machine.{read}
-use Rattle.segm.specs.Segments.{Drawing, segments}
+use mir.Facts.{toZ-ofZ}
 use Rattle.refusal.specs.declared.Verdict.{Verdict}
-use Rattle.checks.specs.Runs.{Run, verdict, sliceRun}
+use Rattle.refusal.specs.declared.Verdict.the-variants.{Accepted}
+use Rattle.refusal.proofs.Order.{accepted-then}
+use Rattle.segm.specs.Segments.{Drawing, segments}
+use Rattle.checks.specs.Drawing.{drawingVerdict}
 use Rattle.checks.specs.Accepted.{Good}
-use Rattle.checks.proofs.Accepted.{verdict-good}
+use Rattle.checks.proofs.Accepted.{drawing-good}
 use Rattle.fill_rule.specs.declared.Rule.{Rule}
 use Rattle.fill_rule.specs.FillRule.{ruleOf}
 use Rattle.moves.specs.Moves.{Move}
@@ -25,8 +27,8 @@ use Rattle.string_slice.proofs.Made.{walked-done, walked-stuck}
 use Rattle.string_slice.proofs.walking.make_walks_in.Statement.{statement}
 use Rattle.string_slice.proofs.walking.make_walks_in.Tie as tie
 
-check-slice-requires : tie.Need-check-slice-requires
-check-slice-requires c κs = search needs
+check-drawing-requires : tie.Need-check-drawing-requires
+check-drawing-requires c κs = let s = c .before .before .before .before .before .before .before .before .before .before in (s .pre .0, s .pre .1)
 
 enum-told : tie.Need-enum-told
 enum-told c = search needs
@@ -34,59 +36,49 @@ enum-told c = search needs
 rule-of-requires : tie.Need-rule-of-requires
 rule-of-requires c κs = search needs
 
--- what the checks told
-module _ (c : tie.After-check-slice) where
+-- what the check told
+module _ (c : tie.After-check-drawing) where
   abbrev s : tie.Start
-  s = c .before .before .before .before .before .before .before .before .before .before .before .before .before
-
-  abbrev numbers : List ℤ
-  numbers = s .args .s .now
+  s = c .before .before .before .before .before .before .before .before .before .before .before
 
   abbrev d : Drawing
-  d = segments numbers
-
-  abbrev run : Run
-  run = sliceRun numbers (s .args .asked .rule) (s .args .asked .direction) (s .args .asked .points) (s .args .asked .lengths) (s .args .asked .roles)
-
-  said : c .check-slice .result ≡ verdict run
-  said =
-      let told = c .before .struct-told2 .given in
-      c .check-slice .ensures .0
-      ∙ ap₂ (λ (rule direction : ℤ). verdict (sliceRun numbers rule direction (s .args .asked .points) (s .args .asked .lengths) (s .args .asked .roles))) (read w32 (s .args .asked .rule) (told .0 .1)) (read w32 (s .args .asked .direction) (told .1 .0 .1))
+  d = segments (s .args .s .now)
 
   abbrev found : Rule → Option (List (List Move))
   found rule = walks d (sideBits rule d)
 
   -- the answer, by the verdict
-  by-verdict : {v : Verdict} (r : Walked) (points : List ℤ) (lengths dirs : List ℕ) → c .check-slice .result ≡ v
-      → WalkedAre v d (found (ruleOf (s .args .asked .rule))) r points lengths dirs
-      → WalkedOf numbers (s .args .asked) r points lengths dirs
+  by-verdict : {v : Verdict} (r : Walked) (points : List ℤ) (lengths dirs : List ℕ) → c .check-drawing .result ≡ v
+      → WalkedAre v d (found (ruleOf (s .args .rule))) r points lengths dirs
+      → WalkedOf (s .args .s .now) (s .args .before) (s .args .rule) r points lengths dirs
   by-verdict r points lengths dirs e w =
-      subst (λ (v : Verdict). WalkedAre v d (found (ruleOf (s .args .asked .rule))) r points lengths dirs) (sym e ∙ said) w
+      subst (λ (v : Verdict). WalkedAre v d (found (ruleOf (s .args .rule))) r points lengths dirs) (sym e ∙ c .check-drawing .ensures .0) w
 
 -- the drawing is accepted
 module _ (t : tie.After-enum-told) where
-  abbrev v : tie.After-check-slice
+  abbrev v : tie.After-check-drawing
   v = t .before .before .before .before .before .before .before .before .before
 
+  both : (s v .args .before ≡ Accepted) × (drawingVerdict (d v) ≡ Accepted)
+  both = accepted-then (s v .args .before) (drawingVerdict (d v)) (sym (v .check-drawing .ensures .0) ∙ t .enum-told .given .1)
+
+  few : length (d v) ≤ 1024
+  few = s v .pre .0 (both .0)
+
   good : Good (d v)
-  unfolding sliceRun
-  good = verdict-good (run v) (sym (said v) ∙ t .enum-told .given .1)
+  good = drawing-good (d v) few (both .1)
 
 walk-links-requires : tie.Need-walk-links-requires
 walk-links-requires c κs =
-    let t = c .before .before .before .before .before .before .before .before .before .before in
-    let p = s (v t) .pre in
-    let left = v t .check-slice .ensures .1 (t .enum-told .given .1) in
-    let few = good t .few in (
+    let t = c .before .before .before .before .before .before .before .before .before in
+    let p = s (v t) .pre in (
       good t,
-      left .0,
-      left .1,
-      omega (arith, p .0 .tops-room few, v t .check-slice .kept .1 .1 .1 .1 .1 .1 .1 .1 .1 .0),
-      p .1 few,
-      p .2 .points-room few,
-      p .2 .lengths-room few,
-      p .2 .directions-room few,
+      v t .check-drawing .ensures .1 (t .enum-told .given .1),
+      omega (arith, p .1 .tops-room (few t), v t .check-drawing .kept .1 .1 .1 .1 .1 .0),
+      p .2 (few t),
+      p .3 .points-room (few t),
+      p .3 .lengths-room (few t),
+      p .3 .directions-room (few t),
     )
 
 enum-known-n : tie.Need-enum-known-n
@@ -125,10 +117,10 @@ same-length-8 c = search needs
 -- the walks that were made, by the rule that was chosen
 module _ (w : tie.After-walk-links) where
   abbrev t : tie.After-enum-told
-  t = w .before .before .before .before .before .before .before .before .before .before .before
+  t = w .before .before .before .before .before .before .before .before .before .before
 
   abbrev o : Option (List (List Move))
-  o = found (v t) (ruleOf (s (v t) .args .asked .rule))
+  o = found (v t) (ruleOf (s (v t) .args .rule))
 
   abbrev points : List ℤ
   points = w .walk-links .last .1 .1 .1 .1 .1 .1 .1 .0
@@ -143,12 +135,13 @@ module _ (w : tie.After-walk-links) where
   by-rule =
       let k = w .before .before .before .before .before .before .before .before .before in
       subst (λ (rule : Rule). WalksAre (d (v t)) (found (v t) rule) (s (v t) .args .walks .now) (s (v t) .args .walk-lengths .now) (s (v t) .args .directions .now) (w .walk-links .result) points lengths directions)
-      (k .rule-of .ensures ∙ ap ruleOf (read w32 (s (v t) .args .asked .rule) (k .before .struct-told3 .given .0 .1))) (w .walk-links .ensures)
+      (k .rule-of .ensures ∙ ap ruleOf (toZ-ofZ (s (v t) .fits .rule))) (w .walk-links .ensures)
 
 returns : tie.Need-returns
 returns c =
     let w = c .before .before .before .before .before .before .before .before .before .before in
-    by-verdict (v (t w)) _ _ _ _ (t w .enum-told .given .1) (walked-done (d (v (t w))) _ _ _ _ _ _ _ (o w) (by-rule w) (c .before .n .given .1))
+    let n = c .before in
+    by-verdict (v (t w)) _ _ _ _ (t w .enum-told .given .1) (walked-done (d (v (t w))) _ _ _ _ _ _ _ (o w) (by-rule w) (n .n .given .1))
 
 same-length-9 : tie.Need-same-length-9
 same-length-9 c = search needs
@@ -192,13 +185,16 @@ same-length-20 : tie.Need-same-length-20
 same-length-20 c = search needs
 
 returns-3 : tie.Need-returns-3
-returns-3 c = by-verdict (c .before .before .before .before .before .before .before .before .before .before) _ _ _ _ (c .before .number .given .1) refl
+returns-3 c =
+    let x = c .before .before .before .before .before .before .before .before .before .before in
+    let n = c .before in
+    by-verdict x _ _ _ _ (n .number .given .1) refl
 
 pub make-walks-in-spec : {M : Type 1} → statement M
 make-walks-in-spec =
     tie.close
     (tie.spec
-    check-slice-requires
+    check-drawing-requires
     enum-told
     rule-of-requires
     walk-links-requires

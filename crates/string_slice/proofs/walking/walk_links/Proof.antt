@@ -17,7 +17,6 @@ use Rattle.ray.proofs.Fills.{length-fills}
 use Rattle.slice_walk.specs.Walk.{walks}
 use Rattle.slice_walk.specs.Writing.{SliceLists, WalksAre}
 use Rattle.string_slice.specs.Contours.{sideBits}
-use Rattle.string_slice.proofs.Sides.{proper}
 use Rattle.string_slice.proofs.walking.walk_links.Statement.{statement}
 use Rattle.string_slice.proofs.walking.walk_links.Tie as tie
 
@@ -41,17 +40,17 @@ module _ (k : tie.After-count) where
   few = omega (arith, m-is, s .pre .0 .faultless .few)
 
   bits-room : m ≤ length (s .args .bits .now)
-  bits-room = omega (arith, m-is, s .pre .4)
+  bits-room = omega (arith, m-is, s .pre .3)
 
   -- the nodes, in the parts of the lists that are theirs
   nodes-are : Nodes links (take (2 * m) (s .args .flat .now)) (s .args .starts .now) (take (2 * m) (s .args .nodes .now))
-  nodes-are = front-nodes links (s .args .flat .now) (s .args .starts .now) (s .args .nodes .now) (s .pre .1) m m-is
+  nodes-are = front-nodes links (s .args .flat .now) (s .args .starts .now) (s .args .nodes .now) (s .pre .1 .nodes-are) m m-is
 
   flat-room : 2 * m ≤ length (s .args .flat .now)
-  flat-room = ends-room links (s .args .flat .now) (s .args .starts .now) (s .args .nodes .now) (s .pre .1) m m-is
+  flat-room = ends-room links (s .args .flat .now) (s .args .starts .now) (s .args .nodes .now) (s .pre .1 .nodes-are) m m-is
 
   nodes-room : 2 * m ≤ length (s .args .nodes .now)
-  nodes-room = numbers-room links (s .args .flat .now) (s .args .starts .now) (s .args .nodes .now) (s .pre .1) m m-is
+  nodes-room = numbers-room links (s .args .flat .now) (s .args .starts .now) (s .args .nodes .now) (s .pre .1 .nodes-are) m m-is
 
 mul-e : tie.Need-mul-e
 mul-e c = record { fits = omega (arith, few c) }
@@ -63,7 +62,7 @@ slice-aggregate-write-fills : tie.Need-slice-aggregate-write-fills
 slice-aggregate-write-fills c = sym (length-take-le _ _ (bits-room (c .before)))
 
 write-fills-requires : tie.Need-write-fills-requires
-write-fills-requires c κs = let k = c .before in (s k .pre .0, s k .pre .2, s k .pre .3, omega (arith, m-is k, length-take-le (m k) (s k .args .bits .now) (bits-room k)))
+write-fills-requires c κs = let k = c .before in (s k .pre .0, s k .pre .1 .counts-are, s k .pre .2, omega (arith, m-is k, length-take-le (m k) (s k .args .bits .now) (bits-room k)))
 
 -- the fills, in the part that came back
 module _ (f : tie.After-write-fills) where
@@ -118,7 +117,7 @@ module _ (h : tie.After-keep-sides) where
   n = k (f h)
 
   lists-are : SliceLists (links n) (take (2 * m n) (s n .args .flat .now)) (s n .args .starts .now) (take (2 * m n) (s n .args .nodes .now)) (take (m n) (bits-after h))
-  lists-are = record { proper = proper (links n) (s n .pre .0); nodes-are = nodes-are n; as-many = bits-number h ∙ m-is n }
+  lists-are = record { faultless = s n .pre .0 .faultless; nodes-are = nodes-are n; as-many = bits-number h ∙ m-is n }
 
 slice-aggregate-write-walks : tie.Need-slice-aggregate-write-walks
 slice-aggregate-write-walks c = let k = n (c .before .before .before) in sym (length-take-le _ _ (flat-room k))
@@ -137,9 +136,9 @@ write-walks-requires c κs =
     let b = c .before .before .before .before .before .before .before .before in
     let p = s (n b) .pre in (
       lists-are b,
+      omega (arith, bits-number b, m-is (n b), p .4),
       omega (arith, bits-number b, m-is (n b), p .5),
       omega (arith, bits-number b, m-is (n b), p .6),
-      omega (arith, bits-number b, m-is (n b), p .7),
     )
 
 same-length : tie.Need-same-length
