@@ -1,5 +1,4 @@
-// The clip run on a comma text, and what is printed of it. Every function here is proved, and the crate assumes nothing of its own.
-// `clip_text` and `answer` have no `requires`: any bytes and any length of the lent lists get an answer.
+// The clip run on a comma text, and what is printed of it. Any bytes and any length of the lent lists get an answer.
 mod program;
 
 pub use program::run;

@@ -1,5 +1,5 @@
-// The comma text: lines that end in LF, first `rule,invert,boundary`, then a segment's numbers each, as many as the caller says. Every function here is proved,
-// and the crate assumes nothing of its own. `read` has no `requires`: any bytes, any width and any length of the lent list get an answer.
+// The comma text: lines that end in LF, first `rule,invert,boundary`, then a segment's numbers each, as many as the caller says. Any bytes, any width and any
+// length of the lent list get an answer.
 mod lines;
 
 use lines::Scanned;
