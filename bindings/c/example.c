@@ -7,7 +7,7 @@
 #include <stdio.h>
 #include <string.h>
 
-enum { SEGMENTS = 9, NUMBERS = 6 * SEGMENTS, NON_ZERO = 1 };
+enum { SEGMENTS = 9, NUMBERS = OVERLAY_WIDTH * SEGMENTS, NON_ZERO = 1 };
 
 static const int32_t drawing[NUMBERS] = {
     -5, 5,  0,  5,  0,  1, /* the cut, left of the square */
@@ -109,6 +109,9 @@ static void print_split(int32_t x) {
 
 /* What a text is refused with, in words. */
 static const char *told(struct overlay_text read) {
+    if (read.number == 11) {
+        return "the text has too many segments for this program";
+    }
     return read.place == 0 ? "the text has over 65,536 bytes" : "this line is malformed";
 }
 
@@ -118,8 +121,6 @@ static void print_text(const char *text) {
     struct overlay_text read = overlay_read((const uint8_t *)text, strlen(text), numbers, NUMBERS);
     if (refused(read.number, read.place)) {
         printf("%s\n", told(read));
-    } else if (read.count > NUMBERS) {
-        printf("%" PRIu64 " numbers: too many for this program\n", read.count);
     } else {
         print_clip_of(numbers, read.count, read.rule, read.invert, read.boundary);
     }
@@ -140,5 +141,7 @@ int main(void) {
     print_text("1,0,1\n0,0,4,0,1,1\n0,0,4,4,-1;2\n");
     print_text("1,0,1\n0,0,2,0,0,1\n1,0,1,1,0,1\n");
     print_text("7,0,1\n");
+    print_text("1,0,1\n0,0,1,0,0,1\n1,0,2,0,0,1\n2,0,3,0,0,1\n3,0,4,0,0,1\n4,0,5,0,0,1\n"
+               "5,0,6,0,0,1\n6,0,7,0,0,1\n7,0,8,0,0,1\n8,0,9,0,0,1\n9,0,10,0,0,1\n");
     return 0;
 }

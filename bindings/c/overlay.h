@@ -20,7 +20,7 @@
      12  a slice walk finds no move
    3 to 7 are tried segment by segment, the lowest number first within one. overlay_split takes points
    instead of a drawing, and refuses by 2, 11 and 3 only; overlay_read takes a text, and refuses by 1
-   only: as said there.
+   and 11 only: as said there.
 
    A list is passed as a pointer and its number of entries. No pointer may be NULL, not even for a list
    of no entries: pass the address of anything. Lists of one call must not overlap. Entries past the
@@ -41,6 +41,9 @@
 #ifdef __cplusplus
 extern "C" {
 #endif
+
+/* How many numbers a segment has. */
+#define OVERLAY_WIDTH 6
 
 struct overlay_filled {
     uint64_t number; /* the refusal's, 0 on success */
@@ -108,19 +111,19 @@ struct overlay_looped overlay_split(const int32_t *points, size_t points_len, ui
                                     size_t lengths_len);
 
 struct overlay_text {
-    uint64_t number;  /* 1 for a text that is refused, 0 on success */
-    uint64_t place;   /* the first bad line, from 1; 0 if the text is too long, and on success */
-    uint64_t count;   /* how many numbers the text has after its first line: six for each segment */
+    uint64_t number;  /* the refusal's, 0 on success */
+    uint64_t place;   /* the first bad line, from 1; 0 if none is meant, and on success */
+    uint64_t count;   /* of numbers written: OVERLAY_WIDTH for each segment */
     int32_t rule;     /* the first line's numbers, as they stand there: */
     int32_t invert;   /* overlay_clip refuses */
     int32_t boundary; /* an unknown one */
 };
 
 /* A comma text read: lines that end in LF, the first with the choices rule, invert and boundary, every
-   other one with the six numbers of a segment, commas between. `numbers` gets the segments' numbers, as many
-   as it holds: the call went well and the list was too short if count is over numbers_len. Half as many
-   entries as the text has bytes are always enough. Refused is
-      1  a text with a malformed line (place), or one of over 65,536 bytes (place 0) */
+   other one with the six numbers of a segment, commas between. `numbers` gets the segments' numbers. Half
+   as many entries as the text has bytes are always enough. What is refused, tried in this order:
+      1  the text has a malformed line (place), or over 65,536 bytes (place 0)
+     11  the list is too short for all its numbers */
 struct overlay_text overlay_read(const uint8_t *text, size_t text_len, int32_t *numbers,
                                  size_t numbers_len);
 

@@ -5,10 +5,13 @@ use crate::legend::{counted, Entry};
 use crate::page::Page;
 use crate::refused::{panels, title, told};
 use crate::segment::segments;
-use jumperclay::{read, Reason, Refusal};
+use jumperclay::{read, Reason, Refusal, WIDTH};
 
 /// Where lines are left out, places mean nothing.
 const NOT_LABELLED: usize = 0;
+
+/// How many numbers the first line has.
+const CHOICES: usize = 3;
 
 /// Of a longer line the beginning is shown.
 const MOST_SHOWN: usize = 80;
@@ -30,7 +33,7 @@ pub fn page(text: &[u8], refusal: Refusal) -> Page {
     Page { title: title(refusal), legend, panels: panels(&segments, &Complaint::default(), NOT_LABELLED) }
 }
 
-/// The six numbers of a line, if the library reads them.
+/// The numbers of a line, if the library reads them.
 fn numbers(line: &[u8]) -> Vec<i32> {
     read(&[b"0,0,0\n", line].concat()).map(|text| text.segments).unwrap_or_default()
 }
@@ -39,7 +42,9 @@ fn numbers(line: &[u8]) -> Vec<i32> {
 fn about_line(lines: &[&[u8]], place: usize) -> Vec<Entry> {
     match place.checked_sub(1).and_then(|before| lines.get(before)) {
         None => vec![Entry::Words("The text is empty.".to_string())],
-        Some(line) => vec![Entry::Quoted(shown(line)), Entry::Words(fault(line, if place == 1 { 3 } else { 6 }))],
+        Some(line) => {
+            vec![Entry::Quoted(shown(line)), Entry::Words(fault(line, if place == 1 { CHOICES } else { WIDTH }))]
+        }
     }
 }
 
@@ -75,11 +80,11 @@ mod tests {
 
     #[test]
     fn what_is_wrong_with_a_line() {
-        assert_eq!(fault(b"0,0,1,0,0,1", 6), "It does not end in LF.");
-        assert_eq!(fault(b"\n", 6), "It is empty.");
-        assert_eq!(fault(b"1,0\n", 3), "It has 2 fields, and 3 are due.");
-        assert_eq!(fault(b"0,0,1,0,-0,1\n", 6), "Field 5 is no number of at most nine digits: -0");
-        assert_eq!(fault(b"0,0,1\r\n", 3), "Field 3 is no number of at most nine digits: 1\\r");
+        assert_eq!(fault(b"0,0,1,0,0,1", WIDTH), "It does not end in LF.");
+        assert_eq!(fault(b"\n", WIDTH), "It is empty.");
+        assert_eq!(fault(b"1,0\n", CHOICES), "It has 2 fields, and 3 are due.");
+        assert_eq!(fault(b"0,0,1,0,-0,1\n", WIDTH), "Field 5 is no number of at most nine digits: -0");
+        assert_eq!(fault(b"0,0,1\r\n", CHOICES), "Field 3 is no number of at most nine digits: 1\\r");
     }
 
     #[test]

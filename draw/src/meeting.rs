@@ -10,7 +10,7 @@ pub fn first_met(segments: &[Segment], lower: usize) -> Option<usize> {
 }
 
 fn meet_wrongly(one: Segment, other: Segment) -> bool {
-    let bare = |segment: Segment| [segment.a.0, segment.a.1, segment.b.0, segment.b.1, 0, 0];
+    let bare = |segment: Segment| Segment { winding: 0, line_bits: 0, ..segment }.numbers();
     let both = [bare(one), bare(other)].concat();
     fills(&both, Rule::EvenOdd).is_err_and(|refusal| refusal.reason == Reason::Meeting)
 }

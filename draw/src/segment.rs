@@ -1,8 +1,8 @@
-use jumperclay::Point;
+use jumperclay::{Point, WIDTH};
 
 const MOST_COORDINATE: u32 = 16_777_216;
 
-/// What six numbers of a drawing say, right or wrong.
+/// What the numbers of a segment say, right or wrong.
 #[derive(Clone, Copy)]
 pub struct Segment {
     pub a: Point,
@@ -12,11 +12,20 @@ pub struct Segment {
 }
 
 pub fn segments(numbers: &[i32]) -> Vec<Segment> {
-    let of_six = |six: &[i32]| Segment { a: (six[0], six[1]), b: (six[2], six[3]), winding: six[4], line_bits: six[5] };
-    numbers.chunks_exact(6).map(of_six).collect()
+    numbers.chunks_exact(WIDTH).map(Segment::new).collect()
 }
 
 impl Segment {
+    fn new(numbers: &[i32]) -> Self {
+        let point = |at: usize| (numbers[at], numbers[at + 1]);
+        Self { a: point(0), b: point(2), winding: numbers[4], line_bits: numbers[5] }
+    }
+
+    /// As a drawing has them.
+    pub fn numbers(self) -> [i32; WIDTH] {
+        [self.a.0, self.a.1, self.b.0, self.b.1, self.winding, self.line_bits]
+    }
+
     pub fn ends(self) -> [Point; 2] {
         [self.a, self.b]
     }

@@ -1,9 +1,9 @@
 //! The cut lines of a square of dough, inside and outside.
 
-use jumperclay::{clip, Clip, ClipRule, Refusal, Rule};
+use jumperclay::{clip, Clip, ClipRule, Refusal, Rule, WIDTH};
 
 /// Six numbers for each segment: ax, ay, bx, by, winding, line bits.
-const DRAWING: [i32; 54] = [
+const DRAWING: [i32; 9 * WIDTH] = [
     -5, 5, 0, 5, 0, 1, // the cut, left of the square
     0, 0, 0, 5, -1, 0, // the square's left, lower half
     0, 0, 10, 0, 1, 0, // its bottom

@@ -1,9 +1,9 @@
 //! The pieces of a square of dough that has a square hole and one cut; then their numbers, into lists that are lent again and again.
 
-use jumperclay::{slice, slice_into, Direction, Refusal, Rule};
+use jumperclay::{slice, slice_into, Direction, Refusal, Rule, WIDTH};
 
 /// Six numbers for each segment: ax, ay, bx, by, winding, line bits.
-const DRAWING: [i32; 66] = [
+const DRAWING: [i32; 11 * WIDTH] = [
     0, 0, 0, 9, -1, 0, // the square's left
     0, 0, 7, 0, 1, 0, // its bottom
     0, 9, 9, 9, -1, 0, // its top

@@ -1,6 +1,6 @@
 //! The string overlay, over a library whose every function is proved.
 //!
-//! A drawing is a list of segments, six numbers each: `ax, ay, bx, by, winding, line bits`. Point a is
+//! A drawing is a list of segments, six numbers each ([`WIDTH`]): `ax, ay, bx, by, winding, line bits`. Point a is
 //! less than b, by x and then y, and the segments come in order of their a. The winding is positive
 //! where the outline runs from a to b. Line bit 1 is a line drawn from a to b, bit 2 one from b to a.
 //!
@@ -74,10 +74,13 @@ pub enum Rule {
     Negative = 3,
 }
 
+/// How many numbers a segment has.
+pub const WIDTH: usize = 6;
+
 /// No drawing has more segments than this.
 pub const MOST_SEGMENTS: usize = 1024;
 
 /// How many segments to make room for.
 fn room(segments: &[i32]) -> usize {
-    (segments.len() / 6).min(MOST_SEGMENTS)
+    (segments.len() / WIDTH).min(MOST_SEGMENTS)
 }

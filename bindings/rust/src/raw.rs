@@ -62,11 +62,11 @@ pub struct Looped {
 #[repr(C)]
 #[derive(Debug, Clone, Copy, PartialEq, Eq)]
 pub struct Read {
-    /// 1 for a malformed text, 0 on success.
+    /// The refusal's number: 1 for a malformed text, 11 for a list too short, 0 on success.
     pub number: u64,
-    /// The first bad line, from 1; 0 if the text is too long, and on success.
+    /// The first bad line, from 1; 0 if none is meant, and on success.
     pub place: u64,
-    /// How many numbers the text has after its first line.
+    /// How many numbers were written: those that the text has after its first line.
     pub count: u64,
     /// The first number of the first line.
     pub rule: i32,

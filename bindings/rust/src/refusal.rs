@@ -134,10 +134,10 @@ impl Refusal {
         Self::check(&Reason::OF_DRAWINGS, number, place)
     }
 
-    /// As of a drawing, of a text. Only one that is too long is refused without a line.
+    /// As of a drawing, of a text. Of the malformed ones only one that is too long is refused without a line.
     pub(crate) fn of_text(number: u64, place: u64) -> Result<(), Self> {
-        let reason = if place == 0 { Reason::TextLength } else { Reason::Line };
-        Self::check(&[reason], number, place)
+        let malformed = if place == 0 { Reason::TextLength } else { Reason::Line };
+        Self::check(&[malformed, Reason::ShortList], number, place)
     }
 
     /// As of a drawing, of a list of points.

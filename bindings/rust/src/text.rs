@@ -44,7 +44,7 @@ impl Choices {
 pub struct Text {
     /// The first line.
     pub choices: Choices,
-    /// Six numbers for each other line.
+    /// The numbers of the other lines, [`WIDTH`](crate::WIDTH) each.
     pub segments: Vec<i32>,
 }
 
@@ -85,16 +85,21 @@ pub fn read(text: &[u8]) -> Result<Text, Refusal> {
     Ok(Text { choices, segments })
 }
 
-/// As [`read`], into a lent list; returns how many numbers the text has, of which the list gets as many as it holds.
-/// Entries past them keep their values, and after a refusal all do.
+/// As [`read`], into a lent list, which must hold all numbers of the text; returns how many these are. Half as many
+/// entries as the text has bytes are always enough. Entries past the numbers keep their values, and after a refusal all
+/// do.
 ///
 /// ```
-/// use jumperclay::read_into;
+/// use jumperclay::{read_into, Reason};
 ///
-/// let text = b"1,0,1\n0,0,1,0,0,1\n1,0,2,0,0,1\n";
+/// let text = b"1,0,1\n0,0,1,0,0,1\n";
 /// let mut list = [99; 8];
-/// assert_eq!(read_into(text, &mut list)?.1, 12);
-/// assert_eq!(list, [0, 0, 1, 0, 0, 1, 1, 0]);
+/// assert_eq!(read_into(text, &mut list)?.1, 6);
+/// assert_eq!(list, [0, 0, 1, 0, 0, 1, 99, 99]);
+///
+/// let mut list = [99; 5];
+/// assert_eq!(read_into(text, &mut list).unwrap_err().reason, Reason::ShortList);
+/// assert_eq!(list, [99; 5]);
 /// # Ok::<(), jumperclay::Refusal>(())
 /// ```
 pub fn read_into(text: &[u8], segments: &mut [i32]) -> Result<(Choices, usize), Refusal> {

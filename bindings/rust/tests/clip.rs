@@ -1,7 +1,7 @@
 mod common;
 
 use common::A;
-use jumperclay::{clip, clip_into, raw, Clip, ClipRule, Point, Reason, Refusal, Rule, Totals};
+use jumperclay::{clip, clip_into, raw, Clip, ClipRule, Point, Reason, Refusal, Rule, Totals, MOST_SEGMENTS, WIDTH};
 
 const INSIDE: ClipRule = ClipRule { invert: false, boundary_included: true };
 const OUTSIDE: ClipRule = ClipRule { invert: true, boundary_included: true };
@@ -23,8 +23,8 @@ fn case_a() {
 #[test]
 fn lines_on_the_boundary() {
     let mut drawing = A;
-    drawing.chunks_exact_mut(6).filter(|segment| segment[4] != 0).for_each(|segment| segment[5] = 1);
-    let drawing = &drawing[6..48];
+    drawing.chunks_exact_mut(WIDTH).filter(|segment| segment[4] != 0).for_each(|segment| segment[5] = 1);
+    let drawing = &drawing[WIDTH..8 * WIDTH];
     let round = [(0, 0), (0, 5), (0, 10), (10, 10)];
     let rest = [(0, 0), (10, 0), (10, 5), (10, 10)];
     let cut = [(0, 5), (10, 5)];
@@ -61,7 +61,7 @@ fn refused() {
     let meeting = [0, 0, 2, 0, 0, 1, 1, 0, 1, 1, 0, 1];
     let refusal = clip(&meeting, Rule::NonZero, INSIDE).unwrap_err();
     assert_eq!(refusal, Refusal { reason: Reason::Meeting, place: 0 });
-    assert_eq!(clip(&[0; 6 * 1025], Rule::NonZero, INSIDE).unwrap_err().reason, Reason::Length);
+    assert_eq!(clip(&[0; WIDTH * (MOST_SEGMENTS + 1)], Rule::NonZero, INSIDE).unwrap_err().reason, Reason::Length);
 }
 
 #[test]

@@ -1,7 +1,7 @@
 mod common;
 
 use common::A;
-use jumperclay::{fills, fills_into, raw, Reason, Refusal, Rule};
+use jumperclay::{fills, fills_into, raw, Reason, Refusal, Rule, MOST_SEGMENTS, WIDTH};
 
 fn refused(drawing: &[i32], reason: Reason, place: usize, sentence: &str) {
     let refusal = fills(drawing, Rule::NonZero).unwrap_err();
@@ -9,10 +9,16 @@ fn refused(drawing: &[i32], reason: Reason, place: usize, sentence: &str) {
     assert_eq!(refusal.to_string(), sentence);
 }
 
-/// Case A with one of its numbers changed.
-fn changed(at: usize, number: i32) -> [i32; 54] {
+/// The places of a segment's numbers.
+const AX: usize = 0;
+const BY: usize = 3;
+const WINDING: usize = 4;
+const LINE_BITS: usize = 5;
+
+/// Case A with one number of a segment changed.
+fn changed(segment: usize, at: usize, number: i32) -> [i32; A.len()] {
     let mut drawing = A;
-    drawing[at] = number;
+    drawing[segment * WIDTH + at] = number;
     drawing
 }
 
@@ -33,18 +39,18 @@ fn no_segments() {
 #[test]
 fn one_number_too_many_or_one_segment() {
     let sentence = "the length is no multiple of six, or there are over 1,024 segments";
-    refused(&A[..53], Reason::Length, 0, sentence);
-    assert_eq!(fills(&A[..53], Rule::NonZero).unwrap_err().number(), 2);
-    refused(&[0; 6 * 1025], Reason::Length, 0, sentence);
+    refused(&A[..A.len() - 1], Reason::Length, 0, sentence);
+    assert_eq!(fills(&A[..A.len() - 1], Rule::NonZero).unwrap_err().number(), 2);
+    refused(&[0; WIDTH * (MOST_SEGMENTS + 1)], Reason::Length, 0, sentence);
 }
 
 #[test]
 fn one_number_out_of_range() {
-    refused(&changed(12, 16_777_217), Reason::Coordinate, 2, "segment 2: a coordinate is out of range");
-    refused(&changed(6, -6), Reason::Order, 1, "segment 1: a is less than the previous segment's a");
-    refused(&changed(9, 0), Reason::Ends, 1, "segment 1: a is not less than b");
-    refused(&changed(10, -1001), Reason::Winding, 1, "segment 1: the winding is out of range");
-    refused(&changed(53, 4), Reason::LineBits, 8, "segment 8: the line bits are out of range");
+    refused(&changed(2, AX, 16_777_217), Reason::Coordinate, 2, "segment 2: a coordinate is out of range");
+    refused(&changed(1, AX, -6), Reason::Order, 1, "segment 1: a is less than the previous segment's a");
+    refused(&changed(1, BY, 0), Reason::Ends, 1, "segment 1: a is not less than b");
+    refused(&changed(1, WINDING, -1001), Reason::Winding, 1, "segment 1: the winding is out of range");
+    refused(&changed(8, LINE_BITS, 4), Reason::LineBits, 8, "segment 8: the line bits are out of range");
 }
 
 #[test]

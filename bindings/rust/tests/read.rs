@@ -1,9 +1,10 @@
 mod common;
 
 use common::A;
-use jumperclay::{read, read_into, Choices, ClipRule, Reason, Refusal, Rule, Text, MOST_BYTES};
+use jumperclay::{read, read_into, Choices, ClipRule, Reason, Refusal, Rule, Text, MOST_BYTES, WIDTH};
 
 const LINE: &str = "0,0,1,0,0,1\n";
+const NUMBERS: [i32; WIDTH] = [0, 0, 1, 0, 0, 1];
 
 fn refused(text: &[u8], reason: Reason, place: usize, sentence: &str) {
     let refusal = read(text).unwrap_err();
@@ -48,21 +49,34 @@ fn a_text_too_long_by_one() {
 #[test]
 fn entries_past_the_numbers_stay() {
     let text = format!("1,0,1\n{LINE}");
-    let mut list = [99; 8];
-    assert_eq!(read_into(text.as_bytes(), &mut list).unwrap().1, 6);
-    assert_eq!(list, [0, 0, 1, 0, 0, 1, 99, 99]);
-    let mut list = [99; 8];
-    assert!(read_into(text.trim_end().as_bytes(), &mut list).is_err());
-    assert_eq!(list, [99; 8]);
+    let mut list = [99; WIDTH + 2];
+    assert_eq!(read_into(text.as_bytes(), &mut list).unwrap().1, WIDTH);
+    assert_eq!((&list[..WIDTH], &list[WIDTH..]), (&NUMBERS[..], &[99; 2][..]));
+    let mut list = [99; WIDTH + 2];
+    assert_eq!(read_into(text.trim_end().as_bytes(), &mut list).unwrap_err().reason, Reason::Line);
+    assert_eq!(list, [99; WIDTH + 2]);
 }
 
 #[test]
-fn a_list_too_short_gets_what_it_holds() {
+fn a_list_too_short_is_left_untouched() {
     let text = format!("1,0,1\n{LINE}{LINE}");
-    let mut list = [99; 7];
-    assert_eq!(read_into(text.as_bytes(), &mut list).unwrap().1, 12);
-    assert_eq!(list, [0, 0, 1, 0, 0, 1, 0]);
-    assert_eq!(read_into(text.as_bytes(), &mut []).unwrap().1, 12);
+    for length in [2 * WIDTH - 1, WIDTH, 1, 0] {
+        let mut list = vec![99; length];
+        let refusal = read_into(text.as_bytes(), &mut list).unwrap_err();
+        assert_eq!((refusal, refusal.number()), (Refusal { reason: Reason::ShortList, place: 0 }, 11));
+        assert!(list.iter().all(|&entry| entry == 99));
+    }
+    // The lines are looked at first.
+    let refusal = read_into(text.trim_end().as_bytes(), &mut []).unwrap_err();
+    assert_eq!(refusal, Refusal { reason: Reason::Line, place: 3 });
+}
+
+#[test]
+fn any_text_is_read_whole() {
+    let shortest = "0,0,0,0,0,0\n".repeat((MOST_BYTES - "0,0,0\n".len()) / (2 * WIDTH));
+    let text = read(format!("0,0,0\n{shortest}").as_bytes()).unwrap();
+    assert_eq!(text.segments.len(), shortest.len() / 2);
+    assert_eq!(text.clip().unwrap_err().reason, Reason::Length);
 }
 
 #[test]

@@ -1,10 +1,12 @@
 mod common;
 
 use common::A;
-use jumperclay::{raw, slice, slice_into, Contour, ContourTotals, Direction, Point, Reason, Refusal, Rule};
+use jumperclay::{
+    raw, slice, slice_into, Contour, ContourTotals, Direction, Point, Reason, Refusal, Rule, MOST_SEGMENTS, WIDTH,
+};
 
 /// A square with a square hole.
-const FRAME: [i32; 48] = [
+const FRAME: [i32; 8 * WIDTH] = [
     0, 0, 0, 9, -1, 0, 0, 0, 9, 0, 1, 0, 0, 9, 9, 9, -1, 0, 3, 3, 3, 6, 1, 0, 3, 3, 6, 3, -1, 0, 3, 6, 6, 6, 1, 0, 6,
     3, 6, 6, -1, 0, 9, 0, 9, 9, 1, 0,
 ];
@@ -53,7 +55,7 @@ fn no_segments() {
 
 #[test]
 fn turned_down() {
-    refused(&[0; 6 * 1025], Reason::Length, 0);
+    refused(&[0; WIDTH * (MOST_SEGMENTS + 1)], Reason::Length, 0);
     refused(&[0, 0, 2, 0, 0, 1, 1, 0, 1, 1, 0, 1], Reason::Meeting, 0);
     refused(&[0, 0, 1, 0, 0, 0, 1, 0, 16_777_217, 0, 0, 0], Reason::Coordinate, 1);
 }

@@ -1,6 +1,6 @@
 //! Each call on a thread with just as much stack as `overlay.h` says that it needs.
 
-use jumperclay::{clip, fills, slice, split, ClipRule, Direction, Rule};
+use jumperclay::{clip, fills, slice, split, ClipRule, Direction, Rule, MOST_SEGMENTS, WIDTH};
 use std::thread;
 
 /// Bytes, as said in `overlay.h`: of a small drawing, with up to 128 segments, and of any.
@@ -14,7 +14,7 @@ const BESIDE: usize = 8 << 10;
 /// Segments of one square.
 const EACH: usize = 4;
 /// Of a drawing.
-const SIZES: [usize; 2] = [128, 1024];
+const SIZES: [usize; 2] = [128, MOST_SEGMENTS];
 
 /// Squares side by side, each with a line along its bottom.
 fn squares(segments: usize) -> Vec<i32> {
@@ -27,8 +27,8 @@ fn squares(segments: usize) -> Vec<i32> {
 /// The same with one segment twice, so that two meet wrongly.
 fn meeting(segments: usize) -> Vec<i32> {
     let mut drawing = squares(segments);
-    let last = drawing.len() - 6;
-    drawing.copy_within(last - 6..last, last);
+    let last = drawing.len() - WIDTH;
+    drawing.copy_within(last - WIDTH..last, last);
     drawing
 }
 

@@ -11,7 +11,7 @@ use Rattle.contour.proofs.Coordinates.{length-pairs}
 use Rattle.string_clip.specs.declared.Totals.{Totals}
 use Rattle.string_clip.specs.declared.Clipped.{Clipped}
 use Rattle.string_clip.specs.declared.Clipped.the-variants.{Done, Refused}
-use Rattle.string_clip.specs.Run.{Outcome, told, output}
+use Rattle.string_clip.specs.Run.{Outcome, output}
 use Rattle.decimal.specs.Decimal.{decimal, signed}
 use Rattle.writing.specs.Lengths.{lineLength}
 use Rattle.writing.proofs.Lengths.{length-decimal, length-signed, length-line, at-most-20, at-most-21}
@@ -75,10 +75,10 @@ refused-short : (number place : ℕ) → refusedLength number place ≤ 50
 unfolding refusedLength lineLength tally
 refused-short number place = omega (arith, at-most-20 number, at-most-20 place)
 
-pub printed-short : (o : Outcome) → printedLength o ≤ longest (length (o .points))
+pub printed-short : (o : Outcome) → printedLength o ≤ longest (length (o .lists .points))
 unfolding printedLength output
 printed-short o = by (o .answer)
   where
-    by : (r : Clipped) → linesLength r (cut (told r .paths) (o .lengths) (pairUp (o .points))) ≤ longest (length (o .points))
-    by (Done t) = omega (arith, paths-short 0 (t .paths) (o .lengths) (pairUp (o .points)), length-pairs (o .points), total-short t)
+    by : (r : Clipped) → linesLength r (output o) ≤ longest (length (o .lists .points))
+    by (Done t) = omega (arith, paths-short 0 (o .numbers .totals .paths) (o .lists .lengths) (pairUp (o .lists .points)), length-pairs (o .lists .points), total-short t)
     by (Refused number place) = omega (arith, refused-short number place)

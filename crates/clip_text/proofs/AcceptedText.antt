@@ -29,7 +29,7 @@ use Rattle.build.specs.Links.{filterOf}
 use Rattle.string_clip.specs.declared.Clipped.the-variants.{Done}
 use Rattle.string_clip.specs.Claim.{Room}
 use Rattle.string_clip.specs.Paths.{clipPaths}
-use Rattle.string_clip.specs.Run.{totals}
+use Rattle.string_clip.specs.Run.{totals, Lists, lists, runOf}
 use Rattle.string_clip.proofs.ReadBack.{read-back}
 use Rattle.string_clip.proofs.Together.{accepted-outcome, room-long}
 use Rattle.text.specs.declared.Choices.{Choices}
@@ -82,25 +82,25 @@ module _ (c : Choices) (d : Drawing) (e : accepts (laid d) (c .rule) (c .invert)
   accepted-text = reads-back c d (λ r i z m. omega (arith, small r i z m)) (fits c d (good .faultless .few) small)
 
   -- lists for 1,024 segments are long enough for it
-  accepted-clip : (xs : List ℤ) (ns : List ℕ) → length xs ≡ 8192 → length ns ≡ 2048 → verdict (clipRun (laid d) (c .rule) (c .invert) (c .boundary) (length xs) (length ns)) ≡ Accepted
+  accepted-clip : (ls : Lists) → length (ls .points) ≡ 8192 → length (ls .lengths) ≡ 2048 → verdict (runOf (laid d) (c .rule) (c .invert) (c .boundary) ls) ≡ Accepted
   unfolding clipRun
-  accepted-clip xs ns h k =
+  accepted-clip ls h k =
       let n = ap length (segments-laid d) in
-      let room : Room (laid d) xs ns = record { points-fit = omega (arith, n, h, good .faultless .few); lengths-fit = omega (arith, n, k, good .faultless .few) } in
-      accepted-run (laid d) (c .rule) (c .invert) (c .boundary) e _ _ (passed _ (accepted-input (laid d) (c .rule) (c .invert) (c .boundary) e) .known) (room-long (laid d) xs ns room)
+      let room : Room (laid d) ls = record { points-fit = omega (arith, n, h, good .faultless .few); lengths-fit = omega (arith, n, k, good .faultless .few) } in
+      accepted-run (laid d) (c .rule) (c .invert) (c .boundary) e _ _ (passed _ (accepted-input (laid d) (c .rule) (c .invert) (c .boundary) e) .asks .known) (room-long (laid d) ls room)
 
   abbrev paths : Drawing → List (List Point)
   paths = clipPaths (ruleOf (c .rule)) (filterOf (c .invert) (c .boundary))
 
-  printed-run : (xs : List ℤ) (ns : List ℕ) → length xs ≡ 8192 → length ns ≡ 2048 → printed (textOutcome (writing c d) xs ns) ≡ linesOf (Done (totals (paths d))) (paths d)
+  printed-run : (ls : Lists) → length (ls .points) ≡ 8192 → length (ls .lengths) ≡ 2048 → printed (textOutcome (writing c d) ls) ≡ linesOf (Done (totals (paths d))) (paths d)
   unfolding textOutcome printed
-  printed-run xs ns h k =
-      ap (λ (p : Parsed). printed (runOn p xs ns)) accepted-text
-      ∙ ap printed (accepted-outcome (laid d) (c .rule) (c .invert) (c .boundary) xs ns (accepted-clip xs ns h k))
-      ∙ ap (linesOf (Done (totals (paths (segments (laid d)))))) (read-back (paths (segments (laid d))) xs ns)
+  printed-run ls h k =
+      ap (λ (p : Parsed). printed (runOn p ls)) accepted-text
+      ∙ ap printed (accepted-outcome (laid d) (c .rule) (c .invert) (c .boundary) ls (accepted-clip ls h k))
+      ∙ ap (linesOf (Done (totals (paths (segments (laid d)))))) (read-back (paths (segments (laid d))) ls)
       ∙ ap (λ (f : Drawing). linesOf (Done (totals (paths f))) (paths f)) (segments-laid d)
 
   -- for the text of an accepted drawing its paths are printed, and their totals
   pub accepted-answer : answerTo (writing c d) ≡ linesOf (Done (totals (paths d))) (paths d)
   unfolding answerTo
-  accepted-answer = printed-run (replicate 8192 (pos 0)) (replicate 2048 0) (length-replicate 8192 (pos 0)) (length-replicate {A = ℕ} 2048 0)
+  accepted-answer = printed-run (lists (replicate 8192 (pos 0)) (replicate 2048 0)) (length-replicate 8192 (pos 0)) (length-replicate {A = ℕ} 2048 0)

@@ -11,13 +11,13 @@ use Rattle.segm.specs.Segments.{width, segments}
 use Rattle.lists.proofs.Written.{length-written, take-written}
 use Rattle.refusal.specs.declared.Verdict.{Verdict}
 use Rattle.refusal.specs.declared.Verdict.the-variants as verdict-is
-use Rattle.checks.specs.Runs.{verdict, clipRun}
+use Rattle.checks.specs.Runs.{verdict}
 use Rattle.fill_rule.specs.FillRule.{ruleOf}
 use Rattle.build.specs.Links.{filterOf}
 use Rattle.string_clip.specs.declared.Clipped.the-variants.{Refused}
 use Rattle.string_clip.specs.Paths.{clipPaths}
 use Rattle.string_clip.specs.Claim.{Tells}
-use Rattle.string_clip.specs.Run.{totals, Outcome, answered, clipOutcome, told}
+use Rattle.string_clip.specs.Run.{totals, Lists, runOf, writtenTo, Outcome, answered, clipOutcome}
 use Rattle.contour.specs.Points.{coordinates}
 use Rattle.contour.proofs.Coordinates.{length-coordinates}
 use Rattle.string_clip.proofs.Together.{accepted-outcome, accepted-room, accepted-tells}
@@ -27,48 +27,46 @@ use Rattle.contour.proofs.CutWritten.{tally-lengths}
 use Rattle.clip_text.specs.Answer.{runOn, textOutcome}
 
 -- what a run writes stands there
-written-held : (paths : List (List Point)) (points : List ℤ) (lengths : List ℕ) → 2 * length (flatten paths) ≤ length points → length paths ≤ length lengths
-    → (let o = answered verdict-is.Accepted paths points lengths in Held (length paths) (o .points) (o .lengths))
-written-held paths points lengths h k =
+written-held : (paths : List (List Point)) (ls : Lists) → 2 * length (flatten paths) ≤ length (ls .points) → length paths ≤ length (ls .lengths)
+    → (let w = writtenTo paths ls in Held (length paths) (w .points) (w .lengths))
+written-held paths ls h k =
     let n = length-map paths length in
     let m = length-coordinates (flatten paths) in
-    let p = length-written (coordinates (flatten paths)) points (omega (arith, m, h)) in
-    let l = length-written (map length paths) lengths (omega (arith, n, k)) in
+    let p = length-written (coordinates (flatten paths)) (ls .points) (omega (arith, m, h)) in
+    let l = length-written (map length paths) (ls .lengths) (omega (arith, n, k)) in
     record {
       few-paths = omega (arith, l, k);
-      few-points = rw (take-written (map length paths) lengths (length paths) (sym n), tally-lengths paths, p) h;
+      few-points = rw (take-written (map length paths) (ls .lengths) (length paths) (sym n), tally-lengths paths, p) h;
     }
 
-module _ (points : List ℤ) (lengths : List ℕ) where
+module _ (ls : Lists) where
   abbrev HeldOf : Outcome → Type 0
-  HeldOf o = Held (told (o .answer) .paths) (o .points) (o .lengths)
+  HeldOf o = Held (o .numbers .totals .paths) (o .lists .points) (o .lists .lengths)
 
-  nothing-held : Held 0 points lengths
+  nothing-held : Held 0 (ls .points) (ls .lengths)
   unfolding tally
   nothing-held = record { few-paths = omega arith; few-points = omega arith }
 
-  accepted-held : (numbers : List ℤ) (rule invert boundary : ℤ) → verdict (clipRun numbers rule invert boundary (length points) (length lengths)) ≡ verdict-is.Accepted
-      → HeldOf (answered verdict-is.Accepted (clipPaths (ruleOf rule) (filterOf invert boundary) (segments numbers)) points lengths)
+  accepted-held : (numbers : List ℤ) (rule invert boundary : ℤ) → verdict (runOf numbers rule invert boundary ls) ≡ verdict-is.Accepted
+      → HeldOf (answered verdict-is.Accepted (clipPaths (ruleOf rule) (filterOf invert boundary) (segments numbers)) ls)
   unfolding totals
   accepted-held numbers rule invert boundary e =
       let d = segments numbers in
       let paths = clipPaths (ruleOf rule) (filterOf invert boundary) d in
-      let tells = subst (Tells d points lengths) (accepted-outcome numbers rule invert boundary points lengths e) (accepted-tells numbers rule invert boundary points lengths e) in
-      let room = accepted-room numbers rule invert boundary points lengths e in
-      let h : 2 * length (flatten paths) ≤ length points = omega (arith, tells .few-points, room .points-fit) in
-      let k : length paths ≤ length lengths = omega (arith, tells .few-paths, room .lengths-fit) in
-      written-held paths points lengths h k
+      let tells = subst (Tells d ls) (accepted-outcome numbers rule invert boundary ls e) (accepted-tells numbers rule invert boundary ls e) in
+      let room = accepted-room numbers rule invert boundary ls e in
+      written-held paths ls (omega (arith, tells .few-points, room .points-fit)) (omega (arith, tells .few-paths, room .lengths-fit))
 
-  run-held : (numbers : List ℤ) (rule invert boundary : ℤ) → HeldOf (clipOutcome numbers rule invert boundary points lengths)
+  run-held : (numbers : List ℤ) (rule invert boundary : ℤ) → HeldOf (clipOutcome numbers rule invert boundary ls)
   unfolding clipOutcome
-  run-held numbers rule invert boundary = by (verdict (clipRun numbers rule invert boundary (length points) (length lengths))) refl where
-    by : (v : Verdict) → verdict (clipRun numbers rule invert boundary (length points) (length lengths)) ≡ v → HeldOf (answered v (clipPaths (ruleOf rule) (filterOf invert boundary) (segments numbers)) points lengths)
+  run-held numbers rule invert boundary = by (verdict (runOf numbers rule invert boundary ls)) refl where
+    by : (v : Verdict) → verdict (runOf numbers rule invert boundary ls) ≡ v → HeldOf (answered v (clipPaths (ruleOf rule) (filterOf invert boundary) (segments numbers)) ls)
     by verdict-is.Accepted e = accepted-held numbers rule invert boundary e
     by (verdict-is.Refused number place) e = nothing-held
 
-  pub text-held : (text : List ℕ) → HeldOf (textOutcome text points lengths)
+  pub text-held : (text : List ℕ) → HeldOf (textOutcome text ls)
   unfolding textOutcome
   text-held text = by (parsed width text) where
-    by : (p : Parsed) → HeldOf (runOn p points lengths)
+    by : (p : Parsed) → HeldOf (runOn p ls)
     by (BadLine line) = nothing-held
     by (Drawn c numbers) = run-held numbers (c .rule) (c .invert) (c .boundary)

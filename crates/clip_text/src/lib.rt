@@ -1,24 +1,19 @@
-// The clip run on a comma text, and what is printed of it. Every function here is proved, and the crate assumes nothing of its own.
-// `clip_text` and `answer` have no `requires`: any bytes and any length of the lent lists get an answer.
+// The clip run on a comma text, and what is printed of it. Any bytes and any length of the lent lists get an answer.
 mod program;
 
 pub use program::run;
 use string_clip::Clipped;
-use text::Choices;
 use text::Reading;
 ghost use mathlib.Core.Path.{_≡_};
-ghost use Prim.Native.Nat.{_*_, _≤_, _<_, min};
-ghost use lib.ListN.{length, take};
+ghost use Prim.Native.Nat.{_*_, _≤_};
+ghost use lib.ListN.{length};
 ghost use Rattle.io.specs.Counts.{Counts};
 ghost use Rattle.lists.specs.Written.{written};
 ghost use Rattle.segm.specs.Segments.{width};
-ghost use Rattle.string_clip.specs.Run.{outcome, clipOutcome};
+ghost use Rattle.string_clip.specs.Run.{lists, outcome};
 ghost use Rattle.clip_print.specs.Printed.{printed};
 ghost use Rattle.clip_print.specs.Lengths.{longest};
 ghost use Rattle.clip_text.specs.Answer.{textOutcome, answerTo};
-
-// One number more than the largest drawing has: a text with too many is seen to have too many.
-const ROOM: usize = segm::NUMBERS + 1;
 
 // As many numbers and lengths as the largest drawing needs.
 const POINTS: usize = 8 * segm::MOST;
@@ -28,42 +23,34 @@ const LENGTHS: usize = 2 * segm::MOST;
 // The longest answer: 86 bytes for each of 4,096 points, 90 for the last line.
 pub const LONGEST: usize = 43 * POINTS + 90;
 
-fn least(a: usize, b: usize) -> usize
-    ensures { λ r. ⌜ r ≡ min a b ⌝ }
-{
-    if a < b { a } else { b }
-}
-
-// The clip run on the first n numbers of a list, or on all that it holds.
-fn clip_first(
-    numbers: &[i32],
-    n: usize,
-    c: Choices,
-    points: &mut [i32],
-    lengths: &mut [u32],
-) -> Clipped
-    ensures { λ r. ⌜ outcome r (now (points .exit)) (now (lengths .exit)) ≡ clipOutcome (take (min n (length (now (numbers .entry)))) (now (numbers .entry))) (c .rule) (c .invert) (c .boundary) (now (points .entry)) (now (lengths .entry)) ⌝ }
-{
-    let k = least(n, numbers.len());
-    string_clip::clip(&numbers[..k], c.rule, c.invert, c.boundary, points, lengths)
-}
-
-// The clip run on a text. The list `numbers` is working memory.
+// The clip run on a text. The list `numbers` is working memory, long enough for the largest drawing: a text with more numbers has too many segments.
 fn clip_read(text: &[u8], numbers: &mut [i32], points: &mut [i32], lengths: &mut [u32]) -> Clipped
-    requires { ⌜ 1024 * width < length (now numbers) ⌝ }
-    ensures { λ r. ⌜ outcome r (now (points .exit)) (now (lengths .exit)) ≡ textOutcome (now (text .entry)) (now (points .entry)) (now (lengths .entry)) ⌝ }
+    requires { ⌜ 1024 * width ≤ length (now numbers) ⌝ }
+    ensures { λ r. ⌜ outcome r (lists (now (points .exit)) (now (lengths .exit))) ≡ textOutcome (now (text .entry)) (lists (now (points .entry)) (now (lengths .entry))) ⌝ }
 {
-    match text::read(text, numbers) {
-        Reading::Malformed(line) => Clipped::Refused(1, line),
-        Reading::Read(c, count) => clip_first(numbers, count, c, points, lengths),
+    match text::read(text, segm::WIDTH, numbers) {
+        Reading::Read(c, count) => string_clip::clip(
+            &numbers[..count],
+            c.rule,
+            c.invert,
+            c.boundary,
+            points,
+            lengths,
+        ),
+        Reading::Refused(number, place) => {
+            if number == 11 {
+                return Clipped::Refused(2, 0);
+            }
+            Clipped::Refused(number, place)
+        }
     }
 }
 
 // The clip run on a text: x, y pairs and one length a path, or the refusal, 1 for a malformed text.
 pub fn clip_text(text: &[u8], points: &mut [i32], lengths: &mut [u32]) -> Clipped
-    ensures { λ r. ⌜ outcome r (now (points .exit)) (now (lengths .exit)) ≡ textOutcome (now (text .entry)) (now (points .entry)) (now (lengths .entry)) ⌝ }
+    ensures { λ r. ⌜ outcome r (lists (now (points .exit)) (now (lengths .exit))) ≡ textOutcome (now (text .entry)) (lists (now (points .entry)) (now (lengths .entry))) ⌝ }
 {
-    let mut numbers = [0i32; ROOM];
+    let mut numbers = [0i32; segm::NUMBERS];
     clip_read(text, &mut numbers, points, lengths)
 }
 
@@ -71,8 +58,8 @@ pub fn clip_text(text: &[u8], points: &mut [i32], lengths: &mut [u32]) -> Clippe
 fn answer_with(text: &[u8], points: &mut [i32], lengths: &mut [u32], out: &mut [u8]) -> usize
     requires { ⌜ longest (length (now points)) ≤ length (now out) ⌝ }
     ensures { λ r. ⌜ r ≤ length (now (out .entry)) ⌝ }
-    ensures { λ r. ⌜ (r ≡ length (printed (textOutcome (now (text .entry)) (now (points .entry)) (now (lengths .entry)))))
-        × (now (out .exit) ≡ written (printed (textOutcome (now (text .entry)) (now (points .entry)) (now (lengths .entry)))) (now (out .entry))) ⌝ }
+    ensures { λ r. ⌜ (r ≡ length (printed (textOutcome (now (text .entry)) (lists (now (points .entry)) (now (lengths .entry))))))
+        × (now (out .exit) ≡ written (printed (textOutcome (now (text .entry)) (lists (now (points .entry)) (now (lengths .entry))))) (now (out .entry))) ⌝ }
 {
     match clip_text(text, points, lengths) {
         Clipped::Done(t) => clip_print::put_run(t, points, lengths, out),

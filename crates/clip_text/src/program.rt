@@ -6,7 +6,7 @@ use libc::STDERR_FILENO;
 use libc::STDOUT_FILENO;
 
 // One byte more than the longest text has: a longer one is seen to be too long.
-const ROOM: usize = text::MOST + 1;
+const ROOM: usize = text::MOST_BYTES + 1;
 
 // Whether there is nothing left to read. A call that fails is no end: half a text must not pass for a whole one.
 fn is_at_end(fd: i32) -> bool {

@@ -1,11 +1,12 @@
-// What is measured of the checks, for the driver: the verdict by itself, and what the sweep over neighbours says of an accepted drawing. Every function here is
-// proved, and the crate assumes nothing of its own. No exported function has a `requires`.
-use checks::Verdict;
+// For the driver alone: the verdict by itself, what the sweep over neighbours says of an accepted drawing, and both clip runs by one check.
+use refusal::Verdict;
+use string_clip::Clipped;
 ghost use mathlib.Core.Path.{_≡_};
 ghost use mathlib.Core.Bool.{true};
 ghost use Rattle.segm.specs.Segments.{segments};
 ghost use Rattle.checks.specs.Accepted.{Good};
-ghost use Rattle.measure.specs.Numbers.{verdictOf, checkNumbers, sweepNumber};
+ghost use Rattle.string_clip.specs.Run.{told, lists};
+ghost use Rattle.measure.specs.Numbers.{verdictOf, checkNumbers, sweepNumber, clipStruct, returnedBoth, bothNumbers};
 
 // A refusal's number and place, or 0 and 0.
 #[repr(C)]
@@ -14,52 +15,19 @@ pub struct Check {
     pub place: u64,
 }
 
-// The verdict on a drawing, of a clip run with known choices and lists that are long enough for any; with memory for a small drawing or for any.
-fn verdict_of(segments: &[i32]) -> Verdict
-    ensures { λ r. ⌜ r ≡ verdictOf (now (segments .entry)) ⌝ }
+// The verdict on a drawing, of a clip run with known choices and lists that are long enough for any.
+fn verdict_of(numbers: &[i32]) -> Verdict
+    ensures { λ r. ⌜ r ≡ verdictOf (now (numbers .entry)) ⌝ }
 {
-    if segm::count(segments) <= segm::SMALL {
-        let mut flat = [0u16; ends::SMALL];
-        let mut starts = [0u16; graph::SMALL_STARTS];
-        let mut nodes = [0u16; ends::SMALL];
-        let mut tops = [0i32; segm::SMALL];
-        return checks::check_clip(
-            segments,
-            0,
-            0,
-            0,
-            8192,
-            2048,
-            &mut flat,
-            &mut starts,
-            &mut nodes,
-            &mut tops,
-        );
-    }
-    let mut flat = [0u16; ends::MOST];
-    let mut starts = [0u16; graph::STARTS];
-    let mut nodes = [0u16; ends::MOST];
-    let mut tops = [0i32; segm::MOST];
-    checks::check_clip(
-        segments,
-        0,
-        0,
-        0,
-        8192,
-        2048,
-        &mut flat,
-        &mut starts,
-        &mut nodes,
-        &mut tops,
-    )
+    checks::check_clip(numbers, 0, 0, 0, 8 * segm::MOST, 2 * segm::MOST)
 }
 
 // The check alone.
 #[no_mangle]
-pub extern "C" fn measure_check(segments: &[i32]) -> Check
-    ensures { λ r. ⌜ r ≡ checkNumbers (verdictOf (now (segments .entry))) ⌝ }
+pub extern "C" fn measure_check(numbers: &[i32]) -> Check
+    ensures { λ r. ⌜ r ≡ checkNumbers (verdictOf (now (numbers .entry))) ⌝ }
 {
-    match verdict_of(segments) {
+    match verdict_of(numbers) {
         Verdict::Accepted => Check {
             number: 0,
             place: 0,
@@ -96,11 +64,86 @@ fn is_swept(s: &[i32]) -> bool
 
 // What the sweep says of an accepted drawing: 1, clear, by proof, and the driver looks whether the compiled sweep says so. 2 of a refused one.
 #[no_mangle]
-pub extern "C" fn measure_sweep(segments: &[i32]) -> u64
-    ensures { λ r. ⌜ r ≡ sweepNumber (verdictOf (now (segments .entry))) ⌝ }
+pub extern "C" fn measure_sweep(numbers: &[i32]) -> u64
+    ensures { λ r. ⌜ r ≡ sweepNumber (verdictOf (now (numbers .entry))) ⌝ }
 {
-    match verdict_of(segments) {
-        Verdict::Accepted => is_swept(segments) as u64,
+    match verdict_of(numbers) {
+        Verdict::Accepted => is_swept(numbers) as u64,
         Verdict::Refused(_, _) => 2,
+    }
+}
+
+// A refusal's number and place, or 0 and 0 and what a clip run found.
+#[repr(C)]
+pub struct Clip {
+    pub number: u64,
+    pub place: u64,
+    pub paths: u64,
+    pub points: u64,
+    pub steps: u64,
+    pub travel: u64,
+}
+
+// The numbers of two clip runs.
+#[repr(C)]
+pub struct ClipBoth {
+    pub inside: Clip,
+    pub outside: Clip,
+}
+
+// The numbers of a run's answer.
+fn numbers_of(answer: Clipped) -> Clip
+    ensures { λ r. ⌜ r ≡ clipStruct (told answer) ⌝ }
+{
+    match answer {
+        Clipped::Done(found) => Clip {
+            number: 0,
+            place: 0,
+            paths: found.paths as u64,
+            points: found.points as u64,
+            steps: found.steps as u64,
+            travel: found.travel,
+        },
+        Clipped::Refused(number, place) => Clip {
+            number: number as u64,
+            place: place as u64,
+            paths: 0,
+            points: 0,
+            steps: 0,
+            travel: 0,
+        },
+    }
+}
+
+// Both clip runs by one check, which nothing else exports: the driver compares them with two runs.
+#[no_mangle]
+pub extern "C" fn measure_clip_both(
+    numbers: &[i32],
+    rule: i32,
+    boundary: i32,
+    inside_points: &mut [i32],
+    inside_lengths: &mut [u32],
+    outside_points: &mut [i32],
+    outside_lengths: &mut [u32],
+) -> ClipBoth
+    ensures { λ r. ⌜ returnedBoth r (lists (now («inside_points» .exit)) (now («inside_lengths» .exit))) (lists (now («outside_points» .exit)) (now («outside_lengths» .exit)))
+        ≡ bothNumbers (now (numbers .entry)) rule boundary (lists (now («inside_points» .entry)) (now («inside_lengths» .entry))) (lists (now («outside_points» .entry)) (now («outside_lengths» .entry))) ⌝ }
+{
+    let both = string_clip::clip_both(
+        numbers,
+        rule,
+        boundary,
+        inside_points,
+        inside_lengths,
+        outside_points,
+        outside_lengths,
+    );
+    let i = both.inside;
+    let o = both.outside;
+    let inside = numbers_of(i);
+    let outside = numbers_of(o);
+    ClipBoth {
+        inside: inside,
+        outside: outside,
     }
 }

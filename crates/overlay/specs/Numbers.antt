@@ -1,14 +1,13 @@
 -- What C is handed: the numbers that each public operation sets out its answer in, and its lent lists when it returns. Assumes nothing.
 use mathlib.Core.List.{List}
 use Prim.Native.Nat.{ℕ}
-use lib.IntN.{ℤ, pos}
+use lib.IntN.{ℤ}
 use Rattle.build.specs.Fills as fills
 use Rattle.string_clip.specs.Run as clip
 use Rattle.string_slice.specs.Run as slice
 use Rattle.string_split.specs.Run as split
-use Rattle.text.specs.declared.Reading.{Reading}
-use Rattle.text.specs.declared.Reading.the-variants as reading-is
-use Rattle.text.specs.Storing.{readOutcome}
+use Rattle.segm.specs.Segments.{width}
+use Rattle.text.specs.Storing as reading
 use Rattle.overlay.specs.declared.Fills.{Fills}
 use Rattle.overlay.specs.declared.Clip.{Clip}
 use Rattle.overlay.specs.declared.Slice.{Slice}
@@ -97,19 +96,18 @@ unfoldable pub splitNumbers : List ℤ → ℕ → split.Lists → ReturnedSplit
 splitNumbers points least ls = let o = split.splitOutcome points least ls in returnedSplit (splitStruct (o .numbers)) (o .lists)
 
 -- ---- read
--- the answer of a reader in numbers: refusal 1 where the text is malformed
-abbrev pub readingNumbers : Reading → Read
-readingNumbers (reading-is.Read choices count) = record { number = 0; place = 0; count = count; rule = choices .rule; invert = choices .invert; boundary = choices .boundary }
-readingNumbers (reading-is.Malformed line) = record { number = 1; place = line; count = 0; rule = pos 0; invert = pos 0; boundary = pos 0 }
+-- the answer of `read` as C's struct
+abbrev pub readStruct : reading.Told → Read
+readStruct t = record { number = t .number; place = t .place; count = t .count; rule = t .rule; invert = t .invert; boundary = t .boundary }
 
 -- what a call of `overlay_read` returns, and the lent list then
 pub record ReturnedRead : Type 0 where
   pub answer : Read
-  pub numbers : List ℤ
+  pub list : List ℤ
 
 abbrev pub returnedRead : Read → List ℤ → ReturnedRead
-returnedRead answer numbers = record { answer = answer; numbers = numbers }
+returnedRead answer list = record { answer = answer; list = list }
 
 -- what `overlay_read` promises
 unfoldable pub readNumbers : List ℕ → List ℤ → ReturnedRead
-readNumbers text numbers = let o = readOutcome text numbers in returnedRead (readingNumbers (o .answer)) (o .numbers)
+readNumbers text lent = let o = reading.readOutcome width text lent in returnedRead (readStruct (o .numbers)) (o .list)

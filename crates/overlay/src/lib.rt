@@ -150,7 +150,7 @@ pub extern "C" fn overlay_split(
     }
 }
 
-// 1 and the first bad line of a text, 0 if it is too long; or 0 and 0, how many numbers its segments have, and its choices.
+// A refusal's number and place, or 0 and 0, how many numbers a text's segments have, and its choices.
 #[repr(C)]
 pub struct Read {
     pub number: u64,
@@ -161,12 +161,12 @@ pub struct Read {
     pub boundary: i32,
 }
 
-// A comma text read: the numbers of its segments, as many as the list holds.
+// A comma text read: the numbers of its segments.
 #[no_mangle]
 pub extern "C" fn overlay_read(text: &[u8], numbers: &mut [i32]) -> Read
     ensures { λ r. ⌜ returnedRead r (now (numbers .exit)) ≡ readNumbers (now (text .entry)) (now (numbers .entry)) ⌝ }
 {
-    match text::read(text, numbers) {
+    match text::read(text, segm::WIDTH, numbers) {
         Reading::Read(choices, count) => Read {
             number: 0,
             place: 0,
@@ -175,9 +175,9 @@ pub extern "C" fn overlay_read(text: &[u8], numbers: &mut [i32]) -> Read
             invert: choices.invert,
             boundary: choices.boundary,
         },
-        Reading::Malformed(line) => Read {
-            number: 1,
-            place: line as u64,
+        Reading::Refused(number, place) => Read {
+            number: number as u64,
+            place: place as u64,
             count: 0,
             rule: 0,
             invert: 0,

@@ -1,7 +1,7 @@
 // Runs the stored drawings and prints what came of each; the unchanged Rust's answers stand in the file stdout, to which this is held.
 // A line of standard input is one drawing, with commas between and LF at the end: `f`, for fills, and the rule; `c`, for clip, and the rule, invert and
-// boundary; or `s`, for slice, and the rule, output direction and minimum area; then six numbers a segment. Or it is `l`, for the loops of a split, and the
-// minimum area; then two numbers a point.
+// boundary; or `s`, for slice, and the rule, output direction and minimum area; then the numbers of the segments. Or it is `l`, for the loops of a split, and
+// the minimum area; then two numbers a point.
 // A line of the output is number and place, then what was counted: for fills how many, then the fills; for clip the paths, points, steps and travel, then
 // the length of each path and x and y of each point; for slice the contours and points, then lengths, roles, x and y; for split the loops and points, then
 // lengths, x and y. A line of another letter, or with choices missing, is answered with an empty one.
@@ -23,6 +23,9 @@ const CLIP: i32 = 99;
 const SLICE: i32 = 115;
 
 const SPLIT: i32 = 108;
+
+// How many fields the longest line has: a letter, three choices, and one segment more than the largest drawing.
+const LINE: usize = 4 + segm::NUMBERS + segm::WIDTH;
 
 // What was read of a line: how many fields are finished, and the one that is not.
 struct Reading {
@@ -164,7 +167,7 @@ fn run_fills(line: &[i32]) {
     if line.len() < 2 {
         return;
     }
-    let mut fills = [0u8; 1024];
+    let mut fills = [0u8; segm::MOST];
     match build::fills(&line[2..line.len()], line[1], &mut fills) {
         Filled::Done(count) => {
             print_outcome(0, 0);
@@ -183,8 +186,8 @@ fn run_clip(line: &[i32]) {
     if line.len() < 4 {
         return;
     }
-    let mut points = [0i32; 8192];
-    let mut lengths = [0u32; 2048];
+    let mut points = [0i32; 8 * segm::MOST];
+    let mut lengths = [0u32; 2 * segm::MOST];
     match string_clip::clip(
         &line[4..line.len()],
         line[1],
@@ -233,9 +236,9 @@ fn run_slice(line: &[i32]) {
     if line.len() < 4 {
         return;
     }
-    let mut points = [0i32; 4096];
-    let mut lengths = [0u32; 2048];
-    let mut roles = [0u8; 2048];
+    let mut points = [0i32; 4 * segm::MOST];
+    let mut lengths = [0u32; 2 * segm::MOST];
+    let mut roles = [0u8; 2 * segm::MOST];
     match string_slice::slice(
         &line[4..line.len()],
         line[1],
@@ -258,8 +261,8 @@ fn run_split(line: &[i32]) {
     if line.len() < 2 {
         return;
     }
-    let mut out = [0i32; 4096];
-    let mut lengths = [0u32; 2048];
+    let mut out = [0i32; string_split::COORDINATES];
+    let mut lengths = [0u32; string_split::MOST];
     match string_split::split(
         &line[2..line.len()],
         geom::distance(line[1], 0),
@@ -350,6 +353,6 @@ fn replay(text: &[u8], numbers: &mut [i32]) {
 fn main() {
     let mut text = [0u8; 524288];
     let n = io::read_full(STDIN_FILENO, &mut text);
-    let mut numbers = [0i32; 8192];
+    let mut numbers = [0i32; LINE];
     replay(&text[..n], &mut numbers);
 }

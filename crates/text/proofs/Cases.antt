@@ -3,12 +3,13 @@ use mathlib.Core.Path.{_≡_, refl}
 use mathlib.Core.List.{List, [], _∷_, flatten}
 use Prim.Native.String.{String}
 use lib.IntN.{ℤ, pos, negsuc}
+use Rattle.segm.specs.Segments.{width}
 use Rattle.decimal.specs.Decimal.{isDigit, worth, positive, fieldOf}
 use Rattle.text.specs.Grammar.{pieces, row, fieldsIn, rowsFrom, Parsed, BadLine, Drawn, choicesOf, parsed}
 use Rattle.decimal.proofs.Spelled.{bytes}
 
 abbrev text : String → Parsed
-text s = parsed 6 (bytes s)
+text s = parsed width (bytes s)
 
 abbrev drawn : (rule invert boundary : ℤ) → List ℤ → Parsed
 drawn rule invert boundary = Drawn (record { rule = rule; invert = invert; boundary = boundary })

@@ -19,14 +19,14 @@ use Rattle.text.specs.declared.Choices.{Choices}
 use Rattle.decimal.specs.declared.Field.{Field}
 use Rattle.decimal.specs.declared.Field.the-variants.{Number, Malformed}
 use Rattle.decimal.specs.Decimal.{NineDigits, fieldOf, signed}
-use Rattle.text.specs.Grammar.{pieces, andRest, row, fieldsIn, Found, Bad, Rows, andLines, rowsFrom, BadLine, Drawn, choicesOf, drawn, most, parsed}
+use Rattle.text.specs.Grammar.{pieces, andRest, row, fieldsIn, RowsFound, Bad, Rows, andLines, rowsFrom, BadLine, Drawn, choicesOf, parsedRows, mostBytes, parsed}
 use Rattle.writing.specs.Lines.{joined, textOf}
 use Rattle.writing.specs.Lengths.{signedLength, rowLength, textLength}
 use Rattle.text.specs.Writing.{choiceNumbers, writing, AllNineDigits}
 use Rattle.decimal.proofs.Digits.{field-signed, signed-field, signed-short}
 use Rattle.writing.proofs.Lines.{field-bytes, line-bytes, text-cons}
 use Rattle.writing.proofs.Lengths.{length-signed, length-text, line-short}
-use Rattle.text.proofs.Pieces.{joined-pieces, pieces-cut, pieces-joined}
+use Rattle.text.proofs.Pieces.{pieces-few, joined-pieces, pieces-cut, pieces-joined}
 use Rattle.text.proofs.Rows.{differ, row-length, lines-next, fields-later}
 
 -- ---- a line
@@ -47,6 +47,12 @@ row-read (suc k) (f ∷ fs) r e = go (fieldOf f) (row k fs) refl e (row-read k f
     go Malformed o p t rest = absurd (differ (cc))
     go (Number z) none p t rest = absurd (differ (cc))
     go (Number z) (some q) p t rest = let is : r ≡ z ∷ q = cc in rw is (ap₂ _∷_ (signed-field f z p .is) (rest q refl))
+
+-- a line of k numbers has at least k - 1 bytes
+pub row-narrow : (k : ℕ) (s : List ℕ) (r : List ℤ) → row k (pieces 44 s) ≡ some r → k ≤ suc (length s)
+row-narrow k s r e =
+    let fs = pieces 44 s in
+    omega (arith, row-length k fs r e, ap length (row-read k fs r e), length-map r signed, pieces-few 44 s)
 
 -- the fields of a written line
 fields-line : (r : List ℤ) → 0 < length r → pieces 44 (joined 44 (map signed r)) ≡ map signed r
@@ -100,7 +106,7 @@ lines-read w line (s ∷ t ∷ ps) rows e = go (row k (pieces 44 s)) (rowsFrom w
     k : ℕ
     k = fieldsIn w line
 
-    go : (o : Option (List ℤ)) (f : Found) → row k (pieces 44 s) ≡ o → andLines line o f ≡ Rows rows
+    go : (o : Option (List ℤ)) (f : RowsFound) → row k (pieces 44 s) ≡ o → andLines line o f ≡ Rows rows
         → ((q : List (List ℤ)) → f ≡ Rows q → Lines w (suc line) (joined 10 (t ∷ ps)) q) → Lines w line (s ++ 10 ∷ joined 10 (t ∷ ps)) rows
     go none f p a rest = absurd (differ (cc))
     go (some r) (Bad n) p a rest = absurd (differ (cc))
@@ -127,11 +133,11 @@ fitting-drawing : (c : Choices) (d : Drawing) → Fitting width 1 (choiceNumbers
 unfolding choiceNumbers fieldsIn
 fitting-drawing c d = (refl, fitting-segments 0 d)
 
-pub reads-back : (c : Choices) (d : Drawing) → AllNineDigits (choiceNumbers c ∷ map numbersOf d) → length (writing c d) ≤ most → parsed width (writing c d) ≡ Drawn c (laid d)
+pub reads-back : (c : Choices) (d : Drawing) → AllNineDigits (choiceNumbers c ∷ map numbersOf d) → length (writing c d) ≤ mostBytes → parsed width (writing c d) ≡ Drawn c (laid d)
 unfolding parsed writing choicesOf choiceNumbers
 reads-back c d n h =
-    rw (le-ltb most (length (writing c d)) h)
-    (ap drawn (rows-of-text width 1 (choiceNumbers c ∷ map numbersOf d) (omega arith) (fitting-drawing c d) n) ∙ ap (Drawn c) (flatten-laid d))
+    rw (le-ltb mostBytes (length (writing c d)) h)
+    (ap parsedRows (rows-of-text width 1 (choiceNumbers c ∷ map numbersOf d) (omega arith) (fitting-drawing c d) n) ∙ ap (Drawn c) (flatten-laid d))
 
 -- ---- drawings, read and written
 -- k entries
@@ -146,7 +152,7 @@ all-entries [] (suc k) e = absurd (omega arith)
 all-entries (x ∷ r) zero e = absurd (omega arith)
 all-entries (x ∷ r) (suc k) e = ap (λ (l : List ℤ). x ∷ l) (all-entries r k (omega arith))
 
--- rows of six numbers each are segments
+-- rows of a segment's numbers each are segments
 fitting-front : (n : ℕ) (rows : List (List ℤ)) → Fitting width (suc (suc n)) rows → map numbersOf (map front rows) ≡ rows
 unfolding numbersOf front entries
 fitting-front n [] f = refl
@@ -164,24 +170,24 @@ pub record Holds (text : List ℕ) (c : Choices) (numbers : List ℤ) : Type 0 w
 
 pub holds : (text : List ℕ) (c : Choices) (numbers : List ℤ) → parsed width text ≡ Drawn c numbers → Holds text c numbers
 unfolding parsed writing fieldsIn
-holds text c numbers e = go (ltb most (length text)) e
+holds text c numbers e = go (ltb mostBytes (length text)) e
   where
-    from : (f : Found) → rowsFrom width 1 (pieces 10 text) ≡ f → drawn f ≡ Drawn c numbers → Holds text c numbers
+    from : (f : RowsFound) → rowsFrom width 1 (pieces 10 text) ≡ f → parsedRows f ≡ Drawn c numbers → Holds text c numbers
     from (Bad n) p a = absurd (differ (cc))
     from (Rows []) p a = absurd (differ (cc))
     from (Rows (first ∷ rows)) p a =
         let l = text-of-rows width 1 text (first ∷ rows) p in
-        let six : map numbersOf (map front rows) ≡ rows = fitting-front 0 rows (l .fitting .1) in
+        let laid-rows : map numbersOf (map front rows) ≡ rows = fitting-front 0 rows (l .fitting .1) in
         let same : choicesOf first ≡ c = cc in
         let flat : flatten rows ≡ numbers = cc in
         let three : choiceNumbers c ≡ first = ap choiceNumbers (sym same) ∙ choices-fitting first (l .fitting .0) in
         record {
           drawing = map front rows;
-          is = l .is ∙ ap₂ (λ (r : List ℤ) (q : List (List ℤ)). textOf (r ∷ q)) (sym three) (sym six);
-          laid-out = sym flat ∙ ap flatten (sym six) ∙ flatten-laid (map front rows);
+          is = l .is ∙ ap₂ (λ (r : List ℤ) (q : List (List ℤ)). textOf (r ∷ q)) (sym three) (sym laid-rows);
+          laid-out = sym flat ∙ ap flatten (sym laid-rows) ∙ flatten-laid (map front rows);
         }
 
-    go : (b : Bool) → cond b (BadLine 0) (drawn (rowsFrom width 1 (pieces 10 text))) ≡ Drawn c numbers → Holds text c numbers
+    go : (b : Bool) → cond b (BadLine 0) (parsedRows (rowsFrom width 1 (pieces 10 text))) ≡ Drawn c numbers → Holds text c numbers
     go true a = absurd (differ (cc))
     go false a = from (rowsFrom width 1 (pieces 10 text)) refl a
 
@@ -201,18 +207,22 @@ one-text s t c numbers p q = only-writing s c numbers p ∙ sym (only-writing t 
 abbrev pub AllSmall : List (List ℤ) → Type 0
 AllSmall rows = (r : List ℤ) → r ∈ rows → (z : ℤ) → z ∈ r → natAbs z ≤ 16777216
 
-short-row : (r : List ℤ) → length r ≤ width → ((z : ℤ) → z ∈ r → natAbs z ≤ 16777216) → rowLength r ≤ 61
+-- a line of such numbers: a sign and eight digits each, what stands after each, and LF
+abbrev lineMost : ℕ
+lineMost = suc (width * 10)
+
+short-row : (r : List ℤ) → length r ≤ width → ((z : ℤ) → z ∈ r → natAbs z ≤ 16777216) → rowLength r ≤ lineMost
 unfolding rowLength
 short-row r k h = omega (arith, line-short 9 (map signedLength r) short, length-map r signedLength)
   where
     short : (n : ℕ) → n ∈ map signedLength r → n ≤ 9
     short n m = let f = in-map signedLength n r m in omega (arith, f .2, length-signed (f .0), signed-short 7 (f .0) (omega (arith, h (f .0) (f .1))))
 
-short-rows : (rows : List (List ℤ)) → ((r : List ℤ) → r ∈ rows → length r ≤ width) → AllSmall rows → textLength rows ≤ length rows * 61
+short-rows : (rows : List (List ℤ)) → ((r : List ℤ) → r ∈ rows → length r ≤ width) → AllSmall rows → textLength rows ≤ length rows * lineMost
 unfolding textLength
-short-rows rows k h = tally-bound rowLength 61 rows (λ r m. short-row r (k r m) (h r m))
+short-rows rows k h = tally-bound rowLength lineMost rows (λ r m. short-row r (k r m) (h r m))
 
-pub fits : (c : Choices) (d : Drawing) → length d ≤ 1024 → AllSmall (choiceNumbers c ∷ map numbersOf d) → length (writing c d) ≤ most
+pub fits : (c : Choices) (d : Drawing) → length d ≤ 1024 → AllSmall (choiceNumbers c ∷ map numbersOf d) → length (writing c d) ≤ mostBytes
 unfolding writing
 fits c d n h = omega (arith, length-text (choiceNumbers c ∷ map numbersOf d), short-rows (choiceNumbers c ∷ map numbersOf d) narrow h, length-map d numbersOf)
   where

@@ -2,4 +2,5 @@ pub mod Pieces
 pub mod Laws
 pub mod Finding
 pub mod Rows
+pub mod Storing
 pub mod Cases

@@ -3,9 +3,11 @@ use mathlib.Core.Path.{_≡_, refl, sym, _∙_, ap}
 use mathlib.Core.Bool.{Bool, true, false, cond}
 use mathlib.Core.List.{List, [], _∷_, _++_}
 use mathlib.Core.Logic.{inl, inr}
-use Prim.Native.Nat.{ℕ}
+use Prim.Native.Nat.{ℕ, suc, _≤_}
+use native.Mathlib.Omega.{arith}
 use borrow.Author.Tests.{eqb-true, eq-eqb, ne-eqb}
 use lib.Dec.{eqb}
+use lib.ListN.{length}
 use Rattle.lists.specs.Members.{_∈_}
 use Rattle.text.specs.Grammar.{onto, pieces}
 use Rattle.writing.specs.Lines.{joined}
@@ -19,6 +21,10 @@ onto-some : (x : ℕ) (ps : List (List ℕ)) → Some (onto x ps)
 onto-some x [] = tt
 onto-some x (p ∷ ps) = tt
 
+onto-few : (x : ℕ) (ps : List (List ℕ)) → length (onto x ps) ≤ suc (length ps)
+onto-few x [] = omega arith
+onto-few x (p ∷ ps) = omega arith
+
 module _ (b : ℕ) where
   pub pieces-some : (s : List ℕ) → Some (pieces b s)
   unfolding pieces
@@ -28,6 +34,16 @@ module _ (b : ℕ) where
       go : (t : Bool) → Some (cond t ([] ∷ pieces b s) (onto x (pieces b s)))
       go true = tt
       go false = onto-some x (pieces b s)
+
+  -- one piece more than there are bytes, at most
+  pub pieces-few : (s : List ℕ) → length (pieces b s) ≤ suc (length s)
+  unfolding pieces
+  pieces-few [] = omega arith
+  pieces-few (x ∷ s) = go (eqb x b) (pieces-few s)
+    where
+      go : (t : Bool) → length (pieces b s) ≤ suc (length s) → length (cond t ([] ∷ pieces b s) (onto x (pieces b s))) ≤ suc (suc (length s))
+      go true h = omega (arith, h)
+      go false h = omega (arith, h, onto-few x (pieces b s))
 
   -- ---- cut, then joined
   joined-onto : (x : ℕ) (ps : List (List ℕ)) → joined b (onto x ps) ≡ x ∷ joined b ps

@@ -3,7 +3,6 @@ use mathlib.Core.Path.{_≡_, refl, sym, ap, ap₂, _∙_}
 use mathlib.Core.List.{List, [], _∷_, flatten}
 use mathlib.Core.Option.{Option, none, some}
 use Prim.Native.Nat.{ℕ, zero, suc, _+_, _-_, _<_, _≤_}
-use native.Mathlib.Nat.{zero-add}
 use native.Mathlib.Omega.{arith}
 use borrow.Author.Tests.{eq-eqb, ne-eqb, eqb-true}
 use lib.Dec.{eqb, eqb·suc-zero}
@@ -11,15 +10,12 @@ use lib.ListN.{length, set, length-append}
 use lib.Seq.{sets}
 use lib.IntN.{ℤ}
 use Rattle.integers.proofs.Booleans.{same-test}
-use Rattle.lists.proofs.Written.{sets-append, sets-front, sets-all}
-use Rattle.text.specs.declared.Reading.the-variants as reading-is
-use Rattle.text.specs.declared.lines.Scanned.{Scanned}
-use Rattle.text.specs.declared.lines.Scanned.the-variants as scanned-is
+use Rattle.lists.proofs.Written.{sets-append, sets-all}
 use Rattle.decimal.specs.declared.Field.{Field}
 use Rattle.decimal.specs.declared.Field.the-variants.{Number, Malformed}
 use Rattle.decimal.specs.Decimal.{fieldOf}
-use Rattle.text.specs.Grammar.{pieces, andRest, row, fieldsIn, Found, Bad, Rows, afterLast, andLines, rowsFrom, choicesOf, drawn}
-use Rattle.text.specs.Storing.{outcome, answered, rowStored, listIf, Nothing, Numbers, rowsStored, linesStored}
+use Rattle.text.specs.Grammar.{pieces, andRest, row, fieldsIn, RowsFound, Bad, Rows, afterLast, andLines, rowsFrom}
+use Rattle.text.specs.Storing.{rowStored, listIf, Numbers, rowsStored}
 use Rattle.text.proofs.Pieces.{Some, pieces-some}
 
 -- two constructors that would be equal
@@ -94,12 +90,17 @@ pub last-bad : (line : ℕ) (s : List ℕ) → 0 < length s → afterLast line s
 last-bad line [] h = absurd (omega arith)
 last-bad line (b ∷ s) h = refl
 
-pub line-bad : (line at : ℕ) (l : List ℤ) (o : Option (List ℤ)) (rest : Found) → none ≡ rowStored at l o → andLines line o rest ≡ Bad line
+pub line-bad : (line at : ℕ) (l : List ℤ) (o : Option (List ℤ)) (rest : RowsFound) → none ≡ rowStored at l o → andLines line o rest ≡ Bad line
 line-bad line at l none rest e = refl
 line-bad line at l (some r) rest e = absurd (differ (cc))
 
+-- a line that was stored has numbers
+pub row-stored : {X : Type 0} (at : ℕ) (l m : List ℤ) (o : Option (List ℤ)) → some m ≡ rowStored at l o → ((zs : List ℤ) → o ≡ some zs → X) → X
+row-stored at l m none e f = absurd (differ (cc))
+row-stored at l m (some r) e f = f r refl
+
 -- one line more
-pub line-stored : (line at k : ℕ) (l m : List ℤ) (o : Option (List ℤ)) (rest : Found) → ((zs : List ℤ) → o ≡ some zs → length zs ≡ k) → some m ≡ rowStored at l o
+pub line-stored : (line at k : ℕ) (l m : List ℤ) (o : Option (List ℤ)) (rest : RowsFound) → ((zs : List ℤ) → o ≡ some zs → length zs ≡ k) → some m ≡ rowStored at l o
     → rowsStored at l (andLines line o rest) ≡ rowsStored (at + k) m rest
 unfolding flatten
 line-stored line at k l m none rest h e = absurd (differ (cc))
@@ -109,23 +110,7 @@ line-stored line at k l m (some r) (Rows rows) h e =
     let q : m ≡ sets l at r = cc in
     ap₂ Numbers (omega (arith, length-append r (flatten rows))) (sets-append l at r (flatten rows) ∙ rw (n, q))
 
--- ---- the answer
 -- the first line's numbers fill their list
 pub row-filled : (o : Option (List ℤ)) (l m : List ℤ) → ((zs : List ℤ) → o ≡ some zs → length zs ≡ length l) → some m ≡ rowStored 0 l o → o ≡ some m
 row-filled none l m h e = sym e
 row-filled (some r) l m h e = let q : m ≡ sets l 0 r = cc in ap some (sym (q ∙ sets-all r l (h r refl)))
-
--- storing nothing told of a bad line
-pub bad-answer : (first : List ℤ) (rest : Found) (line : ℕ) (l old : List ℤ) → Nothing line ≡ rowsStored 0 l rest → outcome (reading-is.Malformed line) old ≡ answered (drawn (andLines 1 (some first) rest)) old
-bad-answer first (Bad later) line l old e = let q : line ≡ later = cc in rw q
-bad-answer first (Rows rows) line l old e = absurd (differ (cc))
-
--- ... or of none, and then all is stored
-pub good-answer : (first : List ℤ) (rest : Found) (count : ℕ) (l m old new : List ℤ) (again : Scanned) → Numbers count m ≡ rowsStored 0 l rest → linesStored again new ≡ rowsStored 0 old rest
-    → outcome (reading-is.Read (choicesOf first) count) new ≡ answered (drawn (andLines 1 (some first) rest)) old
-good-answer first (Bad later) count l m old new again e f = absurd (differ (cc))
-good-answer first (Rows rows) count l m old new (scanned-is.Bad line) e f = absurd (differ (cc))
-good-answer first (Rows rows) count l m old new (scanned-is.Good n) e f =
-    let p : count ≡ 0 + length (flatten rows) = cc in
-    let q : new ≡ sets old 0 (flatten rows) = cc in
-    ap₂ (λ k t. outcome (reading-is.Read (choicesOf first) k) t) (p ∙ zero-add (length (flatten rows))) (q ∙ sets-front (flatten rows) old)

@@ -42,23 +42,23 @@ fieldsIn width line = cond (eqb line 1) 3 width
 
 -- ---- the lines
 -- the first bad line, or each line's numbers
-pub data Found : Type 0 where
-  Bad : ℕ → Found
-  Rows : List (List ℤ) → Found
+pub data RowsFound : Type 0 where
+  Bad : ℕ → RowsFound
+  Rows : List (List ℤ) → RowsFound
 
 -- what follows the last LF: a last line without LF is bad
-abbrev pub afterLast : ℕ → List ℕ → Found
+abbrev pub afterLast : ℕ → List ℕ → RowsFound
 afterLast line [] = Rows []
 afterLast line (b ∷ s) = Bad line
 
 -- a line's numbers before those of the later lines; the first bad line decides
-abbrev pub andLines : ℕ → Option (List ℤ) → Found → Found
+abbrev pub andLines : ℕ → Option (List ℤ) → RowsFound → RowsFound
 andLines line none rest = Bad line
 andLines line (some r) (Bad later) = Bad later
 andLines line (some r) (Rows rows) = Rows (r ∷ rows)
 
 -- the lines of a text cut at LF, from this line on. (There is always a piece, what follows the last LF)
-unfoldable pub rowsFrom : (width line : ℕ) → List (List ℕ) → Found
+unfoldable pub rowsFrom : (width line : ℕ) → List (List ℕ) → RowsFound
 rowsFrom width line [] = Bad line
 rowsFrom width line (s ∷ []) = afterLast line s
 rowsFrom width line (s ∷ t ∷ rest) = andLines line (row (fieldsIn width line) (pieces 44 s)) (rowsFrom width (suc line) (t ∷ rest))
@@ -74,15 +74,15 @@ unfoldable pub choicesOf : List ℤ → Choices
 choicesOf l = record { rule = getD l 0 (pos 0); invert = getD l 1 (pos 0); boundary = getD l 2 (pos 0) }
 
 -- an empty text has no line: it is bad at line 1
-abbrev pub drawn : Found → Parsed
-drawn (Bad line) = BadLine line
-drawn (Rows []) = BadLine 1
-drawn (Rows (first ∷ rows)) = Drawn (choicesOf first) (flatten rows)
+abbrev pub parsedRows : RowsFound → Parsed
+parsedRows (Bad line) = BadLine line
+parsedRows (Rows []) = BadLine 1
+parsedRows (Rows (first ∷ rows)) = Drawn (choicesOf first) (flatten rows)
 
 -- how many bytes the longest text has
-abbrev pub most : ℕ
-most = 65536
+abbrev pub mostBytes : ℕ
+mostBytes = 65536
 
 -- read to its end, unless it is too long
 unfoldable pub parsed : (width : ℕ) → List ℕ → Parsed
-parsed width text = cond (ltb most (length text)) (BadLine 0) (drawn (rowsFrom width 1 (pieces 10 text)))
+parsed width text = cond (ltb mostBytes (length text)) (BadLine 0) (parsedRows (rowsFrom width 1 (pieces 10 text)))

@@ -1,10 +1,9 @@
 // The lines of a text.
 use decimal::Field;
 ghost use mathlib.Core.Path.{_≡_};
-ghost use Prim.Native.Nat.{_*_, _≤_};
+ghost use Prim.Native.Nat.{_+_, _≤_};
 ghost use lib.ListN.{length, drop, set};
-ghost use Rattle.segm.specs.Segments.{width};
-ghost use Rattle.text.specs.Grammar.{pieces, row, rowsFrom, most};
+ghost use Rattle.text.specs.Grammar.{pieces, row, rowsFrom, mostBytes};
 ghost use Rattle.text.specs.Storing.{rowStored, listIf, rowsStored, linesStored};
 
 // What lines hold: the first bad one, or how many numbers there are.
@@ -24,7 +23,7 @@ fn store(numbers: &mut [i32], at: usize, z: i32)
 
 // Whether a line holds k numbers, which are stored from place `at` on.
 pub fn read_line(s: &[u8], k: usize, numbers: &mut [i32], at: usize) -> bool
-    requires { ⌜ (at ≤ width * most) × (k ≤ most) ⌝ }
+    requires { ⌜ at + length (now s) ≤ mostBytes ⌝ }
     ensures { λ r. ⌜ listIf r (now (numbers .exit)) ≡ rowStored at (now (numbers .entry)) (row k (pieces 44 (now (s .entry)))) ⌝ }
 {
     let mut from: usize = 0;
@@ -44,9 +43,9 @@ pub fn read_line(s: &[u8], k: usize, numbers: &mut [i32], at: usize) -> bool
     false
 }
 
-// The lines of a text from a place on, where its second line starts: their numbers are stored.
-pub fn read_lines(text: &[u8], from: usize, numbers: &mut [i32]) -> Scanned
-    requires { ⌜ (from ≤ length (now text)) × (length (now text) ≤ most) ⌝ }
+// The lines of a text from a place on, where its second line starts, each with `width` numbers: these are stored.
+pub fn read_lines(text: &[u8], from: usize, width: usize, numbers: &mut [i32]) -> Scanned
+    requires { ⌜ (from ≤ length (now text)) × (length (now text) ≤ mostBytes) ⌝ }
     ensures { λ r. ⌜ linesStored r (now (numbers .exit)) ≡ rowsStored 0 (now (numbers .entry)) (rowsFrom width 2 (pieces 10 (drop from (now (text .entry))))) ⌝ }
 {
     let mut start = from;
@@ -57,10 +56,10 @@ pub fn read_lines(text: &[u8], from: usize, numbers: &mut [i32]) -> Scanned
         if end == text.len() {
             return Scanned::Bad(line);
         }
-        if !read_line(&text[start..end], segm::WIDTH, numbers, at) {
+        if !read_line(&text[start..end], width, numbers, at) {
             return Scanned::Bad(line);
         }
-        at += segm::WIDTH;
+        at += width;
         line += 1;
         start = end + 1;
     }

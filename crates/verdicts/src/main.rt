@@ -1,68 +1,20 @@
 // Runs the compiled checks on drawings that show each refusal at its first, middle and last place, which of two faults comes first, and the limits
 // exactly met and passed by one. A line says what was asked and what came of it; what is written is held to the file stdout.
-use checks::Verdict;
+use geom::Point;
 use libc::STDOUT_FILENO;
+use refusal::Verdict;
+use segm::Segment;
 ghost use Prim.Native.Nat.{_*_, _+_, _<_, _≤_};
+ghost use lib.ListN.{length};
+ghost use Rattle.segm.specs.Segments.{width};
 
-// Case A of document 01: nine segments, accepted.
-const A: [i32; 54] = [
-    -5,
-    5,
-    0,
-    5,
-    0,
-    1,
-    0,
-    0,
-    0,
-    5,
-    -1,
-    0,
-    0,
-    0,
-    10,
-    0,
-    1,
-    0,
-    0,
-    5,
-    0,
-    10,
-    -1,
-    0,
-    0,
-    5,
-    10,
-    5,
-    0,
-    1,
-    0,
-    10,
-    10,
-    10,
-    -1,
-    0,
-    10,
-    0,
-    10,
-    5,
-    1,
-    0,
-    10,
-    5,
-    10,
-    10,
-    1,
-    0,
-    10,
-    5,
-    15,
-    5,
-    0,
-    1,
-];
+// How many numbers case A of document 01 has, nine segments.
+const A: usize = 9 * segm::WIDTH;
 
-// The numbers of a segment.
+// One segment more than the largest drawing.
+const TOO_MANY: usize = segm::NUMBERS + segm::WIDTH;
+
+// The places of a segment's numbers.
 const AX: usize = 0;
 
 const AY: usize = 1;
@@ -107,63 +59,48 @@ fn show(v: Verdict) {
     }
 }
 
-fn show_fills(d: &[i32], rule: i32, fills: usize) {
-    let mut flat = [0u16; 2048];
-    let mut starts = [0u16; 2049];
-    let mut nodes = [0u16; 2048];
-    let mut tops = [0i32; 1024];
-    show(checks::check_fills(
-        d,
-        rule,
-        fills,
-        &mut flat,
-        &mut starts,
-        &mut nodes,
-        &mut tops,
-    ));
-}
-
-fn show_clip(d: &[i32], rule: i32, invert: i32, boundary: i32, points: usize, lengths: usize) {
-    let mut flat = [0u16; 2048];
-    let mut starts = [0u16; 2049];
-    let mut nodes = [0u16; 2048];
-    let mut tops = [0i32; 1024];
-    show(checks::check_clip(
-        d,
-        rule,
-        invert,
-        boundary,
-        points,
-        lengths,
-        &mut flat,
-        &mut starts,
-        &mut nodes,
-        &mut tops,
-    ));
-}
-
-fn show_slice(d: &[i32], rule: i32, direction: i32, points: usize, lengths: usize, roles: usize) {
-    let mut flat = [0u16; 2048];
-    let mut starts = [0u16; 2049];
-    let mut nodes = [0u16; 2048];
-    let mut tops = [0i32; 1024];
-    show(checks::check_slice(
-        d,
-        rule,
-        direction,
-        points,
-        lengths,
-        roles,
-        &mut flat,
-        &mut starts,
-        &mut nodes,
-        &mut tops,
-    ));
-}
-
 // A clip run with known choices and lists that are long enough.
 fn clip(d: &[i32]) {
-    show_clip(d, 1, 0, 1, 8192, 2048);
+    show(checks::check_clip(d, 1, 0, 1, 8 * segm::MOST, 2 * segm::MOST));
+}
+
+// ---- drawings
+
+// Puts a segment at a place.
+fn put(d: &mut [i32], place: usize, ax: i32, ay: i32, bx: i32, by: i32, winding: i32, bits: i32)
+    requires { ⌜ place * width + width ≤ length (now d) ⌝ }
+{
+    let a = Point { x: ax, y: ay };
+    let b = Point { x: bx, y: by };
+    let t = Segment {
+        a: a,
+        b: b,
+        winding: winding,
+        bits: bits,
+    };
+    segm::put(d, place, t);
+}
+
+// The square of case A, its left and right in two parts each.
+fn put_square(d: &mut [i32])
+    requires { ⌜ 9 * width ≤ length (now d) ⌝ }
+{
+    put(d, 1, 0, 0, 0, 5, -1, 0);
+    put(d, 2, 0, 0, 10, 0, 1, 0);
+    put(d, 3, 0, 5, 0, 10, -1, 0);
+    put(d, 5, 0, 10, 10, 10, -1, 0);
+    put(d, 6, 10, 0, 10, 5, 1, 0);
+    put(d, 7, 10, 5, 10, 10, 1, 0);
+}
+
+// Case A, which is accepted: the square, and a cut across it in three parts.
+fn put_a(d: &mut [i32])
+    requires { ⌜ 9 * width ≤ length (now d) ⌝ }
+{
+    put_square(d);
+    put(d, 0, -5, 5, 0, 5, 0, 1);
+    put(d, 4, 0, 5, 10, 5, 0, 1);
+    put(d, 8, 10, 5, 15, 5, 0, 1);
 }
 
 // ---- case A with numbers altered
@@ -175,10 +112,11 @@ fn print_alteration(place: usize, field: usize, value: i32) {
 }
 
 fn altered(place: usize, field: usize, value: i32)
-    requires { ⌜ (place < 9) × (field < 6) ⌝ }
+    requires { ⌜ (place < 9) × (field < width) ⌝ }
 {
-    let mut d = A;
-    let k = place * 6 + field;
+    let mut d = [0i32; A];
+    put_a(&mut d);
+    let k = place * segm::WIDTH + field;
     d[k] = value;
     text(b"A with ");
     print_alteration(place, field, value);
@@ -186,11 +124,12 @@ fn altered(place: usize, field: usize, value: i32)
 }
 
 fn altered_twice(place: usize, field: usize, value: i32, place2: usize, field2: usize, value2: i32)
-    requires { ⌜ (place < 9) × (field < 6) × (place2 < 9) × (field2 < 6) ⌝ }
+    requires { ⌜ (place < 9) × (field < width) × (place2 < 9) × (field2 < width) ⌝ }
 {
-    let mut d = A;
-    let k = place * 6 + field;
-    let l = place2 * 6 + field2;
+    let mut d = [0i32; A];
+    put_a(&mut d);
+    let k = place * segm::WIDTH + field;
+    let l = place2 * segm::WIDTH + field2;
     d[k] = value;
     d[l] = value2;
     text(b"A with ");
@@ -245,7 +184,7 @@ fn fills_run(d: &[i32], rule: i32, fills: usize) {
     size(d.len());
     number(rule);
     size(fills);
-    show_fills(d, rule, fills);
+    show(checks::check_fills(d, rule, fills));
 }
 
 fn clip_run(d: &[i32], rule: i32, invert: i32, boundary: i32, points: usize, lengths: usize) {
@@ -256,7 +195,7 @@ fn clip_run(d: &[i32], rule: i32, invert: i32, boundary: i32, points: usize, len
     number(boundary);
     size(points);
     size(lengths);
-    show_clip(d, rule, invert, boundary, points, lengths);
+    show(checks::check_clip(d, rule, invert, boundary, points, lengths));
 }
 
 fn slice_run(d: &[i32], rule: i32, direction: i32, points: usize, lengths: usize, roles: usize) {
@@ -267,7 +206,7 @@ fn slice_run(d: &[i32], rule: i32, direction: i32, points: usize, lengths: usize
     size(points);
     size(lengths);
     size(roles);
-    show_slice(d, rule, direction, points, lengths, roles);
+    show(checks::check_slice(d, rule, direction, points, lengths, roles));
 }
 
 // Each choice at its limits and past them.
@@ -300,23 +239,41 @@ fn lists(a: &[i32]) {
     slice_run(a, 1, 0, 36, 18, 17);
 }
 
-// A length of no multiple of six comes before an unknown choice, that before a list too short, and that before the drawing.
-fn lengths() {
-    let a = A;
-    clip_run(&a[..0], 1, 0, 1, 0, 0);
-    clip_run(&a[..1], 1, 0, 1, 72, 18);
-    clip_run(&a[..53], 1, 0, 1, 72, 18);
-    clip_run(&a[..53], 4, 0, 1, 72, 18);
-    clip_run(&a[..53], 1, 0, 1, 0, 0);
-    clip_run(&a, 4, 0, 1, 71, 18);
-    let mut far = A;
-    far[0] = 16777217;
-    clip_run(&far, 1, 2, 1, 72, 18);
-    clip_run(&far, 1, 0, 1, 72, 17);
-    clip_run(&far, 1, 0, 1, 72, 18);
+// A clip run on the first n numbers.
+fn front_run(d: &[i32], n: usize, rule: i32, points: usize, lengths: usize)
+    requires { ⌜ n ≤ length (now d) ⌝ }
+{
+    clip_run(&d[..n], rule, 0, 1, points, lengths);
+}
+
+// A length of no whole segments comes before an unknown choice, and that before a list too short.
+fn lengths(a: &[i32])
+    requires { ⌜ 0 < length (now a) ⌝ }
+{
+    let short = a.len() - 1;
+    front_run(a, 0, 1, 0, 0);
+    front_run(a, 1, 1, 72, 18);
+    front_run(a, short, 1, 72, 18);
+    front_run(a, short, 4, 72, 18);
+    front_run(a, short, 1, 0, 0);
+    clip_run(a, 4, 0, 1, 71, 18);
+}
+
+// Both come before the drawing.
+fn far() {
+    let mut d = [0i32; A];
+    put_a(&mut d);
+    d[AX] = 16777217;
+    clip_run(&d, 1, 2, 1, 72, 18);
+    clip_run(&d, 1, 0, 1, 72, 17);
+    clip_run(&d, 1, 0, 1, 72, 18);
 }
 
 // ---- one, two and three segments
+
+const TWO: usize = 2 * segm::WIDTH;
+
+const THREE: usize = 3 * segm::WIDTH;
 
 fn one(ax: i32, ay: i32, bx: i32, by: i32, winding: i32, bits: i32) {
     text(b"one ");
@@ -326,7 +283,9 @@ fn one(ax: i32, ay: i32, bx: i32, by: i32, winding: i32, bits: i32) {
     number(by);
     number(winding);
     number(bits);
-    clip(&[ax, ay, bx, by, winding, bits]);
+    let mut d = [0i32; segm::WIDTH];
+    put(&mut d, 0, ax, ay, bx, by, winding, bits);
+    clip(&d);
 }
 
 fn two(ax: i32, ay: i32, bx: i32, by: i32, cx: i32, cy: i32, dx: i32, dy: i32) {
@@ -339,7 +298,10 @@ fn two(ax: i32, ay: i32, bx: i32, by: i32, cx: i32, cy: i32, dx: i32, dy: i32) {
     number(cy);
     number(dx);
     number(dy);
-    clip(&[ax, ay, bx, by, 0, 1, cx, cy, dx, dy, 0, 2]);
+    let mut d = [0i32; TWO];
+    put(&mut d, 0, ax, ay, bx, by, 0, 1);
+    put(&mut d, 1, cx, cy, dx, dy, 0, 2);
+    clip(&d);
 }
 
 // A triangle's sides with these windings.
@@ -348,7 +310,11 @@ fn triangle(w0: i32, w1: i32, w2: i32) {
     number(w0);
     number(w1);
     number(w2);
-    clip(&[0, 0, 2, 0, w0, 0, 0, 0, 2, 2, w1, 0, 2, 0, 2, 2, w2, 0]);
+    let mut d = [0i32; THREE];
+    put(&mut d, 0, 0, 0, 2, 0, w0, 0);
+    put(&mut d, 1, 0, 0, 2, 2, w1, 0);
+    put(&mut d, 2, 2, 0, 2, 2, w2, 0);
+    clip(&d);
 }
 
 // Wrong meetings of each kind, beside ones that are right.
@@ -415,15 +381,13 @@ fn limits() {
 fn row(n: usize, p: usize, winding: i32)
     requires { ⌜ (n ≤ 1025) × (p < 1025) ⌝ }
 {
-    let mut d = [0i32; 6150];
+    let mut d = [0i32; TOO_MANY];
     for i in 0..n {
-        let k = i * 6;
-        d[k] = (2 * i) as i32;
-        d[k + 2] = (2 * i + 1) as i32;
+        put(&mut d, i, (2 * i) as i32, 0, (2 * i + 1) as i32, 0, 0, 0);
     }
-    let w = p * 6 + 4;
+    let w = p * segm::WIDTH + WINDING;
     d[w] = winding;
-    let e = n * 6;
+    let e = n * segm::WIDTH;
     text(b"row ");
     size(n);
     size(p);
@@ -443,10 +407,12 @@ fn rows() {
 fn main() {
     by_place();
     by_order();
-    let a = A;
+    let mut a = [0i32; A];
+    put_a(&mut a);
     choices(&a);
     lists(&a);
-    lengths();
+    lengths(&a);
+    far();
     meetings();
     limits();
     rows();

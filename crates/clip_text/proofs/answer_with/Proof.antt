@@ -9,7 +9,7 @@ use lib.IntN.{ℤ}
 use Rattle.lists.specs.Written.{written}
 use Rattle.string_clip.specs.declared.Clipped.{Clipped}
 use Rattle.contour.specs.Points.{pairUp, cut}
-use Rattle.string_clip.specs.Run.{Outcome, outcome, told, output}
+use Rattle.string_clip.specs.Run.{told, Lists, lists, Outcome, outcome, output}
 use Rattle.writing.specs.Puts.{Put}
 use Rattle.clip_print.specs.Printed.{Held, linesOf, printed}
 use Rattle.clip_text.specs.Answer.{textOutcome}
@@ -33,25 +33,28 @@ module _ (c : tie.After-clip-text) where
   abbrev lengths : List ℕ
   lengths = c .clip-text .last .1 .1 .0
 
+  abbrev ls : Lists
+  ls = lists (s .args .points .now) (s .args .lengths .now)
+
   abbrev run : Outcome
-  run = textOutcome (s .args .text .now) (s .args .points .now) (s .args .lengths .now)
+  run = textOutcome (s .args .text .now) ls
 
-  is : {r : Clipped} → c .clip-text .result ≡ r → outcome r points lengths ≡ run
-  is e = ap (λ (r : Clipped). outcome r points lengths) (sym e) ∙ c .clip-text .ensures
+  is : {r : Clipped} → c .clip-text .result ≡ r → outcome r (lists points lengths) ≡ run
+  is e = ap (λ (r : Clipped). outcome r (lists points lengths)) (sym e) ∙ c .clip-text .ensures
 
-  held : {r : Clipped} → c .clip-text .result ≡ r → Held (told r .paths) points lengths
-  held e = subst (λ (o : Outcome). Held (told (o .answer) .paths) (o .points) (o .lengths)) (sym (is e)) (text-held (s .args .points .now) (s .args .lengths .now) (s .args .text .now))
+  held : {r : Clipped} → c .clip-text .result ≡ r → Held (told r .totals .paths) points lengths
+  held e = subst (λ (o : Outcome). Held (o .numbers .totals .paths) (o .lists .points) (o .lists .lengths)) (sym (is e)) (text-held ls (s .args .text .now))
 
   abbrev out : List ℕ
   out = s .args .out .now
 
   -- there is room for its lines
-  room : {r : Clipped} → c .clip-text .result ≡ r → length (linesOf r (cut (told r .paths) lengths (pairUp points))) ≤ length out
+  room : {r : Clipped} → c .clip-text .result ≡ r → length (linesOf r (cut (told r .totals .paths) lengths (pairUp points))) ≤ length out
   unfolding printed output
-  room {r} e = let o = outcome r points lengths in omega (arith, length-printed o, printed-short o, s .pre, c .clip-text .kept .1 .0)
+  room {r} e = let o = outcome r (lists points lengths) in omega (arith, length-printed o, printed-short o, s .pre, c .clip-text .kept .1 .0)
 
   -- and they stand at the front
-  whole : {r : Clipped} {k : ℕ} {new : List ℕ} → c .clip-text .result ≡ r → Put out 0 (linesOf r (cut (told r .paths) lengths (pairUp points))) k new
+  whole : {r : Clipped} {k : ℕ} {new : List ℕ} → c .clip-text .result ≡ r → Put out 0 (linesOf r (cut (told r .totals .paths) lengths (pairUp points))) k new
       → (k ≤ length out) × ((k ≡ length (printed run)) × (new ≡ written (printed run) out))
   unfolding printed output
   whole {r = r} {k = k} {new = new} e p =

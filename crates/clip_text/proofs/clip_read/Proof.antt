@@ -1,13 +1,27 @@
 -- The reading decides the arm. Assumes nothing.
 use borrow.Author.Needs.{needs}
 use mathlib.Core.Path.{_≡_, sym, ap, _∙_}
+use mathlib.Core.Bool.{Bool, cond}
 use mathlib.Core.List.{List}
-use Prim.Native.Nat.{ℕ}
+use Prim.Native.Nat.{ℕ, _≤_}
+use borrow.Author.Tests.{eq-eqb, ne-eqb}
+use native.Mathlib.Omega.{arith}
+use lib.Dec.{eqb}
+use lib.ListN.{length, take}
+use lib.Seq.{length-take-le}
 use lib.IntN.{ℤ}
+use mir.Syntax.{w32}
+use Rattle.integers.proofs.Machine.{read}
 use Rattle.segm.specs.Segments.{width}
+use Rattle.string_clip.specs.declared.Clipped.the-variants.{Refused}
+use Rattle.string_clip.specs.Run.{Lists, lists, outcome, clipOutcome}
+use Rattle.text.specs.declared.Choices.{Choices}
 use Rattle.text.specs.declared.Reading.{Reading}
+use Rattle.text.specs.declared.Reading.the-variants.{Read}
 use Rattle.text.specs.Grammar.{parsed}
-use Rattle.text.specs.Storing.{Outcome, readOutcome}
+use Rattle.text.specs.Storing as storing
+use Rattle.text.specs.Storing.{readOutcome}
+use Rattle.text.proofs.Storing.{read-held}
 use Rattle.clip_text.specs.Answer.{textOutcome}
 use Rattle.clip_text.proofs.TextRuns.{runRead, run-read}
 use Rattle.clip_text.proofs.clip_read.Statement.{statement}
@@ -21,36 +35,58 @@ module _ (c : tie.After-read) where
   abbrev s : tie.Start
   s = c .before .before .before .before
 
-  abbrev points : List ℤ
-  points = s .args .points .now
-
-  abbrev lengths : List ℕ
-  lengths = s .args .lengths .now
+  abbrev ls : Lists
+  ls = lists (s .args .points .now) (s .args .lengths .now)
 
   abbrev stored : List ℤ
-  stored = c .read .last .1 .0
+  stored = c .read .last .1 .1 .0
 
-  by-reading : {r : Reading} → c .read .result ≡ r → runRead points lengths r stored ≡ textOutcome (s .args .text .now) points lengths
+  by-reading : {r : Reading} → c .read .result ≡ r → runRead ls r stored ≡ textOutcome (s .args .text .now) ls
   unfolding readOutcome textOutcome
   by-reading e =
-      ap (λ (r : Reading). runRead points lengths r stored) (sym e)
-      ∙ ap (λ (o : Outcome). runRead points lengths (o .answer) (o .numbers)) (c .read .ensures)
-      ∙ run-read points lengths (parsed width (s .args .text .now)) (s .args .numbers .now) (s .pre)
+      ap (λ (r : Reading). runRead ls r stored) (sym e)
+      ∙ ap (λ (o : storing.Outcome). runRead ls (o .answer) (o .list)) (c .read .ensures)
+      ∙ run-read ls (parsed width (s .args .text .now)) (s .args .numbers .now) (s .pre)
 
-enum-known-line : tie.Need-enum-known-line
-enum-known-line c = search needs
+  held : {x : Choices} {n : ℕ} → c .read .result ≡ Read x n → n ≤ length stored
+  unfolding readOutcome
+  held e = read-held (s .args .numbers .now) (parsed width (s .args .text .now)) (ap (λ (r : Reading). storing.outcome r stored) (sym e) ∙ c .read .ensures)
 
 enum-known-c : tie.Need-enum-known-c
 enum-known-c c = search needs
 
-clip-first-requires : tie.Need-clip-first-requires
-clip-first-requires c κs = search needs
+slice-reshare-prefix-clip : tie.Need-slice-reshare-prefix-clip
+slice-reshare-prefix-clip c = held (c .before .before .before .before) (c .before .c .given .1)
+
+slice-aggregate-clip : tie.Need-slice-aggregate-clip
+slice-aggregate-clip c =
+    let k = c .before .before in
+    sym (length-take-le _ _ (held (k .before .before .before) (k .c .given .1)))
+
+clip-requires : tie.Need-clip-requires
+clip-requires c κs = search needs
+
+enum-known-number : tie.Need-enum-known-number
+enum-known-number c = search needs
+
+-- the text was refused
+module _ (c : tie.After-number) where
+  abbrev r : tie.After-read
+  r = c .before .before .before
+
+  abbrev number : ℕ
+  number = c .number .given .0 .0
+
+  by-refusal : {b : Bool} → eqb number 11 ≡ b → cond b (outcome (Refused 2 0) (ls r)) (outcome (Refused number (c .number .given .0 .1 .0)) (ls r)) ≡ textOutcome (s r .args .text .now) (ls r)
+  by-refusal e = ap (λ (b : Bool). cond b (outcome (Refused 2 0) (ls r)) (outcome (Refused number (c .number .given .0 .1 .0)) (ls r))) (sym e) ∙ by-reading r (c .number .given .1)
 
 same-length : tie.Need-same-length
 same-length c = search needs
 
 returns : tie.Need-returns
-returns c = by-reading (c .before .before .before .before) (c .before .line .given .1)
+returns c =
+    let k = c .before .before in
+    by-refusal k (eq-eqb (number k) 11 (c .if1 .taken))
 
 same-length-2 : tie.Need-same-length-2
 same-length-2 c = search needs
@@ -63,21 +99,38 @@ same-length-4 c = search needs
 
 returns-2 : tie.Need-returns-2
 returns-2 c =
-    let k = c .before .before .before in
-    let m = k .before .before .before .before .before in
-    k .clip-first .ensures ∙ by-reading (m .before .before .before) (m .c .given .1)
+    let m = c .before .before .before in
+    let k = m .before .before .before .before .before .before .before .before in
+    let r = k .before .before .before in
+    let x = k .c .given .0 .0 in
+    let rule = read w32 (x .rule) (omega arith) in
+    let invert = read w32 (x .invert) (omega arith) in
+    let boundary = read w32 (x .boundary) (omega arith) in
+    m .clip .ensures ∙ (λ i. clipOutcome (take (k .c .given .0 .1 .0) (stored r)) (rule i) (invert i) (boundary i) (ls r)) ∙ by-reading r (k .c .given .1)
+
+same-length-5 : tie.Need-same-length-5
+same-length-5 c = search needs
+
+returns-3 : tie.Need-returns-3
+returns-3 c =
+    let k = c .before .before in
+    by-refusal k (ne-eqb (number k) 11 (c .if1 .left))
 
 pub clip-read-spec : {M : Type 1} → statement M
 clip-read-spec =
     tie.close
     (tie.spec
     read-requires
-    enum-known-line
     enum-known-c
-    clip-first-requires
+    slice-reshare-prefix-clip
+    slice-aggregate-clip
+    clip-requires
+    enum-known-number
     same-length
     returns
     same-length-2
     same-length-3
     same-length-4
-    returns-2)
+    returns-2
+    same-length-5
+    returns-3)

@@ -18,7 +18,7 @@ enum-known-number c = search needs
 cast-t6 : tie.Need-cast-t6
 cast-t6 c = search needs
 
-numbers : (c : tie.After-verdict-of) {v : Verdict} → c .verdict-of .result ≡ v → checkNumbers v ≡ checkNumbers (verdictOf (c .before .args .segments .now))
+numbers : (c : tie.After-verdict-of) {v : Verdict} → c .verdict-of .result ≡ v → checkNumbers v ≡ checkNumbers (verdictOf (c .before .args .numbers .now))
 numbers c e = ap checkNumbers (sym e ∙ c .verdict-of .ensures)
 
 returns : tie.Need-returns

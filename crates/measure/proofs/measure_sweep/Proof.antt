@@ -20,10 +20,10 @@ enum-told-2 c = search needs
 
 -- what `verdict_of` answered
 module _ (c : tie.After-verdict-of) {v : Verdict} (e : c .verdict-of .result ≡ v) where
-  verdict-is : verdictOf (c .before .args .segments .now) ≡ v
+  verdict-is : verdictOf (c .before .args .numbers .now) ≡ v
   verdict-is = sym (c .verdict-of .ensures) ∙ e
 
-  number-is : sweepNumber v ≡ sweepNumber (verdictOf (c .before .args .segments .now))
+  number-is : sweepNumber v ≡ sweepNumber (verdictOf (c .before .args .numbers .now))
   number-is = ap sweepNumber (sym verdict-is)
 
 is-swept-requires : tie.Need-is-swept-requires

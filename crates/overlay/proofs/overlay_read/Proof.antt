@@ -4,8 +4,8 @@ use mathlib.Core.Path.{_≡_, sym, ap, _∙_}
 use mir.Syntax.{w32}
 use Rattle.integers.proofs.Machine.{read}
 use Rattle.text.specs.declared.Reading.{Reading}
-use Rattle.text.specs.Storing.{Outcome}
-use Rattle.overlay.specs.Numbers.{readingNumbers, returnedRead, readNumbers}
+use Rattle.text.specs.Storing.{told, Outcome}
+use Rattle.overlay.specs.Numbers.{readStruct, returnedRead, readNumbers}
 use Rattle.overlay.proofs.overlay_read.Statement.{statement}
 use Rattle.overlay.proofs.overlay_read.Tie as tie
 
@@ -15,19 +15,22 @@ read-requires c κs = search needs
 enum-known-choices : tie.Need-enum-known-choices
 enum-known-choices c = search needs
 
-enum-known-line : tie.Need-enum-known-line
-enum-known-line c = search needs
+enum-known-number : tie.Need-enum-known-number
+enum-known-number c = search needs
+
+cast-t12 : tie.Need-cast-t12
+cast-t12 c = search needs
 
 -- the numbers of the answer, with the list as `read` left it
 module _ (c : tie.After-read) where
   abbrev s : tie.Start
   s = c .before .before .before
 
-  numbers : {a : Reading} → c .read .result ≡ a → returnedRead (readingNumbers a) (c .read .last .1 .0) ≡ readNumbers (s .args .text .now) (s .args .numbers .now)
+  numbers : {a : Reading} → c .read .result ≡ a → returnedRead (readStruct (told a)) (c .read .last .1 .1 .0) ≡ readNumbers (s .args .text .now) (s .args .numbers .now)
   unfolding readNumbers
   numbers e =
-      ap (λ (a : Reading). returnedRead (readingNumbers a) (c .read .last .1 .0)) (sym e)
-      ∙ ap (λ (o : Outcome). returnedRead (readingNumbers (o .answer)) (o .numbers)) (c .read .ensures)
+      ap (λ (a : Reading). returnedRead (readStruct (told a)) (c .read .last .1 .1 .0)) (sym e)
+      ∙ ap (λ (o : Outcome). returnedRead (readStruct (o .numbers)) (o .list)) (c .read .ensures)
 
 same-length : tie.Need-same-length
 same-length c = search needs
@@ -35,26 +38,29 @@ same-length c = search needs
 -- the choices are signed: each is read back from its bits
 returns : tie.Need-returns
 returns c =
-    let chosen = c .before .before .choices .given .0 .0 in
-    let told = c .struct-told .given in
-    let r = c .before .before .before .before .before in
+    let k = c .before .before in
+    let chosen = k .choices .given .0 .0 in
+    let bits = c .struct-told .given in
+    let r = k .before .before .before in
     (λ i. returnedRead
     (record {
       number = 0;
       place = 0;
-      count = c .before .before .choices .given .0 .1 .0;
-      rule = read w32 (chosen .rule) (told .0 .1) i;
-      invert = read w32 (chosen .invert) (told .1 .0 .1) i;
-      boundary = read w32 (chosen .boundary) (told .1 .1 .0 .1) i;
+      count = k .choices .given .0 .1 .0;
+      rule = read w32 (chosen .rule) (bits .0 .1) i;
+      invert = read w32 (chosen .invert) (bits .1 .0 .1) i;
+      boundary = read w32 (chosen .boundary) (bits .1 .1 .0 .1) i;
     })
-    (r .read .last .1 .0))
-    ∙ numbers r (c .before .before .choices .given .1)
+    (r .read .last .1 .1 .0))
+    ∙ numbers r (k .choices .given .1)
 
 same-length-2 : tie.Need-same-length-2
 same-length-2 c = search needs
 
 returns-2 : tie.Need-returns-2
-returns-2 c = numbers (c .before .before .before .before) (c .before .line .given .1)
+returns-2 c =
+    let k = c .before in
+    numbers (k .before .before .before) (k .number .given .1)
 
 pub overlay-read-spec : {M : Type 1} → statement M
 overlay-read-spec =
@@ -62,7 +68,8 @@ overlay-read-spec =
     (tie.spec
     read-requires
     enum-known-choices
-    enum-known-line
+    enum-known-number
+    cast-t12
     same-length
     returns
     same-length-2

@@ -2,13 +2,14 @@
 use borrow.Author.Needs.{needs}
 use mathlib.Core.Path.{_≡_}
 use native.Mathlib.Omega.{arith}
-use Prim.Native.Nat.{_-_, _≤_}
+use Prim.Native.Nat.{_*_, _-_, _≤_}
 use lib.ListN.{length, length-set, length-take}
+use Rattle.segm.specs.Segments.{width}
 use Rattle.verdicts.proofs.row.Statement.{statement}
 use Rattle.verdicts.proofs.row.Tie as tie
 
 abbrev Inv-loop : tie.InvT-loop
-Inv-loop n p winding d₀ i₀ t9 d i = (i ≤ n) × (length d ≡ 6150)
+Inv-loop n p winding d₀ i₀ t9 d i = (i ≤ n) × (length d ≡ 1025 * width)
 
 abbrev μ-loop : tie.MeasureT-loop
 μ-loop n p winding d₀ i₀ t9 d i = n - i
@@ -16,38 +17,26 @@ abbrev μ-loop : tie.MeasureT-loop
 loop-holds : tie.Need-loop-holds Inv-loop μ-loop
 loop-holds c = search needs
 
-mul-k : tie.Need-mul-k Inv-loop μ-loop
-mul-k c = search needs
+slice-aggregate-put : tie.Need-slice-aggregate-put Inv-loop μ-loop
+slice-aggregate-put c = search needs
 
-mul-d : tie.Need-mul-d Inv-loop μ-loop
-mul-d c = search needs
+mul-put : tie.Need-mul-put Inv-loop μ-loop
+mul-put c = search needs
 
-cast-d : tie.Need-cast-d Inv-loop μ-loop
-cast-d c = search needs
+cast-put : tie.Need-cast-put Inv-loop μ-loop
+cast-put c = search needs
 
-mul-d-2 : tie.Need-mul-d-2 Inv-loop μ-loop
-mul-d-2 c = search needs
+mul-put-2 : tie.Need-mul-put-2 Inv-loop μ-loop
+mul-put-2 c = search needs
 
-array-set-from-d : tie.Need-array-set-from-d Inv-loop μ-loop
-array-set-from-d c = search needs
+add-put : tie.Need-add-put Inv-loop μ-loop
+add-put c = search needs
 
-mul-d-3 : tie.Need-mul-d-3 Inv-loop μ-loop
-mul-d-3 c = search needs
+cast-put-2 : tie.Need-cast-put-2 Inv-loop μ-loop
+cast-put-2 c = search needs
 
-add-d : tie.Need-add-d Inv-loop μ-loop
-add-d c = search needs
-
-cast-d-2 : tie.Need-cast-d-2 Inv-loop μ-loop
-cast-d-2 c = search needs
-
-add-d-2 : tie.Need-add-d-2 Inv-loop μ-loop
-add-d-2 c = search needs
-
-mul-d-4 : tie.Need-mul-d-4 Inv-loop μ-loop
-mul-d-4 c = search needs
-
-array-set-from-d-2 : tie.Need-array-set-from-d-2 Inv-loop μ-loop
-array-set-from-d-2 c = search needs
+put-requires : tie.Need-put-requires Inv-loop μ-loop
+put-requires c κs = search needs
 
 add-i : tie.Need-add-i Inv-loop μ-loop
 add-i c = search needs
@@ -64,11 +53,11 @@ mul-w c = search needs
 add-w : tie.Need-add-w Inv-loop μ-loop
 add-w c = search needs
 
-mul-d-5 : tie.Need-mul-d-5 Inv-loop μ-loop
-mul-d-5 c = search needs
+mul-d : tie.Need-mul-d Inv-loop μ-loop
+mul-d c = search needs
 
-array-set-from-d-3 : tie.Need-array-set-from-d-3 Inv-loop μ-loop
-array-set-from-d-3 c = search needs
+array-set-from-d : tie.Need-array-set-from-d Inv-loop μ-loop
+array-set-from-d c = search needs
 
 mul-e : tie.Need-mul-e Inv-loop μ-loop
 mul-e c = search needs
@@ -107,24 +96,20 @@ row-spec =
     Inv-loop
     μ-loop
     loop-holds
-    mul-k
-    mul-d
-    cast-d
-    mul-d-2
-    array-set-from-d
-    mul-d-3
-    add-d
-    cast-d-2
-    add-d-2
-    mul-d-4
-    array-set-from-d-2
+    slice-aggregate-put
+    mul-put
+    cast-put
+    mul-put-2
+    add-put
+    cast-put-2
+    put-requires
     add-i
     loop-less
     loop-again
     mul-w
     add-w
-    mul-d-5
-    array-set-from-d-3
+    mul-d
+    array-set-from-d
     mul-e
     slice-aggregate-text
     text-requires

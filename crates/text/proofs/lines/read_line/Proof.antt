@@ -19,6 +19,7 @@ use Rattle.text.proofs.lines.read_line.Tie as tie
 
 record Lined (s : List ℕ) (k at : ℕ) (old numbers : List ℤ) (from i : ℕ) : Type 0 where
   few : i ≤ k
+  behind : i ≤ from
   within : from ≤ length s
   room : length numbers ≡ length old
   rest : rowStored at old (row k (pieces 44 s)) ≡ rowStored (at + i) numbers (row (k - i) (pieces 44 (drop from s)))
@@ -33,7 +34,7 @@ loop-holds : tie.Need-loop-holds Inv-loop μ-loop
 loop-holds c =
     let a = c .before .args in
     let e : a .k - 0 ≡ a .k = omega arith in
-    record { few = omega arith; within = omega arith; room = refl; rest = rw (e, add-zero (a .at)) }
+    record { few = omega arith; behind = omega arith; within = omega arith; room = refl; rest = rw (e, add-zero (a .at)) }
 
 find-requires : tie.Need-find-requires Inv-loop μ-loop
 find-requires c κs = search needs
@@ -134,7 +135,7 @@ loop-again c =
     let t = c .before .before in
     let o = n t in
     let past-end = ne-eqb (f o .find .result) (length (s o)) (c .if1 .left) in
-    record { few = omega (arith, f o .before .loop-test .taken); within = omega (arith, f o .find .ensures .1, c .if1 .left); room = kept t; rest = stored t ∙ rw past-end }
+    record { few = omega (arith, f o .before .loop-test .taken); behind = omega (arith, l o .loop .inv .behind, f o .find .ensures .0); within = omega (arith, f o .find .ensures .1, c .if1 .left); room = kept t; rest = stored t ∙ rw past-end }
 
 same-length-3 : tie.Need-same-length-3 Inv-loop μ-loop
 same-length-3 c = c .before .loop .inv .room
