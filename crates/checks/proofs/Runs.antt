@@ -12,7 +12,7 @@ use Rattle.refusal.specs.declared.Verdict.the-variants.{Accepted}
 use Rattle.refusal.specs.Order.{_then_}
 use Rattle.refusal.specs.Asked.{wrongLength, Choice, unknownChoice, Lent, tooShort}
 use Rattle.refusal.proofs.Order.{accepted-then}
-use Rattle.refusal.proofs.Asked.{Passes, asked-passes, passes-asked, few-entries, all-known, all-long}
+use Rattle.refusal.proofs.Asked.{AskedPasses, asked-passes, passes-asked, few-entries, all-known, all-long}
 use Rattle.segm.specs.Segments.{width, count, segments}
 use Rattle.segm.proofs.Segments.{length-segments}
 use Rattle.checks.specs.Drawing.{drawingVerdict}
@@ -20,11 +20,11 @@ use Rattle.checks.specs.Runs.{Run, asked, verdict}
 
 -- a run that is accepted passed every check
 pub record Passed (r : Run) : Type 0 where
-  pub asks : Passes (wrongLength width 1024 (length (r .numbers))) (any unknownChoice (r .choices)) (any (tooShort (count (r .numbers))) (r .lists))
+  pub asks : AskedPasses (wrongLength width 1024 (length (r .numbers))) (any unknownChoice (r .choices)) (any (tooShort (count (r .numbers))) (r .lists))
   pub drawing : drawingVerdict (segments (r .numbers)) ≡ Accepted
 
 -- what was asked first
-pub asked-passes-run : (r : Run) → asked r ≡ Accepted → Passes (wrongLength width 1024 (length (r .numbers))) (any unknownChoice (r .choices)) (any (tooShort (count (r .numbers))) (r .lists))
+pub asked-passes-run : (r : Run) → asked r ≡ Accepted → AskedPasses (wrongLength width 1024 (length (r .numbers))) (any unknownChoice (r .choices)) (any (tooShort (count (r .numbers))) (r .lists))
 unfolding asked
 asked-passes-run r e = asked-passes _ _ _ e
 

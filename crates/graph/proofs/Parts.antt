@@ -36,7 +36,7 @@ module _ (P : ℕ → Point) (E : List ℕ) where
   -- the ends after p are those from place b on
   pub record Stops (p : Point) (b : ℕ) : Type 0 where
     pub inside : b ≤ length E
-    pub front : (x : ℕ) → x ∈ take b E → ltP p (P x) ≡ false
+    pub before-it : (x : ℕ) → x ∈ take b E → ltP p (P x) ≡ false
     pub after : (x : ℕ) → x ∈ drop b E → ltP p (P x) ≡ true
 
   module _ {p : Point} {a b : ℕ} (f : Begins p a) (t : Stops p b) where
@@ -67,7 +67,7 @@ module _ (P : ℕ → Point) (E : List ℕ) where
     together =
         let T : ℕ → Bool = λ x. eqP (P x) p in
         let none : keep T (take a E) ≡ [] = keep-none T (take a E) (λ x m. ne-eqP (not-equal (f .before x m))) in
-        let here : keep T middle ≡ middle = keep-all T middle (λ x m. eq-eqP (ltP-antisym (f .rest x (in-take (b - a) (drop a E) x m)) (t .front x (in-front x m)))) in
+        let here : keep T middle ≡ middle = keep-all T middle (λ x m. eq-eqP (ltP-antisym (f .rest x (in-take (b - a) (drop a E) x m)) (t .before-it x (in-front x m)))) in
         let past : keep T (drop b E) ≡ [] = keep-none T (drop b E) (λ x m. ne-eqP (λ e. not-equal (t .after x m) (sym e))) in
         sym (ap (keep T) all ∙ keep-++ T (take a E) (middle ++ drop b E) ∙ ap₂ _++_ none (keep-++ T middle (drop b E) ∙ ap₂ _++_ here past) ∙ append-nil middle)
 
@@ -103,7 +103,7 @@ module _ (P : ℕ → Point) (E : List ℕ) where
             ∙ is-true (ltP (pointAt q) (pointAt i)) (λ n. clash (cut (omega arith)) (not-less-trans (pointAt i) (pointAt q) (pointAt (i - 1)) n (not-less q (i - 1) (omega arith) (omega arith))))
 
     pub stops : (i : ℕ) → 0 < i → i ≤ length E → (i < length E → ltP (pointAt (i - 1)) (pointAt i) ≡ true) → Stops (pointAt (i - 1)) i
-    stops i h k cut = record { inside = k; front = λ x m. not-more x (among i x k m); after = λ x m. more x m (decLe (suc i) (length E)) }
+    stops i h k cut = record { inside = k; before-it = λ x m. not-more x (among i x k m); after = λ x m. more x m (decLe (suc i) (length E)) }
       where
         not-more : (x : ℕ) → (q : ℕ) × (q < i) × (P x ≡ pointAt q) → ltP (pointAt (i - 1)) (P x) ≡ false
         not-more x (q, l, e) = ap (ltP (pointAt (i - 1))) e ∙ not-less q (i - 1) (omega arith) (omega arith)

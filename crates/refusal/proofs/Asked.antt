@@ -16,19 +16,19 @@ use Rattle.refusal.specs.Asked.{wrongLength, Choice, unknownChoice, Lent
 use Rattle.refusal.proofs.Order.{accepted-then, accepted-if}
 
 -- nothing was refused
-pub record Passes (wrong unknown short : Bool) : Type 0 where
+pub record AskedPasses (wrong unknown short : Bool) : Type 0 where
   pub right-length : wrong ≡ false
   pub known : unknown ≡ false
   pub long : short ≡ false
 
-pub asked-passes : (wrong unknown short : Bool) → askedFirst wrong unknown short ≡ Accepted → Passes wrong unknown short
+pub asked-passes : (wrong unknown short : Bool) → askedFirst wrong unknown short ≡ Accepted → AskedPasses wrong unknown short
 unfolding askedFirst
 asked-passes wrong unknown short e =
     let e₂ = accepted-then (refuseIf 2 wrong) _ e in
     let e₁₀ = accepted-then (refuseIf 10 unknown) _ (e₂ .1) in
     record { right-length = accepted-if 2 wrong (e₂ .0); known = accepted-if 10 unknown (e₁₀ .0); long = accepted-if 11 short (e₁₀ .1) }
 
-pub passes-asked : (wrong unknown short : Bool) → Passes wrong unknown short → askedFirst wrong unknown short ≡ Accepted
+pub passes-asked : (wrong unknown short : Bool) → AskedPasses wrong unknown short → askedFirst wrong unknown short ≡ Accepted
 unfolding askedFirst
 passes-asked wrong unknown short p = simp (p .right-length, p .known, p .long)
 
