@@ -1,8 +1,8 @@
 -- What the verdict on a drawing says of its places: what it means that 8 and 9 fit nowhere, and how the code finds them.
-use mathlib.Core.Path.{_≡_, refl, ap, _∙_}
+use mathlib.Core.Path.{_≡_, refl, sym, ap, _∙_}
 use mathlib.Core.Logic.{_↔_}
 use mathlib.Core.Bool.{Bool, true, false, not, cond, _&&_}
-use Prim.Native.Nat.{ℕ, zero, suc, _+_, _<_}
+use Prim.Native.Nat.{ℕ, zero, suc, _+_, _<_, _≤_}
 use native.Mathlib.Omega.{arith}
 use lib.Dec.{eqb, ltb}
 use lib.ListN.{length, drop}
@@ -12,10 +12,12 @@ use Rattle.lists.specs.Members.{any}
 use Rattle.lists.proofs.Members.{pairs-of, pairs-places, any-some, any-false}
 use Rattle.refusal.specs.declared.Verdict.{Verdict}
 use Rattle.refusal.specs.declared.Verdict.the-variants.{Accepted, Refused}
-use Rattle.refusal.specs.Order.{firstFrom, first}
-use Rattle.refusal.proofs.Order.{first-none, all-none, accepted-then}
+use Rattle.refusal.specs.Order.{firstFrom, first, _then_}
+use Rattle.refusal.proofs.Order.{first-none, all-none, accepted-then, refused-then, then-assoc}
 use Rattle.segm.specs.Segments.{Drawing, nowhere, segmentAt}
 use Rattle.faults.specs.Faults.{faultsOf}
+use Rattle.faults.specs.Faultless.{Faultless}
+use Rattle.faults.proofs.Faultless.{faultless}
 use Rattle.faults.proofs.Faults.{last}
 use Rattle.faults.proofs.Faultless.{faultless}
 use Rattle.meetings.specs.Meetings.{meetsWrongly, NoneMeetWrongly}
@@ -80,3 +82,23 @@ drawing-passed d e =
     let e₃ = accepted-then (faultsOf d) _ e in
     let e₈ = accepted-then (meetingsOf d) _ (e₃ .1) in
     record { faultless = e₃ .0; apart = e₈ .0; balanced = e₈ .1 }
+
+-- ---- 3 to 7 were looked for, unless something was refused before: f is what came of it
+module _ (before : Verdict) (d : Drawing) {f : Verdict} (e : f ≡ (before then faultsOf d)) where
+  in-turn : (before then drawingVerdict d) ≡ (f then meetingsOf d then unbalancedOf d)
+  unfolding drawingVerdict
+  in-turn = sym (then-assoc before (faultsOf d) (meetingsOf d then unbalancedOf d)) ∙ ap (λ (v : Verdict). v then meetingsOf d then unbalancedOf d) (sym e)
+
+  -- a refusal stays
+  pub fault-stays : {number place : ℕ} → f ≡ Refused number place → f ≡ (before then drawingVerdict d)
+  fault-stays r = sym (in-turn ∙ refused-then f (meetingsOf d then unbalancedOf d) r)
+
+  -- else 8 and 9 are left, of a faultless drawing
+  pub none-before : f ≡ Accepted → before ≡ Accepted
+  none-before a = accepted-then before (faultsOf d) (sym e ∙ a) .0
+
+  pub faultless-left : f ≡ Accepted → length d ≤ 1024 → Faultless d
+  faultless-left a few = faultless d few (accepted-then before (faultsOf d) (sym e ∙ a) .1)
+
+  pub ends-left : f ≡ Accepted → (before then drawingVerdict d) ≡ (meetingsOf d then unbalancedOf d)
+  ends-left a = in-turn ∙ ap (λ (v : Verdict). v then meetingsOf d then unbalancedOf d) a
