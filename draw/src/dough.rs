@@ -56,10 +56,10 @@ impl Edges {
 mod tests {
     use super::*;
     use crate::segment::segments;
-    use jumperclay::{fills, Rule};
+    use jumperclay::{fills, Rule, WIDTH};
 
     /// Two squares that touch at a point, and a line across one of them.
-    const TWO: [i32; 54] = [
+    const TWO: [i32; 9 * WIDTH] = [
         0, 0, 0, 4, -1, 0, 0, 0, 4, 0, 1, 0, 0, 0, 4, 4, 0, 1, 0, 4, 4, 4, -1, 0, 4, 0, 4, 4, 1, 0, 4, 4, 4, 8, -1, 0,
         4, 4, 8, 4, 1, 0, 4, 8, 8, 8, -1, 0, 8, 4, 8, 8, 1, 0,
     ];

@@ -73,11 +73,14 @@ fn crossing(one: Segment, other: Segment) -> Place {
 #[cfg(test)]
 mod tests {
     use super::*;
-    use crate::segment::segments;
 
-    fn meeting(numbers: [i32; 8]) -> Meeting {
-        let [ax, ay, bx, by, cx, cy, dx, dy] = numbers;
-        let both = segments(&[ax, ay, bx, by, 0, 0, cx, cy, dx, dy, 0, 0]);
+    /// Two segments by x and y of their ends.
+    fn two([ax, ay, bx, by, cx, cy, dx, dy]: [i32; 8]) -> [Segment; 2] {
+        [((ax, ay), (bx, by)), ((cx, cy), (dx, dy))].map(|(a, b)| Segment { a, b, winding: 0, line_bits: 0 })
+    }
+
+    fn meeting(ends: [i32; 8]) -> Meeting {
+        let both = two(ends);
         assert_eq!(first_met(&both, 0), Some(1));
         Meeting::of(both[0], both[1])
     }
@@ -103,16 +106,16 @@ mod tests {
 
     #[test]
     fn a_small_angle() {
-        let looks = |numbers: [i32; 12]| {
-            let both = segments(&numbers);
-            look_like_one(both[0], both[1])
+        let looks = |ends| {
+            let [one, other] = two(ends);
+            look_like_one(one, other)
         };
-        assert!(looks([0, 0, 1000, 0, 0, 0, 0, -1, 1000, 1, 0, 0]));
-        assert!(!looks([0, 0, 1000, 0, 0, 0, 0, -2, 1000, 2, 0, 0]));
+        assert!(looks([0, 0, 1000, 0, 0, -1, 1000, 1]));
+        assert!(!looks([0, 0, 1000, 0, 0, -2, 1000, 2]));
     }
 
     #[test]
     fn sharing_an_end_is_right() {
-        assert_eq!(first_met(&segments(&[0, 0, 2, 0, 0, 0, 2, 0, 3, 0, 0, 0]), 0), None);
+        assert_eq!(first_met(&two([0, 0, 2, 0, 2, 0, 3, 0]), 0), None);
     }
 }

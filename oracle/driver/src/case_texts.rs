@@ -1,7 +1,7 @@
 //! The texts of the stored cases, each with its name.
 
 use crate::choices::Choices;
-use crate::drawing::{comma_text, FARTHEST, MOST_SEGMENTS};
+use crate::drawing::{comma_text, commas, numbers, Segment, FARTHEST, MOST_SEGMENTS, WIDTH};
 use crate::grow::grown;
 use crate::text::MOST_BYTES;
 
@@ -125,18 +125,26 @@ fn long() -> [(&'static str, Vec<u8>); 9] {
 /// A line there and back from one corner of the range to each of so many points of another side that the travel needs
 /// more than 32 bits.
 fn far_and_back() -> Vec<u8> {
-    let numbers: Vec<i32> = (0..33).flat_map(|i| [-FARTHEST, -FARTHEST, FARTHEST, FARTHEST - i, 0, 3]).collect();
-    comma_text(&numbers, Choices { rule: 1, invert: 1, boundary: 1 }).into_bytes()
+    let corner = (-FARTHEST, -FARTHEST);
+    outside((0..33).map(|i| Segment { a: corner, b: (FARTHEST, FARTHEST - i), winding: 0, bits: 3 }))
 }
 
 /// As many segments as may be, in 32 rows, the last a line.
 fn rows() -> Vec<u8> {
-    let segment = |i: i32| [i / 32, i % 32, i / 32 + 1, i % 32, 0, i32::from(i % 32 == 31)];
-    let numbers: Vec<i32> = (0..MOST_SEGMENTS as i32).flat_map(segment).collect();
+    let segment = |i: i32| {
+        let (column, row) = (i / 32, i % 32);
+        Segment { a: (column, row), b: (column + 1, row), winding: 0, bits: i32::from(row == 31) }
+    };
+    outside((0..MOST_SEGMENTS as i32).map(segment))
+}
+
+fn outside(segments: impl Iterator<Item = Segment>) -> Vec<u8> {
+    let numbers = numbers(&segments.collect::<Vec<_>>());
     comma_text(&numbers, Choices { rule: 1, invert: 1, boundary: 1 }).into_bytes()
 }
 
 /// So many lines that are the same, and a last one.
 fn alike(choices: &str, lines: usize, last: &str) -> Vec<u8> {
-    format!("{choices}\n{}{last}", "0,0,0,0,0,0\n".repeat(lines)).into_bytes()
+    let line = commas(&[0; WIDTH]) + "\n";
+    format!("{choices}\n{}{last}", line.repeat(lines)).into_bytes()
 }

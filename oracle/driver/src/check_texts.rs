@@ -5,7 +5,7 @@ use crate::blocks::in_blocks;
 use crate::case_texts;
 use crate::program::Program;
 use crate::random::Random;
-use crate::reader;
+use crate::reader::{self, Calls};
 use crate::shrink::{shorter, smallest};
 use crate::table::Table;
 use crate::tally::has_all;
@@ -28,6 +28,7 @@ struct Tally {
     /// By columns: good, refused 1, refused otherwise.
     kinds: Table<&'static str, 3>,
     refusals: Table<u64, 1>,
+    reads: Calls,
 }
 
 impl Tally {
@@ -41,12 +42,14 @@ impl Tally {
     fn merge(&mut self, other: Self) {
         self.kinds.merge(other.kinds);
         self.refusals.merge(other.refusals);
+        self.reads.merge(other.reads);
     }
 
     fn print(&self) {
         println!();
         self.kinds.print("text for the clip program", ["good", "refused 1", "refused else"]);
         self.refusals.print("refusal due", ["texts"]);
+        self.reads.print("overlay_read with", ["calls"]);
         let [good, malformed, otherwise] = [0, 1, 2].map(|column| self.kinds.sum(column));
         let all = good + malformed + otherwise;
         println!(
@@ -55,8 +58,9 @@ impl Tally {
     }
 
     fn missing(&self) -> Vec<String> {
-        let missing = REFUSALS.iter().filter(|number| !self.refusals.is_full(number));
-        missing.map(|number| format!("refusal {number} of a text")).collect()
+        let refusals = self.refusals.lacking(&REFUSALS).map(|number| format!("refusal {number} of a text"));
+        let reads = self.reads.lacking(&reader::CALLS).map(|name| format!("overlay_read with {name}"));
+        refusals.chain(reads).collect()
     }
 }
 
@@ -92,7 +96,8 @@ pub fn check(seed: u64, texts: usize) -> bool {
 
 fn check_cases(program: &Program, tally: &mut Tally) -> Result<(), String> {
     for (name, text) in case_texts::all() {
-        let number = compare(program, text).map_err(|found| format!("stored case {name}\n{}", found.report()))?;
+        let compared = compare(program, text, &mut tally.reads);
+        let number = compared.map_err(|found| format!("stored case {name}\n{}", found.report()))?;
         tally.add("stored case", number);
     }
     Ok(())
@@ -102,7 +107,7 @@ fn check_block(program: &Program, seed: u64, block: usize, tally: &mut Tally) ->
     for (place, Kind { name, make, share }) in KINDS.iter().enumerate() {
         for text in 0..*share {
             let mut random = Random::new(&[seed, block as u64, place as u64, text as u64]);
-            let compared = compare(program, make(&mut random));
+            let compared = compare(program, make(&mut random), &mut tally.reads);
             let report = |found| format!("{name}, text {text}\n{}", shrunk(program, found).report());
             tally.add(name, compared.map_err(report)?);
         }
@@ -111,8 +116,8 @@ fn check_block(program: &Program, seed: u64, block: usize, tally: &mut Tally) ->
 }
 
 /// Returns the number of the refusal due, 0 for none.
-fn compare(program: &Program, text: Vec<u8>) -> Result<u64, Difference> {
-    if let Err([expected, got]) = reader::compare(&text) {
+fn compare(program: &Program, text: Vec<u8>, reads: &mut Calls) -> Result<u64, Difference> {
+    if let Err([expected, got]) = reader::compare(&text, reads) {
         return Err(Difference { text, expected: expected.into_bytes(), got: Ok(got.into_bytes()) });
     }
     let due = answer(&text);
@@ -125,7 +130,7 @@ fn compare(program: &Program, text: Vec<u8>) -> Result<u64, Difference> {
 
 /// Leaves out lines, then bytes, as long as some difference remains.
 fn shrunk(program: &Program, found: Difference) -> Difference {
-    let differs = |text| compare(program, text).err();
+    let differs = |text| compare(program, text, &mut Calls::default()).err();
     let few_lines = smallest(found, |found| Box::new(shorter(&found.text, lines(&found.text))), differs);
     smallest(few_lines, |found| Box::new(shorter(&found.text, (0..=found.text.len()).collect())), differs)
 }

@@ -5,7 +5,7 @@ use crate::prose::Refusal;
 use crate::random::Random;
 use crate::tally::Tally;
 use crate::theirs::Theirs;
-use crate::{clip, fills, slice, verdict};
+use crate::{both, clip, fills, slice, verdict};
 
 /// Returns the refusal by known choices and lists long enough, if any. A thorough comparison has every rule and minimum
 /// area, also of a large drawing.
@@ -22,5 +22,6 @@ pub fn compare(
     fills::compare(&case, theirs.as_mut(), random, tally)?;
     clip::compare(&case, theirs.as_mut(), thorough, random, tally)?;
     slice::compare(&case, theirs.as_mut(), thorough, random, tally)?;
+    both::compare(&case, random, tally)?;
     Ok(case.checked.refused)
 }

@@ -32,14 +32,14 @@ fn with_number(mut numbers: Vec<i32>, random: &mut Random) -> Vec<i32> {
     numbers
 }
 
-/// A length that is no multiple of six, or too many segments.
+/// A length of no whole segments, or too many of them.
 fn with_length(mut numbers: Vec<i32>, random: &mut Random) -> Vec<i32> {
     if random.chance(5) {
         numbers.resize((MOST_SEGMENTS + random.pick(&[0, 1])) * WIDTH, 0);
     } else if random.chance(50) {
-        numbers.extend((0..random.within(1, 5)).map(|_| 0));
+        numbers.extend((0..random.within(1, WIDTH as i32 - 1)).map(|_| 0));
     } else {
-        numbers.truncate(numbers.len().saturating_sub(1 + random.below(5)));
+        numbers.truncate(numbers.len().saturating_sub(1 + random.below(WIDTH - 1)));
     }
     numbers
 }

@@ -1,8 +1,9 @@
-//! A drawing's segments, six numbers each.
+//! A drawing's segments.
 
 use crate::choices::Choices;
 use std::fmt::Write;
 
+/// How many numbers a segment has.
 pub const WIDTH: usize = 6;
 pub const MOST_SEGMENTS: usize = 1024;
 /// Of a list to split.
@@ -33,7 +34,7 @@ impl Segment {
 }
 
 pub fn read(numbers: &[i32]) -> Vec<Segment> {
-    let segment = |six: &[i32]| Segment { a: (six[0], six[1]), b: (six[2], six[3]), winding: six[4], bits: six[5] };
+    let segment = |of: &[i32]| Segment { a: (of[0], of[1]), b: (of[2], of[3]), winding: of[4], bits: of[5] };
     numbers.chunks_exact(WIDTH).map(segment).collect()
 }
 
@@ -47,8 +48,8 @@ pub fn flat(points: &[Point]) -> Vec<i32> {
 }
 
 pub fn numbers(segments: &[Segment]) -> Vec<i32> {
-    let six = |s: &Segment| [s.a.0, s.a.1, s.b.0, s.b.1, s.winding, s.bits];
-    segments.iter().flat_map(six).collect()
+    let numbers = |s: &Segment| -> [i32; WIDTH] { [s.a.0, s.a.1, s.b.0, s.b.1, s.winding, s.bits] };
+    segments.iter().flat_map(numbers).collect()
 }
 
 /// The cross product of (to - from) and (point - from): positive where the point is left of the way.

@@ -2,7 +2,7 @@
 
 use crate::drawing::{commas, WIDTH};
 
-/// How many bytes the shortest line of a segment has: six digits, each with a comma or LF.
+/// How many bytes the shortest line of a segment has: a digit for each number, with a comma or LF.
 const SHORTEST: usize = 2 * WIDTH;
 
 /// A number can have so many bytes more than a digit: a minus and nine digits.

@@ -31,6 +31,7 @@ pub fn too_short(needed: Room, random: &mut Random) -> Option<Room> {
 }
 
 /// A list of noise, with more noise on both sides.
+#[derive(Clone, PartialEq)]
 pub struct Lent<T> {
     entries: Vec<T>,
     noise: Vec<T>,
@@ -54,6 +55,12 @@ impl<T: Copy + PartialEq + ToString> Lent<T> {
         self.entries[MARGIN..end] == *answer
             && self.entries[..MARGIN] == self.noise[..MARGIN]
             && self.entries[end..] == self.noise[end..]
+    }
+
+    /// What was written, with its place.
+    pub fn changed(&self) -> String {
+        let [_, changed] = self.show(&[]);
+        changed
     }
 
     /// What should be written from its front, and what is changed or should be.

@@ -6,6 +6,7 @@ mod areas;
 #[cfg(feature = "rust")]
 mod bench;
 mod blocks;
+mod both;
 mod case;
 mod case_texts;
 mod cases;

@@ -1,6 +1,8 @@
-//! What the library exports for the driver alone: the check by itself, and what cleared a drawing of wrong meetings.
+//! What the library exports for the driver alone: the check by itself, what cleared a drawing of wrong meetings, and both
+//! clip runs by one check.
 
 use crate::prose::Refusal;
+use jumperclay::raw::Clipped;
 
 /// A refusal's number and place, or 0 and 0.
 #[repr(C)]
@@ -21,10 +23,31 @@ impl From<Option<Refusal>> for Verdict {
 pub const BY_SEARCH: u64 = 0;
 pub const BY_SWEEP: u64 = 1;
 
-// Each reads as many numbers as the length says. The pointer may not be null, also where the length is 0.
+/// What both clip runs return, inside and outside.
+#[repr(C)]
+struct ClippedBoth {
+    runs: [Clipped; 2],
+}
+
+// Each reads and writes at most as many entries as the lengths say. Lists of one call must not overlap, and no pointer may
+// be null, also where the length is 0.
 extern "C" {
     fn measure_check(segments: *const i32, segments_len: usize) -> Verdict;
     fn measure_sweep(segments: *const i32, segments_len: usize) -> u64;
+    fn measure_clip_both(
+        segments: *const i32,
+        segments_len: usize,
+        rule: i32,
+        boundary: i32,
+        inside_points: *mut i32,
+        inside_points_len: usize,
+        inside_lengths: *mut u32,
+        inside_lengths_len: usize,
+        outside_points: *mut i32,
+        outside_points_len: usize,
+        outside_lengths: *mut u32,
+        outside_lengths_len: usize,
+    ) -> ClippedBoth;
 }
 
 /// The verdict on a clip run with known choices and lists long enough.
@@ -37,4 +60,27 @@ pub fn check(segments: &[i32]) -> Verdict {
 pub fn sweep(segments: &[i32]) -> u64 {
     // SAFETY: the pointer is valid for the length.
     unsafe { measure_sweep(segments.as_ptr(), segments.len()) }
+}
+
+/// Both clip runs, each on its points and lengths, the inside one first.
+pub fn clip_both(segments: &[i32], rule: i32, boundary: i32, lists: [(&mut [i32], &mut [u32]); 2]) -> [Clipped; 2] {
+    let [inside, outside] = lists;
+    // SAFETY: all pointers are valid for their lengths, and the borrows keep the lists apart.
+    let both = unsafe {
+        measure_clip_both(
+            segments.as_ptr(),
+            segments.len(),
+            rule,
+            boundary,
+            inside.0.as_mut_ptr(),
+            inside.0.len(),
+            inside.1.as_mut_ptr(),
+            inside.1.len(),
+            outside.0.as_mut_ptr(),
+            outside.0.len(),
+            outside.1.as_mut_ptr(),
+            outside.1.len(),
+        )
+    };
+    both.runs
 }

@@ -56,6 +56,14 @@ pub fn of_split(numbers: &[i32], lent: Room) -> Option<Refusal> {
     Some(Refusal { number: 3, place: place as u64 })
 }
 
+/// The first refusal of a text in the order 1 and 11: the list holds all its numbers. The text has so many, or a bad line.
+pub fn of_read(count: Result<usize, u64>, lent: usize) -> Option<Refusal> {
+    match count {
+        Err(place) => Some(Refusal { number: 1, place }),
+        Ok(count) => (lent < count).then_some(Refusal { number: 11, place: 0 }),
+    }
+}
+
 fn in_range(coordinate: i32) -> bool {
     (-FARTHEST..=FARTHEST).contains(&coordinate)
 }

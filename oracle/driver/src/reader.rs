@@ -2,33 +2,55 @@
 
 use crate::choices::Choices;
 use crate::lent::Lent;
+use crate::prose::{of_read, Refusal};
 use crate::random::Random;
+use crate::table::Table;
 use crate::text;
 use jumperclay::raw;
 
-/// Lends a list exactly long enough, a longer one, one too short by one and an empty one. Err, where something is not as
-/// due, with what is due and what came.
-pub fn compare(text: &[u8]) -> Result<(), [String; 2]> {
-    let due = text::read(text);
-    let count = due.as_ref().map_or(0, |(_, numbers)| numbers.len());
+/// The calls that must occur, by the text and the list that is lent.
+pub const CALLS: [&str; 6] = [
+    "a list exactly long enough",
+    "a longer list",
+    "a list too short by one",
+    "an empty list, too short",
+    "a list too short by more",
+    "a malformed text",
+];
+
+pub type Calls = Table<&'static str, 1>;
+
+/// Lends a list exactly long enough, a longer one and, where numbers are due, three that are too short: by one, empty and
+/// between. Err, where something is not as due, with what is due and what came.
+pub fn compare(text: &[u8], calls: &mut Calls) -> Result<(), [String; 2]> {
+    let held = text::read(text);
+    let count = held.as_ref().map_or(0, |(_, numbers)| numbers.len());
     let mut random = Random::new(&[text.len() as u64]);
     let longer = count + 1 + random.below(20);
-    let mut lengths = [Some(count), Some(longer), count.checked_sub(1), Some(0)].into_iter().flatten();
-    lengths.try_for_each(|length| on_list(text, &due, length, &mut random))
+    let short = count.checked_sub(1).map(|by_one| [by_one, 0, random.below(count)]);
+    let mut lengths = [count, longer].into_iter().chain(short.into_iter().flatten());
+    lengths.try_for_each(|length| on_list(text, &held, length, &mut random, calls))
 }
 
 /// One call on a list of noise: every returned number and every entry, written or not, must be as due.
 fn on_list(
     text: &[u8],
-    due: &Result<(Choices, Vec<i32>), u64>,
+    held: &Result<(Choices, Vec<i32>), u64>,
     length: usize,
     random: &mut Random,
+    calls: &mut Calls,
 ) -> Result<(), [String; 2]> {
-    let (due, numbers) = match *due {
-        Err(place) => (raw::Read { number: 1, place, count: 0, rule: 0, invert: 0, boundary: 0 }, &[][..]),
-        Ok((Choices { rule, invert, boundary }, ref numbers)) => {
-            let count = numbers.len() as u64;
-            (raw::Read { number: 0, place: 0, count, rule, invert, boundary }, &numbers[..length.min(numbers.len())])
+    let count = held.as_ref().map(|(_, numbers)| numbers.len()).map_err(|&place| place);
+    let refused = of_read(count, length);
+    calls.add(called(count, length), 0);
+    let (due, numbers) = match (held, refused) {
+        (Ok((Choices { rule, invert, boundary }, numbers)), None) => {
+            let (rule, invert, boundary) = (*rule, *invert, *boundary);
+            (raw::Read { number: 0, place: 0, count: numbers.len() as u64, rule, invert, boundary }, &numbers[..])
+        }
+        _ => {
+            let Refusal { number, place } = refused.expect("what is not read is refused");
+            (raw::Read { number, place, count: 0, rule: 0, invert: 0, boundary: 0 }, &[][..])
         }
     };
     let mut lent = Lent::new(length, random, |noise| noise as i32);
@@ -38,4 +60,17 @@ fn on_list(
     }
     let [expected, got] = lent.show(numbers);
     Err([format!("{due:?}, {expected}"), format!("{returned:?}, {got}")])
+}
+
+/// Which of the calls it is: of a text with so many numbers, or a bad line, on a list of this length.
+fn called(count: Result<usize, u64>, length: usize) -> &'static str {
+    let kind = match count {
+        Err(_) => 5,
+        Ok(count) if length == count => 0,
+        Ok(count) if length > count => 1,
+        Ok(count) if length + 1 == count => 2,
+        Ok(_) if length == 0 => 3,
+        Ok(_) => 4,
+    };
+    CALLS[kind]
 }

@@ -44,8 +44,9 @@ const KINDS: [(usize, MakeLine); 10] = [
 /// What a run can be refused with that lends lists long enough.
 const NUMBERS: [u64; 9] = [2, 3, 4, 5, 6, 7, 8, 9, 10];
 
-/// Lines stay short enough for a program that reads them one by one.
+/// Lines stay short enough for a program that reads them one by one: those of drawings, and of lists of points.
 const MOST_NUMBERS: usize = 900;
+const MOST_COORDINATES: usize = 150;
 
 pub fn store(seed: u64, folder: &Path) -> bool {
     let makers = KINDS.into_iter().flat_map(|(count, make)| (0..count).map(move |place| (make, place)));
@@ -219,7 +220,7 @@ fn short_list(number: u64, random: &mut Random) -> Vec<i32> {
         let kind = &point_lists::KINDS[random.below(point_lists::KINDS.len())];
         let numbers = kind.numbers(random);
         let refused = of_split(&numbers, [2 * MOST_POINTS, MOST_POINTS, 0]);
-        if numbers.len() <= MOST_NUMBERS / 6 && refused.map_or(0, |refusal| refusal.number) == number {
+        if numbers.len() <= MOST_COORDINATES && refused.map_or(0, |refusal| refusal.number) == number {
             return numbers;
         }
     }

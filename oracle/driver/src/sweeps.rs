@@ -74,7 +74,7 @@ fn drawn(place: usize) -> String {
             break (numbers, fills);
         }
     };
-    let segments: Vec<_> = numbers.chunks_exact(WIDTH).map(|six| format!("segment {}", words(six))).collect();
+    let segments: Vec<_> = numbers.chunks_exact(WIDTH).map(|segment| format!("segment {}", words(segment))).collect();
     let fills: Vec<_> = fills.iter().map(|fill| format!("{fill} ∷ ")).collect();
     format!(
         "\nabbrev drawn{place} : Drawn\ndrawn{place} = record {{\n  rule = pos {rule};\n  numbers = {};\n  fills = {}[];\n}}\n",

@@ -1,5 +1,6 @@
 //! How many drawings, calls and runs of each kind there were.
 
+use crate::both;
 use crate::choices::{Choices, SliceChoices};
 use crate::drawing::WIDTH;
 use crate::marks;
@@ -24,6 +25,8 @@ pub struct Tally {
     /// Accepted drawings asked what cleared them of wrong meetings, and those that only the search over pairs did.
     asked: usize,
     searched: usize,
+    /// The calls of both clip runs at once.
+    both: Table<&'static str, 1>,
     /// The clip and slice runs of accepted drawings.
     clips: Table<&'static str, 4>,
     slices: Table<&'static str, 4>,
@@ -62,6 +65,11 @@ impl Tally {
         self.searched += usize::from(by_search);
     }
 
+    /// A call of both clip runs at once, by its name.
+    pub fn add_both(&mut self, name: &'static str) {
+        self.both.add(name, 0);
+    }
+
     /// A clip run of an accepted drawing and which marks it has.
     pub fn add_clip(&mut self, choices: Choices, marks: [bool; marks::CLIP.len()]) {
         let [rule, invert, boundary] = choices.list().map(|choice| choice as usize);
@@ -83,6 +91,7 @@ impl Tally {
         self.calls.merge(other.calls);
         self.asked += other.asked;
         self.searched += other.searched;
+        self.both.merge(other.both);
         self.clips.merge(other.clips);
         self.slices.merge(other.slices);
         self.clip_marks.merge(other.clip_marks);
@@ -99,7 +108,8 @@ impl Tally {
         let sizes = self.sizes.lacking(&SIZES).map(|size| format!("n = {size}"));
         let choices = self.clips.lacking(FILTERS.as_flattened()).chain(self.slices.lacking(&DIRECTIONS));
         let marks = self.clip_marks.lacking(&marks::CLIP).chain(self.slice_marks.lacking(&marks::SLICE));
-        refusals.chain(sizes).chain(choices.chain(marks).map(|name| name.to_string())).collect()
+        let both = self.both.lacking(&both::CALLS).map(|name| format!("measure_clip_both with {name}"));
+        refusals.chain(sizes).chain(choices.chain(marks).map(|name| name.to_string())).chain(both).collect()
     }
 
     pub fn print(&self) {
@@ -110,6 +120,7 @@ impl Tally {
         println!("{} slices find no move: refusal {NO_MOVE}", self.calls.sum_of(&NO_MOVE));
         let (asked, searched) = (self.asked, self.searched);
         println!("{asked} accepted drawings cleared of wrong meetings, {searched} of them by the search over pairs\n");
+        self.both.print("measure_clip_both with", ["calls"]);
         self.clips.print("clip runs by rule", ["0", "1", "2", "3"]);
         self.clip_marks.print("clip runs with", ["runs"]);
         self.slices.print("slice runs by rule", ["0", "1", "2", "3"]);

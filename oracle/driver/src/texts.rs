@@ -3,7 +3,7 @@
 use crate::choices::{Choices, MOST};
 use crate::damage;
 use crate::damage_text::{damaged, ALPHABET};
-use crate::drawing::{comma_text, MOST_SEGMENTS};
+use crate::drawing::{comma_text, commas, MOST_SEGMENTS, WIDTH};
 use crate::generate::{JOINED, SCATTERED};
 use crate::grow::grown;
 use crate::random::Random;
@@ -71,8 +71,9 @@ fn with_many_segments(random: &mut Random) -> Vec<u8> {
     let mut text = of_drawing(random);
     let lines = text.iter().filter(|&&byte| byte == b'\n').count();
     let most = 1 + MOST_SEGMENTS + random.pick(&[0, 1, 1]);
-    text.extend(b"0,0,0,0,0,0\n".repeat(most.saturating_sub(lines)));
-    text.extend(random.pick(&["", "\n", "0\n", "0,0,0,0,0,0"]).as_bytes());
+    let zeros = commas(&[0; WIDTH]);
+    text.extend(format!("{zeros}\n").repeat(most.saturating_sub(lines)).as_bytes());
+    text.extend(random.pick(&["", "\n", "0\n", &zeros]).as_bytes());
     text
 }
 

@@ -1,10 +1,10 @@
 //! Drawings to slice and points to split that are always tried: document 01's, and others where it is easy to go wrong.
 
 use crate::choices::SliceChoices;
-use crate::drawing::{flat, Point, FARTHEST, MOST_POINTS};
+use crate::drawing::{flat, Point, FARTHEST, MOST_POINTS, WIDTH};
 
 /// Document 01's case A.
-const A: [i32; 54] = [
+const A: [i32; 9 * WIDTH] = [
     -5, 5, 0, 5, 0, 1, 0, 0, 0, 5, -1, 0, 0, 0, 10, 0, 1, 0, 0, 5, 0, 10, -1, 0, 0, 5, 10, 5, 0, 1, 0, 10, 10, 10, -1,
     0, 10, 0, 10, 5, 1, 0, 10, 5, 10, 10, 1, 0, 10, 5, 15, 5, 0, 1,
 ];

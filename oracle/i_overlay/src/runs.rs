@@ -1,4 +1,4 @@
-//! The runs of document 01 on a drawing of six numbers a segment, by the unchanged Rust.
+//! The runs of document 01 on a drawing, by the unchanged Rust.
 //! Nothing is checked here: a drawing comes in accepted.
 
 use crate::build::{self, StringBuilder};
@@ -14,6 +14,9 @@ use crate::string::rule::StringRule;
 use i_float::int::point::IntPoint;
 use i_shape::int::path::{IntPath, take_made};
 use std::panic::{AssertUnwindSafe, catch_unwind, resume_unwind};
+
+/// How many numbers a segment has.
+pub(crate) const WIDTH: usize = 6;
 
 pub type Points = Vec<(i32, i32)>;
 
@@ -42,7 +45,7 @@ pub struct Drawing {
 impl Drawing {
     pub fn new(numbers: &[i32], scan: Scan) -> Self {
         Self {
-            segments: numbers.chunks_exact(6).map(segment).collect(),
+            segments: numbers.chunks_exact(WIDTH).map(segment).collect(),
             builder: StringBuilder::new(),
             solver: match scan {
                 Scan::Chosen => Solver::default(),
@@ -94,10 +97,10 @@ pub fn split(points: &[(i32, i32)], min_area: u64) -> Vec<Points> {
     string::loops(path, min_area).into_iter().map(pairs).collect()
 }
 
-fn segment(six: &[i32]) -> Segment<ShapeCountString, i32> {
+fn segment(of: &[i32]) -> Segment<ShapeCountString, i32> {
     Segment {
-        x_segment: XSegment { a: IntPoint::new(six[0], six[1]), b: IntPoint::new(six[2], six[3]) },
-        count: ShapeCountString { subj: six[4], clip: six[5] as u8 },
+        x_segment: XSegment { a: IntPoint::new(of[0], of[1]), b: IntPoint::new(of[2], of[3]) },
+        count: ShapeCountString { subj: of[4], clip: of[5] as u8 },
         data: (),
     }
 }

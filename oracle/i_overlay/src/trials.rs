@@ -1,11 +1,12 @@
 //! Document 01's trial drawings: they show that the stand-ins are what it means.
 
 use crate::core::fill_rule::FillRule;
+use crate::runs::WIDTH;
 use crate::string::clip::{ClipRule, IntClip};
 use crate::{Contour, Drawing, Scan, split};
 use i_float::int::point::IntPoint;
 
-const A: [i32; 54] = [
+const A: [i32; 9 * WIDTH] = [
     -5, 5, 0, 5, 0, 1, 0, 0, 0, 5, -1, 0, 0, 0, 10, 0, 1, 0, 0, 5, 0, 10, -1, 0, 0, 5, 10, 5, 0, 1, 0, 10, 10, 10, -1,
     0, 10, 0, 10, 5, 1, 0, 10, 5, 10, 10, 1, 0, 10, 5, 15, 5, 0, 1,
 ];
