@@ -12,17 +12,11 @@ use Rattle.geom.specs.Points.{eqP}
 use Rattle.geom.proofs.Points.{eqP-true}
 use Rattle.lists.specs.UpFrom.{upFrom}
 use Rattle.lists.proofs.Entries.{getD-map}
-use Rattle.lists.proofs.UpFrom.{length-upFrom, upFrom-++}
+use Rattle.lists.proofs.UpFrom.{length-upFrom, upFrom-++, upFrom-at}
 use Rattle.contour.specs.Points.{origin}
 use Rattle.bin_store.specs.Sightings.{Sighting, sighting, isSighted, numberOf}
 use Rattle.bin_store.specs.Bins.{pointOf, memory, Unseen}
 use Rattle.bin_store.proofs.Sightings.{unsighted, sighted-at, number-at}
-
-at-upFrom : (k n i : ℕ) → i < n → getD (upFrom k n) i 0 ≡ k + i
-unfolding upFrom
-at-upFrom k zero i h = absurd (omega arith)
-at-upFrom k (suc n) zero h = omega arith
-at-upFrom k (suc n) (suc i) h = omega (arith, at-upFrom (suc k) n i (omega arith))
 
 map-upFrom : {A : Type 0} (f g : ℕ → A) (k n : ℕ) → ((i : ℕ) → i < k + n → f i ≡ g i) → map f (upFrom k n) ≡ map g (upFrom k n)
 unfolding upFrom
@@ -42,7 +36,7 @@ module _ (count : ℕ) (seen : List ℤ) (numbers : List ℕ) where
   unfolding memory
   memory-at i h =
       let k : i < length (upFrom 0 count) = omega (arith, length-upFrom 0 count) in
-      let e : getD (upFrom 0 count) i 0 ≡ i = omega (arith, at-upFrom 0 count i h) in
+      let e : getD (upFrom 0 count) i 0 ≡ i = omega (arith, upFrom-at 0 count i h) in
       getD-map (λ i. sighting (pointOf seen i) (getD numbers i 0)) (upFrom 0 count) i 0 nobody k ∙ ap (λ i. sighting (pointOf seen i) (getD numbers i 0)) e
 
   point-at : (i : ℕ) → i < count → (p : Point) → eqP (getD (memory count seen numbers) i nobody .point) p ≡ eqP (pointOf seen i) p

@@ -4,6 +4,7 @@ mod run;
 
 pub use links::Filter;
 pub use links::filter_of;
+pub use links::keeps_sides;
 pub use links::masked_bits;
 pub use run::Filled;
 pub use run::fills;

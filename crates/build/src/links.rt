@@ -34,7 +34,7 @@ pub fn filter_of(invert: i32, boundary: i32) -> Filter
 }
 
 // Whether a line with this many sides filled is kept.
-fn keeps_sides(filter: Filter, ones: u32) -> bool
+pub fn keeps_sides(filter: Filter, ones: u32) -> bool
     ensures { λ r. ⌜ r ≡ keepsSides filter ones ⌝ }
 {
     match filter {

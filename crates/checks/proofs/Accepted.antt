@@ -21,8 +21,7 @@ use Rattle.refusal.proofs.Order.{accepted-then, is-accepted}
 use Rattle.segm.specs.declared.Segment.{Segment}
 use Rattle.segm.specs.Segments.{Drawing, count, segments, nowhere, segmentAt}
 use Rattle.segm.proofs.Segments.{everywhere, total-none}
-use Rattle.faults.specs.Faultless.{Proper}
-use Rattle.faults.proofs.Faultless.{faultless, proper-in}
+use Rattle.faults.proofs.Faultless.{faultless}
 use Rattle.meetings.specs.Meetings.{sameEnds}
 use Rattle.meetings.proofs.Apart.{apart-ends, same-ends-sym}
 use Rattle.balance.specs.Balance.{balance, balances}
@@ -97,10 +96,6 @@ module _ (numbers : List ℤ) (rule invert boundary : ℤ) (e : accepts numbers 
   accepted-run choices lists known long =
       let p = passed _ accepted-input in
       passes _ (record { asks = record { right-length = p .asks .right-length; known = known; long = long }; drawing = p .drawing })
-
--- its segments, one by one
-pub good-proper : (d : Drawing) → Good d → (s : Segment) → s ∈ d → Proper s
-good-proper d g = proper-in (g .faultless)
 
 -- ---- in a good drawing two different places never have both ends equal
 module _ (d : Drawing) (g : Good d) where

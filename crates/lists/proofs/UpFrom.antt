@@ -29,6 +29,12 @@ unfolding upFrom
 length-upFrom k zero = refl
 length-upFrom k (suc n) = ap suc (length-upFrom (suc k) n)
 
+pub upFrom-at : (k n i : ℕ) → i < n → getD (upFrom k n) i 0 ≡ k + i
+unfolding upFrom
+upFrom-at k zero i h = absurd (omega arith)
+upFrom-at k (suc n) zero h = omega arith
+upFrom-at k (suc n) (suc i) h = omega (arith, upFrom-at (suc k) n i (omega arith))
+
 pub upFrom-++ : (k m n : ℕ) → upFrom k (m + n) ≡ upFrom k m ++ upFrom (k + m) n
 unfolding upFrom
 upFrom-++ k zero n = let e : k + 0 ≡ k = omega arith in let f : 0 + n ≡ n = omega arith in rw (e, f)

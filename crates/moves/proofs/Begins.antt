@@ -1,6 +1,6 @@
 -- The first move whose bit remains, and the lowest link of which a bit does.
 use mathlib.Core.Path.{_≡_, refl, sym, _∙_, ap, subst}
-use mathlib.Core.List.{List, [], _∷_}
+use mathlib.Core.List.{List, [], _∷_, _++_}
 use mathlib.Core.Logic.{_⊎_, inl, inr}
 use mathlib.Core.Option.{none, some}
 use mathlib.Core.Bool.{Bool, true, false, cond}
@@ -20,6 +20,12 @@ use Rattle.moves.specs.Begins.{firstRemaining, bothMoves, begins}
 use Rattle.moves.specs.Worth.{worth}
 use Rattle.moves.proofs.Bits.{none-set, second-set}
 use Rattle.moves.proofs.Worth.{worth-none}
+
+-- ---- joined lists of links
+pub both-++ : (k l : List ℕ) → bothMoves (k ++ l) ≡ bothMoves k ++ bothMoves l
+unfolding bothMoves
+both-++ [] l = refl
+both-++ (j ∷ k) l = ap (λ (ms : List Move). move j true ∷ move j false ∷ ms) (both-++ k l)
 
 -- ---- the first of a list of moves
 pub first-some : (bits : List ℕ) (l : List Move) (m : Move) → firstRemaining bits l ≡ some m → (m ∈ l) × (remains bits m ≡ true)

@@ -5,7 +5,7 @@ ghost use mathlib.Core.Path.{_≡_};
 ghost use mathlib.Core.List.{_++_};
 ghost use Prim.Native.Nat.{_+_, _*_, _≤_, _<_};
 ghost use lib.ListN.{length, take, drop};
-ghost use Rattle.segm.specs.Segments.{width, count, whole, segments, segmentAt, numbersOf};
+ghost use Rattle.segm.specs.Segments.{width, count, segments, segmentAt, numbersOf};
 
 // A segment from a to b, a being the lesser. The winding is positive when the outline runs from a to b. Of the line bits, 1 is a line drawn from a to b and 2 one from b to a.
 pub struct Segment {
@@ -32,13 +32,6 @@ pub fn count(s: &[i32]) -> usize
     ensures { λ r. ⌜ r ≡ count (now (s .entry)) ⌝ }
 {
     s.len() / WIDTH
-}
-
-// Whether s holds whole segments only.
-pub fn is_whole(s: &[i32]) -> bool
-    ensures { λ r. ⌜ r ≡ whole (now (s .entry)) ⌝ }
-{
-    s.len() % WIDTH == 0
 }
 
 // The segment at place i of those that s has. Without a test, as the sweep takes most of its time for these reads.

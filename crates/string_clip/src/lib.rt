@@ -7,6 +7,7 @@ use build::Filter;
 use fill_rule::Rule;
 use refusal::Verdict;
 use run::clip_links;
+pub use sums::lines;
 ghost use mathlib.Core.Path.{_≡_};
 ghost use mathlib.Core.Bool.{true};
 ghost use mathlib.Core.Logic.{_↔_};

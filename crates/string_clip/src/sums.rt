@@ -12,7 +12,7 @@ ghost use Rattle.moves.specs.Bits.{bitsSet};
 ghost use Rattle.string_clip.specs.Writing.{travelOver};
 
 // How many line bits are set.
-fn lines(bits: u8) -> u64
+pub fn lines(bits: u8) -> u64
     ensures { λ r. ⌜ r ≡ bitsSet bits ⌝ }
 {
     (bits % 2 + bits / 2 % 2) as u64
