@@ -1,12 +1,10 @@
 -- A run's answer and its verdict; and the one verdict of two runs whose lists are long enough.
-use mathlib.Core.Path.{_≡_, refl, sym, _∙_, ap, ap₂}
+use mathlib.Core.Path.{_≡_, refl, sym, _∙_, ap₂}
 use mathlib.Core.List.{List, [], _∷_}
 use mathlib.Core.Bool.{Bool}
 use Prim.Native.Nat.{ℕ}
-use native.Mathlib.Omega.{arith}
 use lib.ListN.{length}
 use lib.IntN.{ℤ, pos}
-use Rattle.geom.specs.declared.Point.{Point}
 use Rattle.geom.specs.Points.{within}
 use Rattle.lists.specs.Members.{any}
 use Rattle.segm.specs.Segments.{width, segments}
@@ -24,34 +22,14 @@ use Rattle.build.specs.Links.{filterOf}
 use Rattle.string_clip.specs.declared.Totals.{Totals}
 use Rattle.string_clip.specs.declared.Clipped.the-variants.{Done, Refused}
 use Rattle.string_clip.specs.Paths.{clipPaths}
-use Rattle.string_clip.specs.Run.{totals, Lists, lists, runOf, Outcome, outcome, answered, clipOutcome}
+use Rattle.string_clip.specs.Run.{totals, Lists, lists, runOf, outcome, answered, clipOutcome}
 use Rattle.string_clip.specs.Claim.{Room}
 use Rattle.string_clip.proofs.Together.{accepted-outcome, room-long}
 
 -- ---- one run
-pub not-both : {X : Type 0} {t : Totals} {number place : ℕ} → Refused number place ≡ Done t → X
-not-both e = let z : _≡_ {A = ℕ} 0 1 = cc in let bad : ⊥ = omega arith in absurd bad
-
--- the verdict behind an answer
-accepted-by : (v : Verdict) (paths : List (List Point)) (ls : Lists) {t : Totals} → Done t ≡ answered v paths ls .answer → v ≡ verdict-is.Accepted
-accepted-by verdict-is.Accepted paths ls e = refl
-accepted-by (verdict-is.Refused number place) paths ls e = not-both (sym e)
-
-refused-by : (v : Verdict) (paths : List (List Point)) (ls : Lists) {number place : ℕ} → Refused number place ≡ answered v paths ls .answer → v ≡ verdict-is.Refused number place
-refused-by verdict-is.Accepted paths ls e = not-both e
-refused-by (verdict-is.Refused number place) paths ls e = cc
-
 module _ (numbers : List ℤ) (rule invert boundary : ℤ) (ls : Lists) where
   abbrev pub said : Verdict
   said = verdict (runOf numbers rule invert boundary ls)
-
-  done-accepted : {t : Totals} {after : Lists} → outcome (Done t) after ≡ clipOutcome numbers rule invert boundary ls → said ≡ verdict-is.Accepted
-  unfolding clipOutcome
-  done-accepted e = accepted-by said _ ls (ap (λ (o : Outcome). o .answer) e)
-
-  refused-verdict : {number place : ℕ} {after : Lists} → outcome (Refused number place) after ≡ clipOutcome numbers rule invert boundary ls → said ≡ verdict-is.Refused number place
-  unfolding clipOutcome
-  refused-verdict e = refused-by said _ ls (ap (λ (o : Outcome). o .answer) e)
 
   -- the answer to a verdict: what was written, or nothing
   pub accepted-answer : said ≡ verdict-is.Accepted → {q : Rule} {f : Filter} {t : Totals} {points : List ℤ} {lengths : List ℕ} → q ≡ ruleOf rule → f ≡ filterOf invert boundary
@@ -75,10 +53,3 @@ module _ (numbers : List ℤ) (rule boundary : ℤ) (ls₀ ls₁ : Lists) (r₀ 
   pub one-verdict : said numbers rule (pos 1) boundary ls₁ ≡ said numbers rule (pos 0) boundary ls₀
   unfolding verdict asked clipRun
   one-verdict = ap₂ (λ (unknown short : Bool). askedFirst (wrongLength width 1024 (length numbers)) unknown short then drawingVerdict (segments numbers)) as-known (room-long numbers ls₁ r₁ ∙ sym (room-long numbers ls₀ r₀))
-
-  pub outside-accepted : {t : Totals} {after : Lists} → outcome (Done t) after ≡ clipOutcome numbers rule (pos 0) boundary ls₀ → said numbers rule (pos 1) boundary ls₁ ≡ verdict-is.Accepted
-  outside-accepted e = one-verdict ∙ done-accepted numbers rule (pos 0) boundary ls₀ e
-
-  pub outside-refused : {number place : ℕ} {after : Lists} → outcome (Refused number place) after ≡ clipOutcome numbers rule (pos 0) boundary ls₀
-      → outcome (Refused number place) ls₁ ≡ clipOutcome numbers rule (pos 1) boundary ls₁
-  outside-refused e = refused-answer numbers rule (pos 1) boundary ls₁ (one-verdict ∙ refused-verdict numbers rule (pos 0) boundary ls₀ e)

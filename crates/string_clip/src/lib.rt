@@ -15,10 +15,10 @@ ghost use Prim.Native.Nat.{_*_, _≤_};
 ghost use lib.ListN.{length};
 ghost use lib.IntN.{pos};
 ghost use Rattle.refusal.specs.declared.Verdict.the-variants.{Accepted};
-ghost use Rattle.segm.specs.Segments.{segments};
+ghost use Rattle.segm.specs.Segments.{count, segments};
 ghost use Rattle.contour.specs.Points.{Writes};
 ghost use Rattle.checks.specs.Accepted.{Good};
-ghost use Rattle.checks.specs.Runs.{verdict};
+ghost use Rattle.checks.specs.Runs.{asked, verdict};
 ghost use Rattle.checks.specs.Memory.{Prepared};
 ghost use Rattle.string_clip.specs.Paths.{clipPaths};
 ghost use Rattle.string_clip.specs.Run.{totals, lists, runOf, outcome, clipOutcome};
@@ -124,67 +124,29 @@ fn clip_by(
     }
 }
 
-// The cut lines inside (invert 0) or outside (invert 1), as x, y pairs and one length a path, or the refusal. It owns the run's memory, for a small drawing or
-// for any.
-pub fn clip(
-    numbers: &[i32],
+// The run of a small drawing, of which this was asked first. It owns the run's memory.
+fn clip_small(
+    before: Verdict,
+    s: &[i32],
     rule: i32,
     invert: i32,
     boundary: i32,
     points: &mut [i32],
     lengths: &mut [u32],
 ) -> Clipped
-    ensures { λ r. ⌜ outcome r (lists (now (points .exit)) (now (lengths .exit))) ≡ clipOutcome (now (numbers .entry)) rule invert boundary (lists (now (points .entry)) (now (lengths .entry))) ⌝ }
+    requires { ⌜ (count (now s) ≤ 128) × (before ≡ asked (runOf (now s) rule invert boundary (lists (now points) (now lengths)))) ⌝ }
+    ensures { λ r. ⌜ outcome r (lists (now (points .exit)) (now (lengths .exit))) ≡ clipOutcome (now (s .entry)) rule invert boundary (lists (now (points .entry)) (now (lengths .entry))) ⌝ }
 {
-    let asked = checks::ask_clip(numbers, rule, invert, boundary, points.len(), lengths.len());
-    if segm::count(numbers) <= segm::SMALL {
-        let mut flat = [0u16; ends::SMALL];
-        let mut starts = [0u16; graph::SMALL_STARTS];
-        let mut nodes = [0u16; ends::SMALL];
-        let mut tops = [0i32; segm::SMALL];
-        let mut bits = [0u8; segm::SMALL];
-        let mut moves = [0u16; ends::SMALL];
-        let checked = checks::check_small(
-            asked,
-            numbers,
-            &mut flat,
-            &mut starts,
-            &mut nodes,
-            &mut tops,
-        );
-        return clip_by(
-            checked,
-            numbers,
-            rule,
-            invert,
-            boundary,
-            &flat,
-            &starts,
-            &nodes,
-            &tops,
-            &mut bits,
-            &mut moves,
-            points,
-            lengths,
-        );
-    }
-    let mut flat = [0u16; ends::MOST];
-    let mut starts = [0u16; graph::STARTS];
-    let mut nodes = [0u16; ends::MOST];
-    let mut tops = [0i32; segm::MOST];
-    let mut bits = [0u8; segm::MOST];
-    let mut moves = [0u16; ends::MOST];
-    let checked = checks::check_any(
-        asked,
-        numbers,
-        &mut flat,
-        &mut starts,
-        &mut nodes,
-        &mut tops,
-    );
+    let mut flat = [0u16; ends::SMALL];
+    let mut starts = [0u16; graph::SMALL_STARTS];
+    let mut nodes = [0u16; ends::SMALL];
+    let mut tops = [0i32; segm::SMALL];
+    let mut bits = [0u8; segm::SMALL];
+    let mut moves = [0u16; ends::SMALL];
+    let checked = checks::check_small(before, s, &mut flat, &mut starts, &mut nodes, &mut tops);
     clip_by(
         checked,
-        numbers,
+        s,
         rule,
         invert,
         boundary,
@@ -197,6 +159,61 @@ pub fn clip(
         points,
         lengths,
     )
+}
+
+// The same of any drawing.
+fn clip_any(
+    before: Verdict,
+    s: &[i32],
+    rule: i32,
+    invert: i32,
+    boundary: i32,
+    points: &mut [i32],
+    lengths: &mut [u32],
+) -> Clipped
+    requires { ⌜ before ≡ asked (runOf (now s) rule invert boundary (lists (now points) (now lengths))) ⌝ }
+    ensures { λ r. ⌜ outcome r (lists (now (points .exit)) (now (lengths .exit))) ≡ clipOutcome (now (s .entry)) rule invert boundary (lists (now (points .entry)) (now (lengths .entry))) ⌝ }
+{
+    let mut flat = [0u16; ends::MOST];
+    let mut starts = [0u16; graph::STARTS];
+    let mut nodes = [0u16; ends::MOST];
+    let mut tops = [0i32; segm::MOST];
+    let mut bits = [0u8; segm::MOST];
+    let mut moves = [0u16; ends::MOST];
+    let checked = checks::check_any(before, s, &mut flat, &mut starts, &mut nodes, &mut tops);
+    clip_by(
+        checked,
+        s,
+        rule,
+        invert,
+        boundary,
+        &flat,
+        &starts,
+        &nodes,
+        &tops,
+        &mut bits,
+        &mut moves,
+        points,
+        lengths,
+    )
+}
+
+// The cut lines inside (invert 0) or outside (invert 1), as x, y pairs and one length a path, or the refusal.
+pub fn clip(
+    numbers: &[i32],
+    rule: i32,
+    invert: i32,
+    boundary: i32,
+    points: &mut [i32],
+    lengths: &mut [u32],
+) -> Clipped
+    ensures { λ r. ⌜ outcome r (lists (now (points .exit)) (now (lengths .exit))) ≡ clipOutcome (now (numbers .entry)) rule invert boundary (lists (now (points .entry)) (now (lengths .entry))) ⌝ }
+{
+    let asked = checks::ask_clip(numbers, rule, invert, boundary, points.len(), lengths.len());
+    if segm::count(numbers) <= segm::SMALL {
+        return clip_small(asked, numbers, rule, invert, boundary, points, lengths);
+    }
+    clip_any(asked, numbers, rule, invert, boundary, points, lengths)
 }
 
 // Whether lent lists are long enough for a drawing.
@@ -231,8 +248,9 @@ fn both_by(
         × ClipRoom d (now bits) (now moves)
         × Room (now s) (lists (now «inside_points») (now «inside_lengths»))
         × Room (now s) (lists (now «outside_points») (now «outside_lengths»))) ⌝ }
-    ensures { λ r. ⌜ (outcome (r .inside) (lists (now («inside_points» .exit)) (now («inside_lengths» .exit))) ≡ clipOutcome (now (s .entry)) rule (pos 0) boundary (lists (now («inside_points» .entry)) (now («inside_lengths» .entry))))
-        × (outcome (r .outside) (lists (now («outside_points» .exit)) (now («outside_lengths» .exit))) ≡ clipOutcome (now (s .entry)) rule (pos 1) boundary (lists (now («outside_points» .entry)) (now («outside_lengths» .entry)))) ⌝ }
+    ensures { λ r. ⌜ Together (now (s .entry)) rule boundary
+        (outcome (r .inside) (lists (now («inside_points» .exit)) (now («inside_lengths» .exit)))) (lists (now («inside_points» .entry)) (now («inside_lengths» .entry)))
+        (outcome (r .outside) (lists (now («outside_points» .exit)) (now («outside_lengths» .exit)))) (lists (now («outside_points» .entry)) (now («outside_lengths» .entry))) ⌝ }
 {
     let inside = clip_by(
         checked,
@@ -270,7 +288,89 @@ fn both_by(
     }
 }
 
-// The same by one check. It owns the memory of the two runs, for a small drawing or for any.
+// Both runs of a small drawing, of which this was asked first. It owns their memory.
+fn both_small(
+    before: Verdict,
+    s: &[i32],
+    rule: i32,
+    boundary: i32,
+    inside_points: &mut [i32],
+    inside_lengths: &mut [u32],
+    outside_points: &mut [i32],
+    outside_lengths: &mut [u32],
+) -> Both
+    requires { ⌜ (count (now s) ≤ 128) × (before ≡ asked (runOf (now s) rule (pos 0) boundary (lists (now «inside_points») (now «inside_lengths»)))) × Room (now s) (lists (now «inside_points») (now «inside_lengths»)) × Room (now s) (lists (now «outside_points») (now «outside_lengths»)) ⌝ }
+    ensures { λ r. ⌜ Together (now (s .entry)) rule boundary
+        (outcome (r .inside) (lists (now («inside_points» .exit)) (now («inside_lengths» .exit)))) (lists (now («inside_points» .entry)) (now («inside_lengths» .entry)))
+        (outcome (r .outside) (lists (now («outside_points» .exit)) (now («outside_lengths» .exit)))) (lists (now («outside_points» .entry)) (now («outside_lengths» .entry))) ⌝ }
+{
+    let mut flat = [0u16; ends::SMALL];
+    let mut starts = [0u16; graph::SMALL_STARTS];
+    let mut nodes = [0u16; ends::SMALL];
+    let mut tops = [0i32; segm::SMALL];
+    let mut bits = [0u8; segm::SMALL];
+    let mut moves = [0u16; ends::SMALL];
+    let checked = checks::check_small(before, s, &mut flat, &mut starts, &mut nodes, &mut tops);
+    both_by(
+        checked,
+        s,
+        rule,
+        boundary,
+        &flat,
+        &starts,
+        &nodes,
+        &tops,
+        &mut bits,
+        &mut moves,
+        inside_points,
+        inside_lengths,
+        outside_points,
+        outside_lengths,
+    )
+}
+
+// The same of any drawing.
+fn both_any(
+    before: Verdict,
+    s: &[i32],
+    rule: i32,
+    boundary: i32,
+    inside_points: &mut [i32],
+    inside_lengths: &mut [u32],
+    outside_points: &mut [i32],
+    outside_lengths: &mut [u32],
+) -> Both
+    requires { ⌜ (before ≡ asked (runOf (now s) rule (pos 0) boundary (lists (now «inside_points») (now «inside_lengths»)))) × Room (now s) (lists (now «inside_points») (now «inside_lengths»)) × Room (now s) (lists (now «outside_points») (now «outside_lengths»)) ⌝ }
+    ensures { λ r. ⌜ Together (now (s .entry)) rule boundary
+        (outcome (r .inside) (lists (now («inside_points» .exit)) (now («inside_lengths» .exit)))) (lists (now («inside_points» .entry)) (now («inside_lengths» .entry)))
+        (outcome (r .outside) (lists (now («outside_points» .exit)) (now («outside_lengths» .exit)))) (lists (now («outside_points» .entry)) (now («outside_lengths» .entry))) ⌝ }
+{
+    let mut flat = [0u16; ends::MOST];
+    let mut starts = [0u16; graph::STARTS];
+    let mut nodes = [0u16; ends::MOST];
+    let mut tops = [0i32; segm::MOST];
+    let mut bits = [0u8; segm::MOST];
+    let mut moves = [0u16; ends::MOST];
+    let checked = checks::check_any(before, s, &mut flat, &mut starts, &mut nodes, &mut tops);
+    both_by(
+        checked,
+        s,
+        rule,
+        boundary,
+        &flat,
+        &starts,
+        &nodes,
+        &tops,
+        &mut bits,
+        &mut moves,
+        inside_points,
+        inside_lengths,
+        outside_points,
+        outside_lengths,
+    )
+}
+
+// Both runs by one check.
 fn both_at_once(
     numbers: &[i32],
     rule: i32,
@@ -281,74 +381,29 @@ fn both_at_once(
     outside_lengths: &mut [u32],
 ) -> Both
     requires { ⌜ Room (now numbers) (lists (now «inside_points») (now «inside_lengths»)) × Room (now numbers) (lists (now «outside_points») (now «outside_lengths»)) ⌝ }
-    ensures { λ r. ⌜ (outcome (r .inside) (lists (now («inside_points» .exit)) (now («inside_lengths» .exit))) ≡ clipOutcome (now (numbers .entry)) rule (pos 0) boundary (lists (now («inside_points» .entry)) (now («inside_lengths» .entry))))
-        × (outcome (r .outside) (lists (now («outside_points» .exit)) (now («outside_lengths» .exit))) ≡ clipOutcome (now (numbers .entry)) rule (pos 1) boundary (lists (now («outside_points» .entry)) (now («outside_lengths» .entry)))) ⌝ }
+    ensures { λ r. ⌜ Together (now (numbers .entry)) rule boundary
+        (outcome (r .inside) (lists (now («inside_points» .exit)) (now («inside_lengths» .exit)))) (lists (now («inside_points» .entry)) (now («inside_lengths» .entry)))
+        (outcome (r .outside) (lists (now («outside_points» .exit)) (now («outside_lengths» .exit)))) (lists (now («outside_points» .entry)) (now («outside_lengths» .entry))) ⌝ }
 {
-    let asked = checks::ask_clip(
-        numbers,
-        rule,
-        0,
-        boundary,
-        inside_points.len(),
-        inside_lengths.len(),
-    );
+    let points = inside_points.len();
+    let asked = checks::ask_clip(numbers, rule, 0, boundary, points, inside_lengths.len());
     if segm::count(numbers) <= segm::SMALL {
-        let mut flat = [0u16; ends::SMALL];
-        let mut starts = [0u16; graph::SMALL_STARTS];
-        let mut nodes = [0u16; ends::SMALL];
-        let mut tops = [0i32; segm::SMALL];
-        let mut bits = [0u8; segm::SMALL];
-        let mut moves = [0u16; ends::SMALL];
-        let checked = checks::check_small(
+        return both_small(
             asked,
-            numbers,
-            &mut flat,
-            &mut starts,
-            &mut nodes,
-            &mut tops,
-        );
-        return both_by(
-            checked,
             numbers,
             rule,
             boundary,
-            &flat,
-            &starts,
-            &nodes,
-            &tops,
-            &mut bits,
-            &mut moves,
             inside_points,
             inside_lengths,
             outside_points,
             outside_lengths,
         );
     }
-    let mut flat = [0u16; ends::MOST];
-    let mut starts = [0u16; graph::STARTS];
-    let mut nodes = [0u16; ends::MOST];
-    let mut tops = [0i32; segm::MOST];
-    let mut bits = [0u8; segm::MOST];
-    let mut moves = [0u16; ends::MOST];
-    let checked = checks::check_any(
+    both_any(
         asked,
-        numbers,
-        &mut flat,
-        &mut starts,
-        &mut nodes,
-        &mut tops,
-    );
-    both_by(
-        checked,
         numbers,
         rule,
         boundary,
-        &flat,
-        &starts,
-        &nodes,
-        &tops,
-        &mut bits,
-        &mut moves,
         inside_points,
         inside_lengths,
         outside_points,

@@ -2,10 +2,10 @@
 use borrow.Author.Needs.{needs}
 use mathlib.Core.Path.{sym, _∙_}
 use native.Mathlib.Omega.{arith}
-use lib.IntN.{pos}
 use mir.Facts.{toZ-ofZ}
-use Rattle.string_clip.specs.Run.{Lists, lists, clipOutcome}
+use Rattle.string_clip.specs.Run.{Lists, lists}
 use Rattle.string_clip.proofs.Answers.{one-verdict}
+use Rattle.string_clip.proofs.Together.{both-runs}
 use Rattle.string_clip.proofs.both_by.Statement.{statement}
 use Rattle.string_clip.proofs.both_by.Tie as tie
 
@@ -60,10 +60,10 @@ returns c =
     let s = c .before .before .before .before .before .before .before .before .before .before .before .before .before .before .before .before .before .before .before .before .before .before .before .before .before .before .before .before .before .before .before in
     let i = c .before .before .before .before .before .before .before .before .before .before .before .before .before .before .before .before .before .before .before in
     let o = c .before .before .before .before .before .before .before in
-    let a = s .args in (
-      i .clip-by .ensures ∙ (λ j. clipOutcome (a .s .now) (toZ-ofZ (s .fits .rule) j) (pos 0) (toZ-ofZ (s .fits .boundary) j) (ls₀ s)),
-      o .clip-by2 .ensures ∙ (λ j. clipOutcome (a .s .now) (toZ-ofZ (s .fits .rule) j) (pos 1) (toZ-ofZ (s .fits .boundary) j) (ls₁ s)),
-    )
+    let a = s .args in
+    both-runs (a .s .now) (a .rule) (a .boundary) _ (ls₀ s) _ (ls₁ s)
+    (rw (toZ-ofZ (s .fits .rule), toZ-ofZ (s .fits .boundary)) at (i .clip-by .ensures))
+    (rw (toZ-ofZ (s .fits .rule), toZ-ofZ (s .fits .boundary)) at (o .clip-by2 .ensures))
 
 pub both-by-spec : {M : Type 1} → statement M
 both-by-spec =

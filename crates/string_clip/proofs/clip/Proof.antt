@@ -1,16 +1,7 @@
 -- What is asked first, then the drawing, in memory for a small one or for any. Assumes nothing.
 use borrow.Author.Needs.{needs}
-use mathlib.Core.Path.{_≡_, sym, _∙_}
 use native.Mathlib.Omega.{arith}
-use Prim.Native.Nat.{_≤_}
 use mir.Facts.{toZ-ofZ}
-use Rattle.segm.specs.Segments.{count}
-use Rattle.segm.proofs.Segments.{length-segments}
-use Rattle.checks.specs.Runs.{Run, clipRun, asked}
-use Rattle.checks.proofs.Runs.{asked-few, checked-verdict}
-use Rattle.checks.proofs.Memory.{small-memory, any-memory}
-use Rattle.string_clip.specs.Run.{Lists, lists, runOf, clipOutcome}
-use Rattle.string_clip.proofs.Memory.{small-walk, any-walk}
 use Rattle.string_clip.proofs.clip.Statement.{statement}
 use Rattle.string_clip.proofs.clip.Tie as tie
 
@@ -20,70 +11,11 @@ ask-clip-requires c κs = search needs
 count-requires : tie.Need-count-requires
 count-requires c κs = search needs
 
-slice-aggregate-check-small : tie.Need-slice-aggregate-check-small
-slice-aggregate-check-small c = search needs
-
-slice-aggregate-check-small-2 : tie.Need-slice-aggregate-check-small-2
-slice-aggregate-check-small-2 c = search needs
-
-slice-aggregate-check-small-3 : tie.Need-slice-aggregate-check-small-3
-slice-aggregate-check-small-3 c = search needs
-
-slice-aggregate-check-small-4 : tie.Need-slice-aggregate-check-small-4
-slice-aggregate-check-small-4 c = search needs
-
--- what was asked first
-module _ (k : tie.After-ask-clip) where
-  abbrev s : tie.Start
-  s = k .before .before
-
-  abbrev ls : Lists
-  ls = lists (s .args .points .now) (s .args .lengths .now)
-
-  abbrev run : Run
-  run = runOf (s .args .numbers .now) (s .args .rule) (s .args .invert) (s .args .boundary) ls
-
-  asked-is : k .ask-clip .result ≡ asked run
-  asked-is = rw (toZ-ofZ (s .fits .rule), toZ-ofZ (s .fits .invert), toZ-ofZ (s .fits .boundary)) at (k .ask-clip .ensures)
-
-check-small-requires : tie.Need-check-small-requires
-check-small-requires c κs =
-    let s = c .before .before .before .before .before .before .before .before in
-    let n = c .before .before .before .before .before in
-    let t = c .before .before .before .before in
-    (omega (arith, length-segments (s .args .numbers .now), n .count .ensures, t .if1 .taken), small-memory (s .args .numbers .now) (omega (arith, n .count .ensures, t .if1 .taken)))
-
-slice-aggregate-clip-by : tie.Need-slice-aggregate-clip-by
-slice-aggregate-clip-by c = search needs
-
-slice-aggregate-clip-by-2 : tie.Need-slice-aggregate-clip-by-2
-slice-aggregate-clip-by-2 c = search needs
-
-slice-aggregate-clip-by-3 : tie.Need-slice-aggregate-clip-by-3
-slice-aggregate-clip-by-3 c = search needs
-
-slice-aggregate-clip-by-4 : tie.Need-slice-aggregate-clip-by-4
-slice-aggregate-clip-by-4 c = search needs
-
-slice-aggregate-clip-by-5 : tie.Need-slice-aggregate-clip-by-5
-slice-aggregate-clip-by-5 c = search needs
-
-slice-aggregate-clip-by-6 : tie.Need-slice-aggregate-clip-by-6
-slice-aggregate-clip-by-6 c = search needs
-
-clip-by-requires : tie.Need-clip-by-requires
-unfolding clipRun
-clip-by-requires c κs =
-    let k = c .before .before .before .before .before .before .before .before .before .before .before .before .before .before .before .before .before .before .before in
-    let n = c .before .before .before .before .before .before .before .before .before .before .before .before .before .before .before .before .before .before in
-    let t = c .before .before .before .before .before .before .before .before .before .before .before .before .before .before .before .before .before in
-    let v = c .before .before .before .before .before .before .before .before .before .before .before .before in
-    let few : count (s k .args .numbers .now) ≤ 128 = omega (arith, n .count .ensures, t .if1 .taken) in (
-      rw (toZ-ofZ (s k .fits .rule), toZ-ofZ (s k .fits .invert), toZ-ofZ (s k .fits .boundary)) (checked-verdict (run k) (asked-is k) (v .check-small .ensures .0)),
-      v .check-small .ensures .1,
-      λ h. omega (arith, length-segments (s k .args .numbers .now), few, v .check-small .kept .1 .1 .1 .1 .1 .0),
-      small-walk (s k .args .numbers .now) few,
-    )
+clip-small-requires : tie.Need-clip-small-requires
+clip-small-requires c κs =
+    let n = c .before .before .before in
+    let a = c .before .before .before .before in
+    (omega (arith, n .count .ensures, c .before .before .if1 .taken), a .ask-clip .ensures)
 
 same-length : tie.Need-same-length
 same-length c = search needs
@@ -93,57 +25,12 @@ same-length-2 c = search needs
 
 returns : tie.Need-returns
 returns c =
-    let w = c .before .before .before .before .before in
-    let s = c .before .before .before .before .before .before .before .before .before .before .before .before .before .before .before .before .before .before .before .before .before .before .before .before .before .before .before in
-    let a = s .args in
-    w .clip-by .ensures ∙ (λ i. clipOutcome (a .numbers .now) (toZ-ofZ (s .fits .rule) i) (toZ-ofZ (s .fits .invert) i) (toZ-ofZ (s .fits .boundary) i) (lists (a .points .now) (a .lengths .now)))
+    let s = c .before .before .before .before .before .before .before .before .before .before in
+    let k = c .before .before .before in
+    rw (toZ-ofZ (s .fits .rule), toZ-ofZ (s .fits .invert), toZ-ofZ (s .fits .boundary)) at (k .clip-small .ensures)
 
-slice-aggregate-check-any : tie.Need-slice-aggregate-check-any
-slice-aggregate-check-any c = search needs
-
-slice-aggregate-check-any-2 : tie.Need-slice-aggregate-check-any-2
-slice-aggregate-check-any-2 c = search needs
-
-slice-aggregate-check-any-3 : tie.Need-slice-aggregate-check-any-3
-slice-aggregate-check-any-3 c = search needs
-
-slice-aggregate-check-any-4 : tie.Need-slice-aggregate-check-any-4
-slice-aggregate-check-any-4 c = search needs
-
-check-any-requires : tie.Need-check-any-requires
-unfolding clipRun
-check-any-requires c κs =
-    let k = c .before .before .before .before .before .before in
-    (λ e. asked-few (run k) (sym (asked-is k) ∙ e), any-memory (s k .args .numbers .now))
-
-slice-aggregate-clip-by-7 : tie.Need-slice-aggregate-clip-by-7
-slice-aggregate-clip-by-7 c = search needs
-
-slice-aggregate-clip-by-8 : tie.Need-slice-aggregate-clip-by-8
-slice-aggregate-clip-by-8 c = search needs
-
-slice-aggregate-clip-by-9 : tie.Need-slice-aggregate-clip-by-9
-slice-aggregate-clip-by-9 c = search needs
-
-slice-aggregate-clip-by-10 : tie.Need-slice-aggregate-clip-by-10
-slice-aggregate-clip-by-10 c = search needs
-
-slice-aggregate-clip-by-11 : tie.Need-slice-aggregate-clip-by-11
-slice-aggregate-clip-by-11 c = search needs
-
-slice-aggregate-clip-by-12 : tie.Need-slice-aggregate-clip-by-12
-slice-aggregate-clip-by-12 c = search needs
-
-clip-by-requires-2 : tie.Need-clip-by-requires-2
-unfolding clipRun
-clip-by-requires-2 c κs =
-    let k = c .before .before .before .before .before .before .before .before .before .before .before .before .before .before .before .before .before .before .before in
-    let v = c .before .before .before .before .before .before .before .before .before .before .before .before in (
-      rw (toZ-ofZ (s k .fits .rule), toZ-ofZ (s k .fits .invert), toZ-ofZ (s k .fits .boundary)) (checked-verdict (run k) (asked-is k) (v .check-any .ensures .0)),
-      v .check-any .ensures .1,
-      λ h. omega (arith, h, v .check-any .kept .1 .1 .1 .1 .1 .0),
-      any-walk (s k .args .numbers .now),
-    )
+clip-any-requires : tie.Need-clip-any-requires
+clip-any-requires c κs = let a = c .before .before .before .before in a .ask-clip .ensures
 
 same-length-3 : tie.Need-same-length-3
 same-length-3 c = search needs
@@ -153,44 +40,9 @@ same-length-4 c = search needs
 
 returns-2 : tie.Need-returns-2
 returns-2 c =
-    let w = c .before .before .before .before .before in
-    let s = c .before .before .before .before .before .before .before .before .before .before .before .before .before .before .before .before .before .before .before .before .before .before .before .before .before .before .before in
-    let a = s .args in
-    w .clip-by2 .ensures ∙ (λ i. clipOutcome (a .numbers .now) (toZ-ofZ (s .fits .rule) i) (toZ-ofZ (s .fits .invert) i) (toZ-ofZ (s .fits .boundary) i) (lists (a .points .now) (a .lengths .now)))
+    let s = c .before .before .before .before .before .before .before .before .before .before in
+    let k = c .before .before .before in
+    rw (toZ-ofZ (s .fits .rule), toZ-ofZ (s .fits .invert), toZ-ofZ (s .fits .boundary)) at (k .clip-any .ensures)
 
 pub clip-spec : {M : Type 1} → statement M
-clip-spec =
-    tie.close
-    (tie.spec
-    ask-clip-requires
-    count-requires
-    slice-aggregate-check-small
-    slice-aggregate-check-small-2
-    slice-aggregate-check-small-3
-    slice-aggregate-check-small-4
-    check-small-requires
-    slice-aggregate-clip-by
-    slice-aggregate-clip-by-2
-    slice-aggregate-clip-by-3
-    slice-aggregate-clip-by-4
-    slice-aggregate-clip-by-5
-    slice-aggregate-clip-by-6
-    clip-by-requires
-    same-length
-    same-length-2
-    returns
-    slice-aggregate-check-any
-    slice-aggregate-check-any-2
-    slice-aggregate-check-any-3
-    slice-aggregate-check-any-4
-    check-any-requires
-    slice-aggregate-clip-by-7
-    slice-aggregate-clip-by-8
-    slice-aggregate-clip-by-9
-    slice-aggregate-clip-by-10
-    slice-aggregate-clip-by-11
-    slice-aggregate-clip-by-12
-    clip-by-requires-2
-    same-length-3
-    same-length-4
-    returns-2)
+clip-spec = tie.close (tie.spec ask-clip-requires count-requires clip-small-requires same-length same-length-2 returns clip-any-requires same-length-3 same-length-4 returns-2)

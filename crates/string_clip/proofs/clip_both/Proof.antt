@@ -1,10 +1,8 @@
 -- Two runs that are as defined, made at once or one after the other. Assumes nothing.
 use borrow.Author.Needs.{needs}
-use mathlib.Core.Path.{_∙_}
-use lib.IntN.{pos}
 use mir.Facts.{toZ-ofZ}
 use Rattle.integers.proofs.Booleans.{both-l, both-r}
-use Rattle.string_clip.specs.Run.{Lists, lists, clipOutcome}
+use Rattle.string_clip.specs.Run.{Lists, lists}
 use Rattle.string_clip.proofs.Together.{both-runs}
 use Rattle.string_clip.proofs.clip_both.Statement.{statement}
 use Rattle.string_clip.proofs.clip_both.Tie as tie
@@ -46,10 +44,7 @@ returns : tie.Need-returns
 returns c =
     let k = c .before .before .before .before .before .before in
     let s = c .before .before .before .before .before .before .before .before .before .before .before .before .before .before .before .before .before .before .before .before in
-    let a = s .args in
-    both-runs (a .numbers .now) (a .rule) (a .boundary) _ (ls₀ s) _ (ls₁ s)
-    (k .both-at-once .ensures .0 ∙ (λ i. clipOutcome (a .numbers .now) (toZ-ofZ (s .fits .rule) i) (pos 0) (toZ-ofZ (s .fits .boundary) i) (ls₀ s)))
-    (k .both-at-once .ensures .1 ∙ (λ i. clipOutcome (a .numbers .now) (toZ-ofZ (s .fits .rule) i) (pos 1) (toZ-ofZ (s .fits .boundary) i) (ls₁ s)))
+    rw (toZ-ofZ (s .fits .rule), toZ-ofZ (s .fits .boundary)) at (k .both-at-once .ensures)
 
 clip-requires : tie.Need-clip-requires
 clip-requires c κs = search needs
@@ -76,8 +71,8 @@ returns-2 c =
     let s = c .before .before .before .before .before .before .before .before .before .before .before .before .before .before .before .before .before .before .before .before .before in
     let a = s .args in
     both-runs (a .numbers .now) (a .rule) (a .boundary) _ (ls₀ s) _ (ls₁ s)
-    (i .clip .ensures ∙ (λ j. clipOutcome (a .numbers .now) (toZ-ofZ (s .fits .rule) j) (pos 0) (toZ-ofZ (s .fits .boundary) j) (ls₀ s)))
-    (o .clip2 .ensures ∙ (λ j. clipOutcome (a .numbers .now) (toZ-ofZ (s .fits .rule) j) (pos 1) (toZ-ofZ (s .fits .boundary) j) (ls₁ s)))
+    (rw (toZ-ofZ (s .fits .rule), toZ-ofZ (s .fits .boundary)) at (i .clip .ensures))
+    (rw (toZ-ofZ (s .fits .rule), toZ-ofZ (s .fits .boundary)) at (o .clip2 .ensures))
 
 pub clip-both-spec : {M : Type 1} → statement M
 clip-both-spec =
