@@ -24,7 +24,7 @@ use Rattle.moves.specs.Bits.{has, clear}
 use Rattle.moves.specs.Steps.{asDrawn, way, other, fitting}
 use Rattle.moves.specs.Moves.{remains, taken, takenAll, bitsRemaining, over}
 use Rattle.moves.specs.Begins.{firstRemaining, bothMoves, begins}
-use Rattle.clip_walk.specs.Walk.{goesOn, follow, pathFrom, walkFrom, walk}
+use Rattle.clip_walk.specs.Walk.{goesOn, follow, pathFrom, pathsFrom, walk}
 use Rattle.string_clip.specs.Paths.{through, finished, pathPoints, clipPaths, stepsFrom, stepsOfPath, stepsOf, travelOf}
 use Rattle.contour.specs.Points.{coordinates, pairUp, cut}
 use Rattle.string_clip.specs.Run.{totals, clipOutcome, output}
@@ -53,5 +53,5 @@ pub record Cases : Type 0 where
   pub meeting : Prints "1,0,1\n0,0,2,0,0,1\n1,0,1,1,0,1\n" "refused,8,0\n"
 
 pub cases : Cases
-unfolding clipRun verdict asked askedFirst drawingVerdict faultsOf meetingsOf unbalancedOf wrongLength unknownChoice tooShort first firstFrom faultAt meetingAt unbalancedAt fault endsInRange rises windingInRange bitsInRange balance balances meetsWrongly parts inInterior sameEnds side total any sum tally keep written upFrom front segmentsOf count whole segments segmentAt eqZ within ltP eqP coordinate inRange cross between spans above clockwise met bottom top filled ruleOf fillOf fill sidesSet keepsSides keeps filterOf keptLinks node has clear asDrawn remains taken takenAll bitsRemaining firstRemaining bothMoves begins way over other fitting goesOn follow pathFrom walkFrom walk through finished pathPoints clipPaths stepsFrom stepsOfPath stepsOf travelOf travel totals coordinates flatten clipOutcome isDigit worth positive fieldOf digits decimal signed pieces row fieldsIn rowsFrom choicesOf parsed joined lineOf pointLine pathLines pathsLines totalLine refusedLine printed pairUp cut output textOutcome answerTo
+unfolding clipRun verdict asked askedFirst drawingVerdict faultsOf meetingsOf unbalancedOf wrongLength unknownChoice tooShort first firstFrom faultAt meetingAt unbalancedAt fault endsInRange rises windingInRange bitsInRange balance balances meetsWrongly parts inInterior sameEnds side total any sum tally keep written upFrom front segmentsOf count whole segments segmentAt eqZ within ltP eqP coordinate inRange cross between spans above clockwise met bottom top filled ruleOf fillOf fill sidesSet keepsSides keeps filterOf keptLinks node has clear asDrawn remains taken takenAll bitsRemaining firstRemaining bothMoves begins way over other fitting goesOn follow pathFrom pathsFrom walk through finished pathPoints clipPaths stepsFrom stepsOfPath stepsOf travelOf travel totals coordinates flatten clipOutcome isDigit worth positive fieldOf digits decimal signed pieces row fieldsIn rowsFrom choicesOf parsed joined lineOf pointLine pathLines pathsLines totalLine refusedLine printed pairUp cut output textOutcome answerTo
 cases = record { inside-A = refl; outside-A = refl; no-segments = refl; malformed = refl; text-first = refl; choice-next = refl; drawing-last = refl; meeting = refl }

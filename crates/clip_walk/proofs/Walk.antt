@@ -21,7 +21,7 @@ use Rattle.moves.proofs.Steps.{fitting-start, at-place}
 use Rattle.moves.proofs.Moves.{takes-keep, takes-spent}
 use Rattle.moves.proofs.Begins.{first-some, begins-some}
 use Rattle.moves.proofs.Worth.{make}
-use Rattle.clip_walk.specs.Walk.{goesOn, andThen, follow, pathFrom, walkFrom}
+use Rattle.clip_walk.specs.Walk.{goesOn, andThen, follow, pathFrom, pathsFrom}
 
 -- ---- the next move
 pub goesOn-some : (links : Drawing) (out : Bool) (p : Point) (bits : List ℕ) (m : Move) → AllRise links → goesOn links out p bits ≡ some m → Makes links bits m × (over links out m .start ≡ p)
@@ -102,10 +102,10 @@ module _ (links : Drawing) where
 
   -- one turn of the loop of paths
   abbrev pub turn : ℕ → List ℕ → Move → List (List Move)
-  turn turns bits m = pathFrom links bits m ∷ walkFrom turns links (takenAll bits (pathFrom links bits m))
+  turn turns bits m = pathFrom links bits m ∷ pathsFrom turns links (takenAll bits (pathFrom links bits m))
 
-  walk-empty : (turns : ℕ) (bits : List ℕ) → bitsRemaining bits ≤ 0 → [] ≡ walkFrom turns links bits
-  unfolding walkFrom
+  walk-empty : (turns : ℕ) (bits : List ℕ) → bitsRemaining bits ≤ 0 → [] ≡ pathsFrom turns links bits
+  unfolding pathsFrom
   walk-empty zero bits h = refl
   walk-empty (suc turns) bits h = go (begins links bits) refl
     where
@@ -114,20 +114,20 @@ module _ (links : Drawing) where
       go (some m) e = absurd (omega (arith, path-fewer bits m e))
 
   -- more turns than bits changes nothing
-  walk-turns : (j k : ℕ) (bits : List ℕ) → bitsRemaining bits ≤ j → bitsRemaining bits ≤ k → walkFrom j links bits ≡ walkFrom k links bits
-  unfolding walkFrom
+  walk-turns : (j k : ℕ) (bits : List ℕ) → bitsRemaining bits ≤ j → bitsRemaining bits ≤ k → pathsFrom j links bits ≡ pathsFrom k links bits
+  unfolding pathsFrom
   walk-turns zero k bits h l = walk-empty k bits h
   walk-turns (suc j) zero bits h l = sym (walk-empty (suc j) bits l)
   walk-turns (suc j) (suc k) bits h l = go (begins links bits) refl (walk-turns j k)
     where
-      go : (o : Option Move) → begins links bits ≡ o → ((bits′ : List ℕ) → bitsRemaining bits′ ≤ j → bitsRemaining bits′ ≤ k → walkFrom j links bits′ ≡ walkFrom k links bits′) → andThen o (turn j bits) ≡ andThen o (turn k bits)
+      go : (o : Option Move) → begins links bits ≡ o → ((bits′ : List ℕ) → bitsRemaining bits′ ≤ j → bitsRemaining bits′ ≤ k → pathsFrom j links bits′ ≡ pathsFrom k links bits′) → andThen o (turn j bits) ≡ andThen o (turn k bits)
       go none e ih = refl
       go (some m) e ih = ap (pathFrom links bits m ∷_) (ih (takenAll bits (pathFrom links bits m)) (omega (arith, path-fewer bits m e)) (omega (arith, path-fewer bits m e)))
 
   -- the loop of paths
-  pub walk-on : (bits : List ℕ) → walkFrom (bitsRemaining bits) links bits
-      ≡ andThen (begins links bits) (λ m. pathFrom links bits m ∷ walkFrom (bitsRemaining (takenAll bits (pathFrom links bits m))) links (takenAll bits (pathFrom links bits m)))
-  unfolding walkFrom
+  pub walk-on : (bits : List ℕ) → pathsFrom (bitsRemaining bits) links bits
+      ≡ andThen (begins links bits) (λ m. pathFrom links bits m ∷ pathsFrom (bitsRemaining (takenAll bits (pathFrom links bits m))) links (takenAll bits (pathFrom links bits m)))
+  unfolding pathsFrom
   walk-on bits = walk-turns (bitsRemaining bits) (suc (bitsRemaining bits)) bits (omega arith) (omega arith) ∙ go (begins links bits) refl
     where
       go : (o : Option Move) → begins links bits ≡ o → andThen o (turn (bitsRemaining bits) bits) ≡ andThen o (λ m. turn (bitsRemaining (takenAll bits (pathFrom links bits m))) bits m)

@@ -38,10 +38,10 @@ pathFrom links bits m =
     m ∷ follow (bitsRemaining rest) links (m .forth) (over links (m .forth) m .end) rest
 
 -- path after path, each from the lowest link of which a line bit remains
-unfoldable pub walkFrom : ℕ → Drawing → List ℕ → List (List Move)
-walkFrom zero links bits = []
-walkFrom (suc turns) links bits = andThen (begins links bits) (λ m. let path = pathFrom links bits m in path ∷ walkFrom turns links (takenAll bits path))
+unfoldable pub pathsFrom : ℕ → Drawing → List ℕ → List (List Move)
+pathsFrom zero links bits = []
+pathsFrom (suc turns) links bits = andThen (begins links bits) (λ m. let path = pathFrom links bits m in path ∷ pathsFrom turns links (takenAll bits path))
 
 -- the clip walk: all line bits remain at first
 unfoldable pub walk : Drawing → List (List Move)
-walk links = walkFrom (bitsRemaining (lineBits links)) links (lineBits links)
+walk links = pathsFrom (bitsRemaining (lineBits links)) links (lineBits links)

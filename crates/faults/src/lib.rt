@@ -3,10 +3,9 @@ use geom::Point;
 use refusal::Verdict;
 use segm::Segment;
 ghost use mathlib.Core.Path.{_≡_};
-ghost use Prim.Native.Nat.{_-_};
 ghost use Rattle.refusal.specs.Order.{_then_};
 ghost use Rattle.segm.specs.Segments.{segments};
-ghost use Rattle.faults.specs.Faults.{fault, faultAt, faultsOf};
+ghost use Rattle.faults.specs.Faults.{fault, faultsOf};
 
 // The lowest of refusals 3 to 7 that fits t, where the segment before it starts at p; 0 for none.
 fn fault(p: Point, t: Segment) -> u32
@@ -32,36 +31,21 @@ fn fault(p: Point, t: Segment) -> u32
     0
 }
 
-// The place before i, 0 for the first.
-fn previous(i: usize) -> usize
-    ensures { λ r. ⌜ r ≡ i - 1 ⌝ }
-{
-    if i == 0 {
-        return 0;
-    }
-    i - 1
-}
-
-// Refusals 3 to 7 at place i.
-fn fault_at(s: &[i32], i: usize) -> u32
-    ensures { λ r. ⌜ r ≡ faultAt (segments (now (s .entry))) i ⌝ }
-{
-    let before = segm::segment_at(s, previous(i));
-    let p = before.a;
-    fault(p, segm::segment_at(s, i))
-}
-
-// The first place with a fault.
+// The first place with a fault. The start before is kept from turn to turn: at the first place it is the segment's own.
 fn first_fault(s: &[i32]) -> Verdict
     ensures { λ r. ⌜ r ≡ faultsOf (segments (now (s .entry))) ⌝ }
 {
     let n = segm::count(s);
+    let first = segm::segment_at(s, 0);
+    let mut p = first.a;
     let mut i: usize = 0;
     while i < n {
-        let number = fault_at(s, i);
+        let t = segm::segment_at(s, i);
+        let number = fault(p, t);
         if number != 0 {
             return Verdict::Refused(number, i);
         }
+        p = t.a;
         i += 1;
     }
     Verdict::Accepted

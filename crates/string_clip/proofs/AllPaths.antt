@@ -20,7 +20,7 @@ use Rattle.moves.specs.Moves.{Move, move, takenAll, bitsRemaining}
 use Rattle.moves.specs.Begins.{begins}
 use Rattle.moves.proofs.Moves.{taken-other, length-taken}
 use Rattle.moves.proofs.Begins.{first-remains, begins-at, begins-nowhere}
-use Rattle.clip_walk.specs.Walk.{andThen, pathFrom, walkFrom}
+use Rattle.clip_walk.specs.Walk.{andThen, pathFrom, pathsFrom}
 use Rattle.string_clip.specs.Paths.{pathPoints}
 use Rattle.string_clip.specs.Writing.{pathAt, bitsPaths}
 use Rattle.clip_walk.proofs.Walk.{path-keeps, path-fewer, walk-on}
@@ -83,7 +83,7 @@ module _ (links : Drawing) (bits₀ : List ℕ) where
       next =
           ap (map (pathPoints links)) (
           walk-on links bits
-          ∙ ap (λ (o : Option Move). andThen o (λ m. pathFrom links bits m ∷ walkFrom (bitsRemaining (takenAll bits (pathFrom links bits m))) links (takenAll bits (pathFrom links bits m)))) begin
+          ∙ ap (λ (o : Option Move). andThen o (λ m. pathFrom links bits m ∷ pathsFrom (bitsRemaining (takenAll bits (pathFrom links bits m))) links (takenAll bits (pathFrom links bits m)))) begin
           )
 
       pub fewer : bitsRemaining after < bitsRemaining bits
@@ -126,6 +126,6 @@ module _ (links : Drawing) (bits₀ : List ℕ) where
         let none-more : bitsPaths links bits ≡ [] =
         ap (map (pathPoints links)) (
         walk-on links bits
-        ∙ ap (λ (o : Option Move). andThen o (λ m. pathFrom links bits m ∷ walkFrom (bitsRemaining (takenAll bits (pathFrom links bits m))) links (takenAll bits (pathFrom links bits m)))) (begins-nowhere bits links (λ j l. w .passed j (omega arith)))
+        ∙ ap (λ (o : Option Move). andThen o (λ m. pathFrom links bits m ∷ pathsFrom (bitsRemaining (takenAll bits (pathFrom links bits m))) links (takenAll bits (pathFrom links bits m)))) (begins-nowhere bits links (λ j l. w .passed j (omega arith)))
         ) in
         sym (append-nil (w .done)) ∙ ap (w .done ++_) (sym none-more) ∙ w .all

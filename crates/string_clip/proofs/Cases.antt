@@ -32,7 +32,7 @@ use Rattle.moves.specs.Bits.{has, clear}
 use Rattle.moves.specs.Steps.{asDrawn, way, other, fitting}
 use Rattle.moves.specs.Moves.{remains, taken, takenAll, bitsRemaining, over}
 use Rattle.moves.specs.Begins.{firstRemaining, bothMoves, begins}
-use Rattle.clip_walk.specs.Walk.{goesOn, follow, pathFrom, walkFrom, walk}
+use Rattle.clip_walk.specs.Walk.{goesOn, follow, pathFrom, pathsFrom, walk}
 use Rattle.string_clip.specs.Paths.{through, finished, pathPoints, clipPaths, stepsFrom, stepsOfPath, stepsOf, travelOf}
 use Rattle.contour.specs.Points.{coordinates}
 use Rattle.string_clip.specs.Run.{totals, lists, Outcome, outcome, answered, clipOutcome}
@@ -100,7 +100,7 @@ pub record Cases : Type 0 where
   pub accepted-A : accepts A (pos 1) (pos 0) (pos 1) ≡ true
 
 pub cases : Cases
-unfolding accepts clipRun verdict asked askedFirst drawingVerdict faultsOf meetingsOf unbalancedOf wrongLength unknownChoice tooShort first firstFrom faultAt meetingAt unbalancedAt fault endsInRange rises windingInRange bitsInRange balance balances meetsWrongly parts inInterior sameEnds side total any sum tally keep written upFrom front segmentsOf count whole segments segmentAt eqZ within ltP eqP coordinate inRange cross between spans above clockwise met bottom top filled ruleOf fillOf fill sidesSet keepsSides keeps filterOf keptLinks node has clear asDrawn remains taken takenAll bitsRemaining firstRemaining bothMoves begins way over other fitting goesOn follow pathFrom walkFrom walk through finished pathPoints clipPaths stepsFrom stepsOfPath stepsOf travelOf travel totals coordinates flatten clipOutcome
+unfolding accepts clipRun verdict asked askedFirst drawingVerdict faultsOf meetingsOf unbalancedOf wrongLength unknownChoice tooShort first firstFrom faultAt meetingAt unbalancedAt fault endsInRange rises windingInRange bitsInRange balance balances meetsWrongly parts inInterior sameEnds side total any sum tally keep written upFrom front segmentsOf count whole segments segmentAt eqZ within ltP eqP coordinate inRange cross between spans above clockwise met bottom top filled ruleOf fillOf fill sidesSet keepsSides keeps filterOf keptLinks node has clear asDrawn remains taken takenAll bitsRemaining firstRemaining bothMoves begins way over other fitting goesOn follow pathFrom pathsFrom walk through finished pathPoints clipPaths stepsFrom stepsOfPath stepsOf travelOf travel totals coordinates flatten clipOutcome
 cases = record {
   inside-A = λ xs ns. refl;
   outside-A = λ xs ns. refl;

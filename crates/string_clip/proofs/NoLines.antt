@@ -24,7 +24,7 @@ use Rattle.moves.specs.Steps.{Step, asDrawn, way, fitting}
 use Rattle.moves.specs.Moves.{Move, move, remains, taken, takenAll, bitsRemaining, over}
 use Rattle.moves.specs.Begins.{firstRemaining, bothMoves, begins}
 use Rattle.moves.proofs.Bits.{none-set}
-use Rattle.clip_walk.specs.Walk.{lineBits, goesOn, andThen, follow, pathFrom, walkFrom, walk}
+use Rattle.clip_walk.specs.Walk.{lineBits, goesOn, andThen, follow, pathFrom, pathsFrom, walk}
 use Rattle.string_clip.specs.Paths.{through, finished, pathPoints}
 use Rattle.clip_walk.proofs.Walk.{turn}
 
@@ -303,15 +303,15 @@ module _ (n : ℕ) (s : Segment) (d : Drawing) where
   takenAll-same bits (m ∷ l) = ap (λ (b : List ℕ). takenAll b (map (renamed n) l)) (taken-renamed n bits m) ∙ takenAll-same (taken bits m) l
 
   -- so the paths after it are the same
-  walkFrom-same : (turns : ℕ) (bits : List ℕ) → walkFrom turns longer (more n bits) ≡ map (map (renamed n)) (walkFrom turns d bits)
-  unfolding walkFrom
-  walkFrom-same zero bits = refl
-  walkFrom-same (suc turns) bits =
+  pathsFrom-same : (turns : ℕ) (bits : List ℕ) → pathsFrom turns longer (more n bits) ≡ map (map (renamed n)) (pathsFrom turns d bits)
+  unfolding pathsFrom
+  pathsFrom-same zero bits = refl
+  pathsFrom-same (suc turns) bits =
       then-same n (map (renamed n)) (turn longer turns (more n bits)) (turn d turns bits)
       (λ m.
       let path = pathFrom d bits m in
-      ap (λ (l : List Move). l ∷ walkFrom turns longer (takenAll (more n bits) l)) (path-same bits m)
-      ∙ ap (map (renamed n) path ∷_) (ap (walkFrom turns longer) (takenAll-same bits path) ∙ walkFrom-same turns (takenAll bits path)))
+      ap (λ (l : List Move). l ∷ pathsFrom turns longer (takenAll (more n bits) l)) (path-same bits m)
+      ∙ ap (map (renamed n) path ∷_) (ap (pathsFrom turns longer) (takenAll-same bits path) ∙ pathsFrom-same turns (takenAll bits path)))
       (begins d bits) (begins-same bits)
 
   -- s has no line bits
@@ -322,7 +322,7 @@ module _ (n : ℕ) (s : Segment) (d : Drawing) where
     walk-same =
         let bits = lineBits d in
         let as-many : lineBits longer ≡ more n bits = map-putIn (λ (t : Segment). natAbs (t .bits)) s n d ∙ ap (λ b. putIn n b bits) none-on in
-        ap (λ (b : List ℕ). walkFrom (bitsRemaining b) longer b) as-many ∙ ap (λ turns. walkFrom turns longer (more n bits)) (bits-more n bits) ∙ walkFrom-same (bitsRemaining bits) bits
+        ap (λ (b : List ℕ). pathsFrom (bitsRemaining b) longer b) as-many ∙ ap (λ turns. pathsFrom turns longer (more n bits)) (bits-more n bits) ∙ pathsFrom-same (bitsRemaining bits) bits
 
     -- its paths come through the same points
     points-same : (l : List Move) → pathPoints longer (map (renamed n) l) ≡ pathPoints d l

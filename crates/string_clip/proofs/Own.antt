@@ -85,13 +85,13 @@ in-drawn (s ∷ d) δ m =
     here forth h = (inl (ap (λ (ε : Direction). ε .segment) (h .0)), subst (λ (ε : Direction). has (ε .forth) (natAbs (ε .segment .bits)) ≡ true) (sym (h .0)) (h .1))
 
 -- no two places with the same two ends
-abbrev pub Distinct : Drawing → Type 0
-Distinct d = Pairs (λ s t. sameEnds s t ≡ false) d
+abbrev pub NoSameEnds : Drawing → Type 0
+NoSameEnds d = Pairs (λ s t. sameEnds s t ≡ false) d
 
-abbrev pub Apart : List Direction → Type 0
-Apart l = Pairs (λ δ ε. travelled δ ≡ travelled ε → ⊥) l
+abbrev pub NoSameStep : List Direction → Type 0
+NoSameStep l = Pairs (λ δ ε. travelled δ ≡ travelled ε → ⊥) l
 
-pub drawn-apart : (d : Drawing) → AllRise d → Distinct d → Apart (drawn d)
+pub drawn-apart : (d : Drawing) → AllRise d → NoSameEnds d → NoSameStep (drawn d)
 unfolding drawn travelled
 drawn-apart [] proper distinct = tt
 drawn-apart (s ∷ d) proper distinct =
@@ -109,7 +109,7 @@ not-same true σ τ f = ap one (is-false (same σ τ) (λ e. f (same-true σ τ 
 not-same false σ τ f = refl
 
 -- a direction's step stands once among those that a test lets through, if it lets it through
-pub once-among : (K : Direction → Bool) (l : List Direction) → Apart l → (δ : Direction) → δ ∈ l → tally (λ ε. cond (K ε) (one (same (travelled δ) (travelled ε))) 0) l ≡ one (K δ)
+pub once-among : (K : Direction → Bool) (l : List Direction) → NoSameStep l → (δ : Direction) → δ ∈ l → tally (λ ε. cond (K ε) (one (same (travelled δ) (travelled ε))) 0) l ≡ one (K δ)
 unfolding tally
 once-among K [] h δ m = absurd m
 once-among K (ε ∷ l) h δ (inl e) = subst (λ φ. tally (λ χ. cond (K χ) (one (same (travelled φ) (travelled χ))) 0) (ε ∷ l) ≡ one (K φ)) (sym e)

@@ -14,7 +14,7 @@ use Rattle.graph.specs.Nodes.{node}
 use Rattle.moves.specs.Steps.{Step, step, asDrawn, way, other, fitting}
 use Rattle.moves.specs.Moves.{Move, move, taken, takenAll, bitsRemaining, over}
 use Rattle.moves.specs.Begins.{firstRemaining, bothMoves, begins}
-use Rattle.clip_walk.specs.Walk.{goesOn, andThen, follow, pathFrom, walkFrom}
+use Rattle.clip_walk.specs.Walk.{goesOn, andThen, follow, pathFrom, pathsFrom}
 use Rattle.string_clip.specs.Paths.{through, finished, pathPoints}
 use Rattle.string_clip.specs.Writing.{bitsPaths}
 
@@ -64,12 +64,12 @@ module _ (d e : Drawing) (n : length e ≡ length d) (a : (k : ℕ) → segmentA
       let rest = taken bits m in
       ap (m ∷_) (ap (λ (σ : Step). follow (bitsRemaining rest) e (m .forth) (σ .end) rest) (over-same (m .forth) m) ∙ follow-same (bitsRemaining rest) (m .forth) (over d (m .forth) m .end) rest)
 
-  walk-same : (turns : ℕ) (bits : List ℕ) → walkFrom turns e bits ≡ walkFrom turns d bits
-  unfolding walkFrom
+  walk-same : (turns : ℕ) (bits : List ℕ) → pathsFrom turns e bits ≡ pathsFrom turns d bits
+  unfolding pathsFrom
   walk-same zero bits = refl
   walk-same (suc turns) bits =
       ap₂ (λ (o : Option Move) (f : Move → List (List Move)). andThen o f) (begins-same bits) (fun-ext (λ m.
-      ap (λ (path : List Move). path ∷ walkFrom turns e (takenAll bits path)) (path-same bits m) ∙ ap (pathFrom d bits m ∷_) (walk-same turns (takenAll bits (pathFrom d bits m)))))
+      ap (λ (path : List Move). path ∷ pathsFrom turns e (takenAll bits path)) (path-same bits m) ∙ ap (pathFrom d bits m ∷_) (walk-same turns (takenAll bits (pathFrom d bits m)))))
 
   -- the same points
   points-same : (l : List Move) → pathPoints e l ≡ pathPoints d l

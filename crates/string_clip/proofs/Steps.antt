@@ -13,7 +13,7 @@ use Rattle.lists.specs.Members.{_∈_}
 use Rattle.lists.specs.Sums.{tally}
 use Rattle.segm.specs.Segments.{Drawing}
 use Rattle.lists.proofs.Sums.{tally-++}
-use Rattle.clip_walk.specs.Walk.{lineBits, andThen, pathFrom, walkFrom, walk}
+use Rattle.clip_walk.specs.Walk.{lineBits, andThen, pathFrom, pathsFrom, walk}
 use Rattle.moves.specs.Steps.{Step, step, way, AllRise}
 use Rattle.moves.specs.Moves.{Move, takenAll, bitsRemaining, over}
 use Rattle.moves.specs.Begins.{begins}
@@ -80,15 +80,15 @@ path-long links bits m = long m _
 -- ---- the walk
 module _ (links : Drawing) where
   -- from the bits that remain on
-  abbrev pathsFrom : ℕ → List ℕ → List (List Point)
-  pathsFrom turns bits = map (pathPoints links) (walkFrom turns links bits)
+  abbrev pointsFrom : ℕ → List ℕ → List (List Point)
+  pointsFrom turns bits = map (pathPoints links) (pathsFrom turns links bits)
 
-  from-long : (turns : ℕ) (bits : List ℕ) (path : List Point) → path ∈ pathsFrom turns bits → Long path
-  unfolding walkFrom
+  from-long : (turns : ℕ) (bits : List ℕ) (path : List Point) → path ∈ pointsFrom turns bits → Long path
+  unfolding pathsFrom
   from-long zero bits path i = absurd i
   from-long (suc turns) bits path i = go (begins links bits) i (from-long turns)
     where
-      go : (o : Option Move) → path ∈ map (pathPoints links) (andThen o (turn links turns bits)) → ((bits′ : List ℕ) (q : List Point) → q ∈ pathsFrom turns bits′ → Long q) → Long path
+      go : (o : Option Move) → path ∈ map (pathPoints links) (andThen o (turn links turns bits)) → ((bits′ : List ℕ) (q : List Point) → q ∈ pointsFrom turns bits′ → Long q) → Long path
       go none i ih = absurd i
       go (some m) (inl e) ih = omega (arith, ap length e, path-long links bits m)
       go (some m) (inr i) ih = ih (takenAll bits (pathFrom links bits m)) path i
@@ -98,13 +98,13 @@ module _ (links : Drawing) where
 
   module _ (rise : AllRise links) where
     -- with turns enough for the bits that remain, the walk takes them all
-    from-steps : (turns : ℕ) (bits : List ℕ) → worth ones links bits ≤ turns → (f : Step → ℕ) → tally f (stepsOf (pathsFrom turns bits)) ≡ worth f links bits
-    unfolding walkFrom stepsOf tally
+    from-steps : (turns : ℕ) (bits : List ℕ) → worth ones links bits ≤ turns → (f : Step → ℕ) → tally f (stepsOf (pointsFrom turns bits)) ≡ worth f links bits
+    unfolding pathsFrom stepsOf tally
     from-steps zero bits h f = sym (no-worth f links bits (omega arith))
     from-steps (suc turns) bits h f = go (begins links bits) refl (from-steps turns)
       where
         go : (o : Option Move) → begins links bits ≡ o
-            → ((bits′ : List ℕ) → worth ones links bits′ ≤ turns → (g : Step → ℕ) → tally g (stepsOf (pathsFrom turns bits′)) ≡ worth g links bits′)
+            → ((bits′ : List ℕ) → worth ones links bits′ ≤ turns → (g : Step → ℕ) → tally g (stepsOf (pointsFrom turns bits′)) ≡ worth g links bits′)
             → tally f (stepsOf (map (pathPoints links) (andThen o (turn links turns bits)))) ≡ worth f links bits
         go none e ih = sym (begins-none f links bits e)
         go (some m) e ih =
@@ -112,7 +112,7 @@ module _ (links : Drawing) where
             let after = takenAll bits path in
             let does = path-does links rise bits m (begins-some links bits m e) in
             let fewer : worth ones links after ≤ turns = omega (arith, does .0 ones, path-some links bits m) in
-            omega (arith, tally-++ f (stepsOfPath (pathPoints links path)) (stepsOf (pathsFrom turns after)), path-steps f links bits m (does .1), ih after fewer f, does .0 f)
+            omega (arith, tally-++ f (stepsOfPath (pathPoints links path)) (stepsOf (pointsFrom turns after)), path-steps f links bits m (does .1), ih after fewer f, does .0 f)
 
     -- what the steps of a walk come to, for any worth of a step
     pub bits-steps : (bits : List ℕ) → length bits ≡ length links → (f : Step → ℕ) → tally f (stepsOf (bitsPaths links bits)) ≡ worth f links bits

@@ -12,7 +12,7 @@ use Rattle.graph.specs.Nodes.{otherEnd, Nodes}
 use Rattle.checks.specs.Accepted.{Good}
 use Rattle.moves.specs.Bits.{has, bitsSet}
 use Rattle.moves.specs.Moves.{Move, move, bitsRemaining}
-use Rattle.clip_walk.specs.Walk.{pathFrom, walkFrom}
+use Rattle.clip_walk.specs.Walk.{pathFrom, pathsFrom}
 use Rattle.string_clip.specs.declared.run.Written.{Written}
 use Rattle.string_clip.specs.Paths.{finished, pathPoints}
 
@@ -45,7 +45,7 @@ pub record ClipRoom (d : Drawing) (bits moves : List ℕ) : Type 0 where
 -- ---- all paths
 -- those of the line bits of a list
 abbrev pub bitsPaths : Drawing → List ℕ → List (List Point)
-bitsPaths links bits = map (pathPoints links) (walkFrom (bitsRemaining bits) links bits)
+bitsPaths links bits = map (pathPoints links) (pathsFrom (bitsRemaining bits) links bits)
 
 -- how many paths and points these are
 abbrev pub writtenOf : List (List Point) → Written

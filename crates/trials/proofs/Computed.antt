@@ -26,7 +26,7 @@ use Rattle.moves.specs.Bits.{has, clear}
 use Rattle.moves.specs.Steps.{asDrawn, way, other, fitting}
 use Rattle.moves.specs.Moves.{remains, taken, takenAll, bitsRemaining, over}
 use Rattle.moves.specs.Begins.{firstRemaining, bothMoves, begins}
-use Rattle.clip_walk.specs.Walk.{goesOn, follow, pathFrom, walkFrom, walk}
+use Rattle.clip_walk.specs.Walk.{goesOn, follow, pathFrom, pathsFrom, walk}
 use Rattle.string_clip.specs.Paths.{through, finished, pathPoints, clipPaths, stepsFrom, stepsOfPath, stepsOf, travelOf}
 use Rattle.string_clip.specs.Run.{totals, clipOutcome}
 use Rattle.bin_store.specs.Sightings.{isSighted, numberOf, sight}
@@ -35,7 +35,7 @@ use Rattle.string_split.specs.Run as split
 use Rattle.trials.specs.Trials.{Trials}
 
 pub trials : Trials
-unfolding eqZ within ltP eqP coordinate inRange cross between any sum tally keep written upFrom front segmentsOf count whole segments segmentAt total coordinates pairUp crossProduct around shoelace isLarge side parts inInterior sameEnds meetsWrongly endsInRange rises windingInRange bitsInRange fault faultAt meetingAt balance balances unbalancedAt wrongLength unknownChoice tooShort firstFrom first asked askedFirst drawingVerdict faultsOf meetingsOf unbalancedOf verdict fillsRun clipRun spans above clockwise met bottom top filled ruleOf fillOf fill fills fillsOutcome sidesSet keepsSides keeps filterOf keptLinks node has clear asDrawn remains taken takenAll bitsRemaining firstRemaining bothMoves begins way over other fitting goesOn follow pathFrom walkFrom walk through finished pathPoints clipPaths stepsFrom stepsOfPath stepsOf travelOf travel totals clipOutcome flatten isSighted numberOf sight closed bufferPoint bufferPoints rest allLoops splitLoops split.outOfRangeAt split.splitVerdict split.splitOutcome
+unfolding eqZ within ltP eqP coordinate inRange cross between any sum tally keep written upFrom front segmentsOf count whole segments segmentAt total coordinates pairUp crossProduct around shoelace isLarge side parts inInterior sameEnds meetsWrongly endsInRange rises windingInRange bitsInRange fault faultAt meetingAt balance balances unbalancedAt wrongLength unknownChoice tooShort firstFrom first asked askedFirst drawingVerdict faultsOf meetingsOf unbalancedOf verdict fillsRun clipRun spans above clockwise met bottom top filled ruleOf fillOf fill fills fillsOutcome sidesSet keepsSides keeps filterOf keptLinks node has clear asDrawn remains taken takenAll bitsRemaining firstRemaining bothMoves begins way over other fitting goesOn follow pathFrom pathsFrom walk through finished pathPoints clipPaths stepsFrom stepsOfPath stepsOf travelOf travel totals clipOutcome flatten isSighted numberOf sight closed bufferPoint bufferPoints rest allLoops splitLoops split.outOfRangeAt split.splitVerdict split.splitOutcome
 trials = record {
   fills-of-A = refl;
   A-inverted = refl;
