@@ -2,7 +2,7 @@
 use mathlib.Core.Path.{_≡_, refl, sym, _∙_, ap, subst}
 use mathlib.Core.List.{List, [], _∷_, _++_}
 use mathlib.Core.Logic.{_⊎_, inl, inr}
-use mathlib.Core.Option.{none, some}
+use mathlib.Core.Option.{none, some, orElse}
 use mathlib.Core.Bool.{Bool, true, false, cond}
 use Prim.Native.Nat.{ℕ, zero, suc, _+_, _%_, _<_, _≤_}
 use native.Mathlib.Omega.{arith}
@@ -21,11 +21,22 @@ use Rattle.moves.specs.Worth.{worth}
 use Rattle.moves.proofs.Bits.{none-set, second-set}
 use Rattle.moves.proofs.Worth.{worth-none}
 
--- ---- joined lists of links
+-- ---- joined lists
 pub both-++ : (k l : List ℕ) → bothMoves (k ++ l) ≡ bothMoves k ++ bothMoves l
 unfolding bothMoves
 both-++ [] l = refl
 both-++ (j ∷ k) l = ap (λ (ms : List Move). move j true ∷ move j false ∷ ms) (both-++ k l)
+
+-- the first that remains is of the first list, or else of the second
+pub first-++ : (bits : List ℕ) (k l : List Move) → firstRemaining bits (k ++ l) ≡ orElse (firstRemaining bits k) (firstRemaining bits l)
+unfolding firstRemaining orElse
+first-++ bits [] l = refl
+first-++ bits (m ∷ k) l = go (remains bits m) (first-++ bits k l)
+  where
+    go : (b : Bool) → firstRemaining bits (k ++ l) ≡ orElse (firstRemaining bits k) (firstRemaining bits l)
+        → cond b (some m) (firstRemaining bits (k ++ l)) ≡ orElse (cond b (some m) (firstRemaining bits k)) (firstRemaining bits l)
+    go true e = refl
+    go false e = e
 
 -- ---- the first of a list of moves
 pub first-some : (bits : List ℕ) (l : List Move) (m : Move) → firstRemaining bits l ≡ some m → (m ∈ l) × (remains bits m ≡ true)

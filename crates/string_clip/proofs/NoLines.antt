@@ -2,7 +2,7 @@
 use mathlib.Core.Path.{_≡_, refl, sym, _∙_, ap, ap₂, fun-ext}
 use mathlib.Core.List.{List, [], _∷_, _++_, map, map-map, map-append}
 use mathlib.Core.Logic.{inl, inr}
-use mathlib.Core.Option.{Option, none, some, Option·map}
+use mathlib.Core.Option.{Option, none, some, orElse, Option·map}
 use mathlib.Core.Bool.{Bool, true, false, _&&_, cond}
 use Prim.Native.Nat.{ℕ, zero, suc, _%_}
 use native.Mathlib.Omega.{arith}
@@ -24,6 +24,7 @@ use Rattle.moves.specs.Steps.{Step, asDrawn, way, fitting}
 use Rattle.moves.specs.Moves.{Move, move, remains, taken, takenAll, bitsRemaining, over}
 use Rattle.moves.specs.Begins.{firstRemaining, bothMoves, begins}
 use Rattle.moves.proofs.Bits.{none-set}
+use Rattle.moves.proofs.Begins.{first-++}
 use Rattle.clip_walk.specs.Walk.{lineBits, goesOn, andThen, follow, pathFrom, pathsFrom, walk}
 use Rattle.string_clip.specs.Paths.{through, finished, pathPoints}
 use Rattle.clip_walk.proofs.Walk.{turn}
@@ -97,22 +98,6 @@ places x (suc n) (y ∷ l) =
     ap (0 ∷_) (from-next 0 (length (putIn n x l)) ∙ ap (map suc) (places x n l) ∙ map-putIn suc n n (map (moved n) all) ∙ ap (putIn n (suc n)) later)
 
 -- ---- moves and line bits
--- the first, or if there is none the second
-abbrev orElse : Option Move → Option Move → Option Move
-orElse none o = o
-orElse (some m) o = some m
-
--- the first that remains, of two lists
-first-++ : (bits : List ℕ) (k l : List Move) → firstRemaining bits (k ++ l) ≡ orElse (firstRemaining bits k) (firstRemaining bits l)
-unfolding firstRemaining
-first-++ bits [] l = refl
-first-++ bits (m ∷ k) l = go (remains bits m) (first-++ bits k l)
-  where
-    go : (b : Bool) → firstRemaining bits (k ++ l) ≡ orElse (firstRemaining bits k) (firstRemaining bits l)
-        → cond b (some m) (firstRemaining bits (k ++ l)) ≡ orElse (cond b (some m) (firstRemaining bits k)) (firstRemaining bits l)
-    go true e = refl
-    go false e = e
-
 -- a link without line bits adds none to those that remain
 bits-more : (n : ℕ) (bits : List ℕ) → bitsRemaining (putIn n 0 bits) ≡ bitsRemaining bits
 unfolding bitsRemaining tally
