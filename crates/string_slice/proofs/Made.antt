@@ -1,4 +1,5 @@
--- What the first stage answers and leaves, and how the second reads it back: the walks' points, their directions, and the contours that are cut from them.
+-- What the first stage takes from the check, what it answers and leaves, and how the second reads it back: the walks' points, their directions, and the
+-- contours that are cut from them.
 use mathlib.Core.Path.{_≡_, refl, sym, _∙_, ap, ap₂, subst}
 use mathlib.Core.List.{List, [], _∷_, _++_, map, flatten, append-nil}
 use mathlib.Core.Option.{Option, none, some}
@@ -20,7 +21,12 @@ use Rattle.contour.proofs.Areas.{near-all}
 use Rattle.contour.proofs.CutWritten.{cut-written, tally-lengths}
 use Rattle.refusal.specs.declared.Verdict.{Verdict}
 use Rattle.refusal.specs.declared.Verdict.the-variants as verdict-is
+use Rattle.refusal.specs.Order.{_then_}
+use Rattle.refusal.proofs.Order.{accepted-then}
+use Rattle.checks.specs.Drawing.{drawingVerdict}
+use Rattle.checks.specs.Memory.{Prepared, Checked}
 use Rattle.checks.specs.Accepted.{Good}
+use Rattle.checks.proofs.Accepted.{drawing-good}
 use Rattle.fill_rule.specs.declared.Rule.{Rule}
 use Rattle.moves.specs.Moves.{Move, bitsRemaining}
 use Rattle.moves.proofs.Moves.{bits-few}
@@ -35,7 +41,7 @@ use Rattle.string_slice.specs.declared.walking.Walked.{Walked}
 use Rattle.string_slice.specs.declared.walking.Walked.the-variants.{Done, Refused}
 use Rattle.slice_cut.specs.Cutting.{counts, walkContours, Holds, pathsIn, cutWalks, Stand}
 use Rattle.string_slice.specs.Run.{Lists, lists, outcome, handedOver, answered}
-use Rattle.string_slice.specs.Walking.{WalkedAre}
+use Rattle.string_slice.specs.Walking.{WalkedAre, WalkedOf}
 use Rattle.contour.specs.Contour.{Contour}
 use Rattle.string_slice.specs.Contours.{sideBits, allContours, sliceContours, ofWalks}
 use Rattle.string_slice.proofs.Sides.{length-sides}
@@ -56,6 +62,19 @@ unfolding cutWalks allContours
 cut-contours clockwise least links [] = refl
 cut-contours clockwise least links (w ∷ ws) =
     ap₂ (λ b (rest : List Contour). walkContours clockwise least b (walkPoints links w) ++ rest) (direction-back (directionOf w)) (cut-contours clockwise least links ws)
+
+-- ---- the check before the walks
+-- what it accepts is a good drawing, and its nodes and top counts are left
+pub checked-good : (before : Verdict) (d : Drawing) (v : Verdict) {flat starts nodes : List ℕ} {tops : List ℤ} → (before ≡ verdict-is.Accepted → length d ≤ 1024)
+    → Checked (before then drawingVerdict d) d v flat starts nodes tops → v ≡ verdict-is.Accepted → Good d × Prepared d flat starts nodes tops
+checked-good before d v few c e =
+    let both = accepted-then before (drawingVerdict d) (sym (c .0) ∙ e) in
+    (drawing-good d (few (both .0)) (both .1), c .1 e)
+
+-- the first stage answers by the verdict, whichever way that was found
+pub walked-as : (numbers : List ℤ) (rule : ℤ) (r : Walked) (points : List ℤ) (lengths dirs : List ℕ) {u v : Verdict} → u ≡ v
+    → WalkedOf numbers u rule r points lengths dirs → WalkedOf numbers v rule r points lengths dirs
+walked-as numbers rule r points lengths dirs e w = subst (λ (v : Verdict). WalkedOf numbers v rule r points lengths dirs) e w
 
 -- ---- the answer of the first stage, where the drawing is accepted
 not-both : {X : Type 0} → _≡_ {A = ℕ} 0 1 → X

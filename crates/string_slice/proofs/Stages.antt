@@ -1,4 +1,4 @@
--- The second stage after the first: what the cut needs of the walks that were made, and the outcome of the run.
+-- The run by its stages: what the first needs of what was asked before it, what the cut needs of the walks that were made, and the outcome.
 use mathlib.Core.Path.{_≡_, refl, sym, ap, _∙_}
 use mathlib.Core.List.{List, flatten}
 use mathlib.Core.Logic.{_⊎_, inl, inr}
@@ -19,11 +19,13 @@ use Rattle.segm.specs.Segments.{Drawing, segments}
 use Rattle.segm.proofs.Segments.{length-segments}
 use Rattle.refusal.specs.declared.Verdict.{Verdict}
 use Rattle.refusal.specs.declared.Verdict.the-variants as verdict-is
-use Rattle.checks.specs.Runs.{Run, verdict, sliceRun}
+use Rattle.refusal.specs.Order.{_then_}
 use Rattle.refusal.specs.Asked.{lent}
+use Rattle.checks.specs.Drawing.{drawingVerdict}
+use Rattle.checks.specs.Runs.{Run, asked, verdict, sliceRun}
 use Rattle.checks.specs.Accepted.{Good}
 use Rattle.checks.proofs.Accepted.{verdict-good}
-use Rattle.checks.proofs.Runs.{verdict-room}
+use Rattle.checks.proofs.Runs.{asked-few, checked-verdict, verdict-room}
 use Rattle.fill_rule.specs.FillRule.{ruleOf}
 use Rattle.fill_rule.proofs.Choices.{is, is-not}
 use Rattle.moves.specs.Moves.{Move}
@@ -36,7 +38,7 @@ use Rattle.string_slice.specs.declared.walking.Walked.the-variants.{Done
 use Rattle.string_slice.specs.Contours.{sideBits, allContours, sliceContours}
 use Rattle.string_slice.specs.Run.{Lists, lists, runOf, outcome, handedOver, answered, sliceOutcome}
 use Rattle.string_slice.specs.Walking.{WalkRoom, WalkedOf}
-use Rattle.string_slice.proofs.Made.{Made, made, accepted, refused, few-found, few-points, stand, contours-are, handed}
+use Rattle.string_slice.proofs.Made.{walked-as, Made, made, accepted, refused, few-found, few-points, stand, contours-are, handed}
 
 -- equal bits are equal numbers
 pub is-one : {z : ℤ} → SFits w32 z → eqb (ofZ w32 z) 1 ≡ eqZ z (pos 1)
@@ -45,6 +47,25 @@ is-one {z} f = go (dec (eqb (ofZ w32 z) 1))
     go : (eqb (ofZ w32 z) 1 ≡ true) ⊎ (eqb (ofZ w32 z) 1 ≡ false) → eqb (ofZ w32 z) 1 ≡ eqZ z (pos 1)
     go (inl e) = e ∙ sym (is f 1 (lit< tt) (eqb-true (ofZ w32 z) 1 e))
     go (inr e) = e ∙ sym (is-not f 1 (eqb-false (ofZ w32 z) 1 e))
+
+-- ---- before the first stage
+-- memory for n segments is room for the walks of a drawing that has no more
+pub walk-room : (n : ℕ) {numbers points : List ℤ} {lengths dirs : List ℕ} → (length (segments numbers) ≤ 1024 → length (segments numbers) ≤ n)
+    → 4 * n ≤ length points → 2 * n ≤ length lengths → 2 * n ≤ length dirs → WalkRoom numbers points lengths dirs
+walk-room n few p l d = record { points-room = λ h. omega (arith, few h, p); lengths-room = λ h. omega (arith, few h, l); directions-room = λ h. omega (arith, few h, d) }
+
+-- what was asked first of a run on these numbers, with these choices and lent lists
+module _ (numbers : List ℤ) (rule direction : ℤ) (ls : Lists) {before : Verdict} (e : before ≡ asked (runOf numbers rule direction ls)) where
+  -- few segments
+  pub before-few : before ≡ verdict-is.Accepted → length (segments numbers) ≤ 1024
+  unfolding sliceRun
+  before-few a = asked-few (runOf numbers rule direction ls) (sym e ∙ a)
+
+  -- then the drawing: that is the verdict on the run
+  pub walked-run : (r : Walked) (points : List ℤ) (lengths dirs : List ℕ) → WalkedOf numbers (before then drawingVerdict (segments numbers)) rule r points lengths dirs
+      → WalkedOf numbers (verdict (runOf numbers rule direction ls)) rule r points lengths dirs
+  unfolding sliceRun
+  walked-run r points lengths dirs w = walked-as numbers rule r points lengths dirs (checked-verdict (runOf numbers rule direction ls) e refl) w
 
 -- n walks were made of a run on these numbers, with these choices and lent lists
 pub record Staged (numbers : List ℤ) (rule direction : ℤ) (ls : Lists) (n : ℕ) (points : List ℤ) (lengths dirs : List ℕ) : Type 0 where

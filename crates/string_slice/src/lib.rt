@@ -1,6 +1,7 @@
 // The slice run: a drawing's filled area cut along all its segments, as contours with roles.
 mod walking;
 
+use refusal::Verdict;
 pub use slice_cut::Contours;
 use slice_cut::cut_walks;
 use walking::Walked;
@@ -8,7 +9,8 @@ use walking::make_walks;
 ghost use mathlib.Core.Path.{_≡_};
 ghost use Prim.Native.Nat.{_≤_};
 ghost use Rattle.segm.specs.Segments.{count};
-ghost use Rattle.string_slice.specs.Run.{lists, outcome, sliceOutcome};
+ghost use Rattle.checks.specs.Runs.{asked};
+ghost use Rattle.string_slice.specs.Run.{lists, runOf, outcome, sliceOutcome};
 
 // What a slice run answers: what it found, or a refusal's number and place.
 pub enum Sliced {
@@ -16,10 +18,11 @@ pub enum Sliced {
     Refused(u32, usize),
 }
 
-// The slice run of a small drawing in two stages, the walks and their cut. All walks are made before the first contour is written, so that a walk that finds no
-// move leaves the lists as they were.
+// The slice run of a small drawing, of which this was asked first, in two stages, the walks and their cut. All walks are made before the first contour is
+// written, so that a walk that finds no move leaves the lists as they were.
 fn slice_small(
-    numbers: &[i32],
+    before: Verdict,
+    s: &[i32],
     rule: i32,
     direction: i32,
     min_area: u64,
@@ -27,24 +30,16 @@ fn slice_small(
     lengths: &mut [u32],
     roles: &mut [u8],
 ) -> Sliced
-    requires { ⌜ count (now numbers) ≤ 128 ⌝ }
+    requires { ⌜ (count (now s) ≤ 128) × (before ≡ asked (runOf (now s) rule direction (lists (now points) (now lengths) (now roles)))) ⌝ }
     ensures { λ r. ⌜ outcome r (lists (now (points .exit)) (now (lengths .exit)) (now (roles .exit)))
-        ≡ sliceOutcome (now (numbers .entry)) rule direction «min_area» (lists (now (points .entry)) (now (lengths .entry)) (now (roles .entry))) ⌝ }
+        ≡ sliceOutcome (now (s .entry)) rule direction «min_area» (lists (now (points .entry)) (now (lengths .entry)) (now (roles .entry))) ⌝ }
 {
     let mut walks = [0i32; 2 * ends::SMALL];
     let mut walk_lengths = [0u16; ends::SMALL];
     let mut directions = [0u8; ends::SMALL];
-    let asked = checks::ask_slice(
-        numbers,
-        rule,
-        direction,
-        points.len(),
-        lengths.len(),
-        roles.len(),
-    );
     match make_walks(
-        asked,
-        numbers,
+        before,
+        s,
         rule,
         &mut walks,
         &mut walk_lengths,
@@ -64,10 +59,11 @@ fn slice_small(
     }
 }
 
-// The same for any drawing. What is called from one place only may be compiled into its caller, memory and all; the stages are called from two, so that the
+// The same of any drawing. What is called from one place only may be compiled into its caller, memory and all; the stages are called from two, so that the
 // memory of each ends with it.
 fn slice_any(
-    numbers: &[i32],
+    before: Verdict,
+    s: &[i32],
     rule: i32,
     direction: i32,
     min_area: u64,
@@ -75,23 +71,16 @@ fn slice_any(
     lengths: &mut [u32],
     roles: &mut [u8],
 ) -> Sliced
+    requires { ⌜ before ≡ asked (runOf (now s) rule direction (lists (now points) (now lengths) (now roles))) ⌝ }
     ensures { λ r. ⌜ outcome r (lists (now (points .exit)) (now (lengths .exit)) (now (roles .exit)))
-        ≡ sliceOutcome (now (numbers .entry)) rule direction «min_area» (lists (now (points .entry)) (now (lengths .entry)) (now (roles .entry))) ⌝ }
+        ≡ sliceOutcome (now (s .entry)) rule direction «min_area» (lists (now (points .entry)) (now (lengths .entry)) (now (roles .entry))) ⌝ }
 {
     let mut walks = [0i32; 2 * ends::MOST];
     let mut walk_lengths = [0u16; ends::MOST];
     let mut directions = [0u8; ends::MOST];
-    let asked = checks::ask_slice(
-        numbers,
-        rule,
-        direction,
-        points.len(),
-        lengths.len(),
-        roles.len(),
-    );
     match make_walks(
-        asked,
-        numbers,
+        before,
+        s,
         rule,
         &mut walks,
         &mut walk_lengths,
@@ -124,8 +113,28 @@ pub fn slice(
     ensures { λ r. ⌜ outcome r (lists (now (points .exit)) (now (lengths .exit)) (now (roles .exit)))
         ≡ sliceOutcome (now (numbers .entry)) rule direction «min_area» (lists (now (points .entry)) (now (lengths .entry)) (now (roles .entry))) ⌝ }
 {
+    let room = points.len();
+    let asked = checks::ask_slice(numbers, rule, direction, room, lengths.len(), roles.len());
     if segm::count(numbers) <= segm::SMALL {
-        return slice_small(numbers, rule, direction, min_area, points, lengths, roles);
+        return slice_small(
+            asked,
+            numbers,
+            rule,
+            direction,
+            min_area,
+            points,
+            lengths,
+            roles,
+        );
     }
-    slice_any(numbers, rule, direction, min_area, points, lengths, roles)
+    slice_any(
+        asked,
+        numbers,
+        rule,
+        direction,
+        min_area,
+        points,
+        lengths,
+        roles,
+    )
 }

@@ -9,7 +9,7 @@ ghost use Prim.Native.Nat.{_*_, _%_, _≤_};
 ghost use lib.ListN.{length};
 ghost use Rattle.refusal.specs.declared.Verdict.the-variants.{Accepted};
 ghost use Rattle.refusal.specs.Order.{_then_};
-ghost use Rattle.segm.specs.Segments.{segments};
+ghost use Rattle.segm.specs.Segments.{count, segments};
 ghost use Rattle.checks.specs.Drawing.{drawingVerdict};
 ghost use Rattle.checks.specs.Memory.{Prepared};
 ghost use Rattle.checks.specs.Accepted.{Good};
@@ -116,9 +116,41 @@ fn walks_by(
     }
 }
 
-// Checks a drawing, unless something was refused before, and makes its walks where it is accepted: their points, how many each has, and its direction. It owns
-// the memory of this stage, for a small drawing or for any.
-pub fn make_walks(
+// `make_walks` of a small drawing. It owns the memory of this stage.
+fn walks_small(
+    before: Verdict,
+    s: &[i32],
+    rule: i32,
+    walks: &mut [i32],
+    walk_lengths: &mut [u16],
+    directions: &mut [u8],
+) -> Walked
+    requires { ⌜ (count (now s) ≤ 128) × WalkRoom (now s) (now walks) (now «walk_lengths») (now directions) ⌝ }
+    ensures { λ r. ⌜ WalkedOf (now (s .entry)) (before then drawingVerdict (segments (now (s .entry)))) rule r (now (walks .exit)) (now («walk_lengths» .exit)) (now (directions .exit)) ⌝ }
+{
+    let mut flat = [0u16; ends::SMALL];
+    let mut starts = [0u16; graph::SMALL_STARTS];
+    let mut nodes = [0u16; ends::SMALL];
+    let mut tops = [0i32; segm::SMALL];
+    let mut bits = [0u8; segm::SMALL];
+    let checked = checks::check_small(before, s, &mut flat, &mut starts, &mut nodes, &mut tops);
+    walks_by(
+        checked,
+        s,
+        rule,
+        &flat,
+        &starts,
+        &nodes,
+        &tops,
+        &mut bits,
+        walks,
+        walk_lengths,
+        directions,
+    )
+}
+
+// The same of any drawing.
+fn walks_any(
     before: Verdict,
     s: &[i32],
     rule: i32,
@@ -129,27 +161,6 @@ pub fn make_walks(
     requires { ⌜ (before ≡ Accepted → length (segments (now s)) ≤ 1024) × WalkRoom (now s) (now walks) (now «walk_lengths») (now directions) ⌝ }
     ensures { λ r. ⌜ WalkedOf (now (s .entry)) (before then drawingVerdict (segments (now (s .entry)))) rule r (now (walks .exit)) (now («walk_lengths» .exit)) (now (directions .exit)) ⌝ }
 {
-    if segm::count(s) <= segm::SMALL {
-        let mut flat = [0u16; ends::SMALL];
-        let mut starts = [0u16; graph::SMALL_STARTS];
-        let mut nodes = [0u16; ends::SMALL];
-        let mut tops = [0i32; segm::SMALL];
-        let mut bits = [0u8; segm::SMALL];
-        let checked = checks::check_small(before, s, &mut flat, &mut starts, &mut nodes, &mut tops);
-        return walks_by(
-            checked,
-            s,
-            rule,
-            &flat,
-            &starts,
-            &nodes,
-            &tops,
-            &mut bits,
-            walks,
-            walk_lengths,
-            directions,
-        );
-    }
     let mut flat = [0u16; ends::MOST];
     let mut starts = [0u16; graph::STARTS];
     let mut nodes = [0u16; ends::MOST];
@@ -169,4 +180,22 @@ pub fn make_walks(
         walk_lengths,
         directions,
     )
+}
+
+// Checks a drawing, unless something was refused before, and makes its walks where it is accepted: their points, how many each has, and its direction.
+pub fn make_walks(
+    before: Verdict,
+    s: &[i32],
+    rule: i32,
+    walks: &mut [i32],
+    walk_lengths: &mut [u16],
+    directions: &mut [u8],
+) -> Walked
+    requires { ⌜ (before ≡ Accepted → length (segments (now s)) ≤ 1024) × WalkRoom (now s) (now walks) (now «walk_lengths») (now directions) ⌝ }
+    ensures { λ r. ⌜ WalkedOf (now (s .entry)) (before then drawingVerdict (segments (now (s .entry)))) rule r (now (walks .exit)) (now («walk_lengths» .exit)) (now (directions .exit)) ⌝ }
+{
+    if segm::count(s) <= segm::SMALL {
+        return walks_small(before, s, rule, walks, walk_lengths, directions);
+    }
+    walks_any(before, s, rule, walks, walk_lengths, directions)
 }

@@ -1,17 +1,22 @@
--- A small drawing, or any. Assumes nothing.
+-- What is asked first, then a small drawing, or any. Assumes nothing.
 use borrow.Author.Needs.{needs}
-use mathlib.Core.Path.{ap₂, _∙_}
-use lib.IntN.{ℤ}
+use native.Mathlib.Omega.{arith}
 use mir.Facts.{toZ-ofZ}
-use Rattle.string_slice.specs.Run.{lists, sliceOutcome}
 use Rattle.string_slice.proofs.slice.Statement.{statement}
 use Rattle.string_slice.proofs.slice.Tie as tie
+
+ask-slice-requires : tie.Need-ask-slice-requires
+ask-slice-requires c κs = search needs
 
 count-requires : tie.Need-count-requires
 count-requires c κs = search needs
 
 slice-small-requires : tie.Need-slice-small-requires
-slice-small-requires c κs = search needs
+slice-small-requires c κs =
+    let t = c .before .before .before in
+    let n = t .before in
+    let k = n .before in
+    (omega (arith, n .count .ensures, t .if1 .taken), k .ask-slice .ensures)
 
 same-length : tie.Need-same-length
 same-length c = search needs
@@ -25,12 +30,11 @@ same-length-3 c = search needs
 returns : tie.Need-returns
 returns c =
     let k = c .before .before .before .before .before in
-    let s = k .before .before .before .before .before .before .before .before in
-    let a = s .args in
-    k .slice-small .ensures ∙ ap₂ (λ (rule direction : ℤ). sliceOutcome (a .numbers .now) rule direction (a .min-area) (lists (a .points .now) (a .lengths .now) (a .roles .now))) (toZ-ofZ (s .fits .rule)) (toZ-ofZ (s .fits .direction))
+    let s = k .before .before .before .before .before .before .before .before .before in
+    rw (toZ-ofZ (s .fits .rule), toZ-ofZ (s .fits .direction)) at (k .slice-small .ensures)
 
 slice-any-requires : tie.Need-slice-any-requires
-slice-any-requires c κs = search needs
+slice-any-requires c κs = let k = c .before .before .before .before .before in k .ask-slice .ensures
 
 same-length-4 : tie.Need-same-length-4
 same-length-4 c = search needs
@@ -44,14 +48,14 @@ same-length-6 c = search needs
 returns-2 : tie.Need-returns-2
 returns-2 c =
     let k = c .before .before .before .before .before in
-    let s = k .before .before .before .before .before .before .before .before in
-    let a = s .args in
-    k .slice-any .ensures ∙ ap₂ (λ (rule direction : ℤ). sliceOutcome (a .numbers .now) rule direction (a .min-area) (lists (a .points .now) (a .lengths .now) (a .roles .now))) (toZ-ofZ (s .fits .rule)) (toZ-ofZ (s .fits .direction))
+    let s = k .before .before .before .before .before .before .before .before .before in
+    rw (toZ-ofZ (s .fits .rule), toZ-ofZ (s .fits .direction)) at (k .slice-any .ensures)
 
 pub slice-spec : {M : Type 1} → statement M
 slice-spec =
     tie.close
     (tie.spec
+    ask-slice-requires
     count-requires
     slice-small-requires
     same-length

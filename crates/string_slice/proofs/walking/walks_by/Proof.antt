@@ -16,7 +16,7 @@ use Rattle.slice_walk.specs.Writing.{WalksAre}
 use Rattle.string_slice.specs.declared.walking.Walked.{Walked}
 use Rattle.string_slice.specs.Contours.{sideBits}
 use Rattle.string_slice.specs.Walking.{WalkedAre, WalkedOf}
-use Rattle.string_slice.proofs.Made.{walked-done, walked-stuck}
+use Rattle.string_slice.proofs.Made.{walked-as, walked-done, walked-stuck}
 use Rattle.string_slice.proofs.walking.walks_by.Statement.{statement}
 use Rattle.string_slice.proofs.walking.walks_by.Tie as tie
 
@@ -37,8 +37,7 @@ module _ (s : tie.Start) where
   by-verdict : {v : Verdict} (r : Walked) (points : List ℤ) (lengths dirs : List ℕ) → s .args .checked ≡ v
       → WalkedAre v d (found (ruleOf (s .args .rule))) r points lengths dirs
       → WalkedOf (s .args .s .now) (s .args .checked) (s .args .rule) r points lengths dirs
-  by-verdict r points lengths dirs e w =
-      subst (λ (v : Verdict). WalkedAre v d (found (ruleOf (s .args .rule))) r points lengths dirs) (sym e) w
+  by-verdict r points lengths dirs e w = walked-as _ _ r points lengths dirs (sym e) w
 
 walk-links-requires : tie.Need-walk-links-requires
 walk-links-requires c κs =
