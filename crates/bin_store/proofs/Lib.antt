@@ -1,6 +1,4 @@
 pub mod GivenUp
-pub mod Items
-pub mod Links
 pub mod Passed
 pub mod Sightings
-pub mod Stored
+pub mod Bins

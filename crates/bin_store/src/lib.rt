@@ -1,8 +1,8 @@
 // The memory of first sightings: a map from points to numbers, by hash. Every function here is proved, and the crate assumes nothing of its own.
-mod bins;
+mod memory;
 mod store;
 
-pub use bins::clear;
+pub use memory::clear;
 pub use store::BinStore;
 pub use store::Inserted;
 pub use store::Seen;

@@ -1,5 +1,5 @@
 // The memory beside its lists: by value, lent by `&mut`, and by plain parameters.
-use super::bins::find;
+use super::memory::find;
 use geom::Point;
 ghost use mathlib.Core.Path.{_≡_};
 ghost use mathlib.Core.Bool.{true};
@@ -48,7 +48,7 @@ pub fn insert(
             number: numbers[j - 1],
         };
     }
-    super::bins::store(&mut heads[..bins], nexts, seen, numbers, count, p, number);
+    super::memory::store(&mut heads[..bins], nexts, seen, numbers, count, p, number);
     Inserted {
         store: BinStore {
             bins: bins,

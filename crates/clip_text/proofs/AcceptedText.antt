@@ -30,8 +30,8 @@ use Rattle.string_clip.specs.declared.Clipped.the-variants.{Done}
 use Rattle.string_clip.specs.Claim.{Room}
 use Rattle.string_clip.specs.Paths.{clipPaths}
 use Rattle.string_clip.specs.Run.{totals, Lists, lists, runOf}
-use Rattle.string_clip.proofs.ReadBack.{read-back}
-use Rattle.string_clip.proofs.Together.{accepted-outcome, room-long}
+use Rattle.string_clip.proofs.Run.ReadBack.{read-back}
+use Rattle.string_clip.proofs.Claim.Together.{accepted-outcome, room-long}
 use Rattle.text.specs.declared.Choices.{Choices}
 use Rattle.text.specs.Grammar.{Parsed, Drawn, parsed}
 use Rattle.text.specs.Writing.{choiceNumbers, writing}

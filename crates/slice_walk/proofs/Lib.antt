@@ -1,5 +1,3 @@
-pub mod Choice
-pub mod Till
-pub mod OneWalk
-pub mod AllWalks
-pub mod Written
+pub mod Ends
+pub mod Walk
+pub mod Writing

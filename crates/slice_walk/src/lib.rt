@@ -25,7 +25,7 @@ pub enum Walks {
 }
 
 // The walk that begins with link k, to the points that its moves leave.
-fn walk(
+fn write_walk(
     links: &[i32],
     flat: &[u16],
     starts: &[u16],
@@ -86,7 +86,7 @@ pub fn write_walks(
             k += 1;
         } else {
             directions[walks] = bits[k] % 2;
-            let walked = walk(links, flat, starts, nodes, bits, k, &mut points[2 * at..]);
+            let walked = write_walk(links, flat, starts, nodes, bits, k, &mut points[2 * at..]);
             let Walked::Closed(n) = walked else {
                 return Walks::Stuck;
             };

@@ -13,7 +13,7 @@ use Rattle.checks.specs.Accepted.{Good}
 use Rattle.moves.specs.Bits.{has, bitsSet}
 use Rattle.moves.specs.Moves.{Move, move, bitsRemaining}
 use Rattle.clip_walk.specs.Walk.{pathFrom, pathsFrom}
-use Rattle.string_clip.specs.declared.run.Written.{Written}
+use Rattle.string_clip.specs.declared.links.Written.{Written}
 use Rattle.string_clip.specs.Paths.{finished, pathPoints}
 
 -- ---- points

@@ -1,12 +1,12 @@
 // The clip run: the cut lines inside or outside a drawing's filled area, as paths.
-mod paths;
-mod run;
+mod links;
+mod path;
 mod sums;
 
 use build::Filter;
 use fill_rule::Rule;
+use links::clip_links;
 use refusal::Verdict;
-use run::clip_links;
 pub use sums::lines;
 ghost use mathlib.Core.Path.{_≡_};
 ghost use mathlib.Core.Bool.{true};

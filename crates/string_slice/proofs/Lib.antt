@@ -1,4 +1,4 @@
-pub mod Sides
-pub mod Made
-pub mod Stages
 pub mod Cases
+pub mod Walking
+pub mod Run
+pub mod Contours

@@ -13,8 +13,8 @@ use Rattle.moves.specs.Moves.{Move}
 use Rattle.slice_walk.specs.Walk.{walks}
 use Rattle.slice_walk.specs.Writing.{allPoints, directions}
 use Rattle.slice_cut.specs.Cutting.{pathsIn}
-use Rattle.string_slice.specs.declared.walking.Walked.{Walked}
-use Rattle.string_slice.specs.declared.walking.Walked.the-variants.{Done, Refused}
+use Rattle.string_slice.specs.declared.walks.Walked.{Walked}
+use Rattle.string_slice.specs.declared.walks.Walked.the-variants.{Done, Refused}
 use Rattle.string_slice.specs.Contours.{sideBits}
 
 -- memory for the walks of the drawing that numbers are, unless it is too large

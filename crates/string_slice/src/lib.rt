@@ -1,11 +1,11 @@
 // The slice run: a drawing's filled area cut along all its segments, as contours with roles.
-mod walking;
+mod walks;
 
 use refusal::Verdict;
 pub use slice_cut::Contours;
 use slice_cut::cut_walks;
-use walking::Walked;
-use walking::make_walks;
+use walks::Walked;
+use walks::make_walks;
 ghost use mathlib.Core.Path.{_≡_};
 ghost use Prim.Native.Nat.{_≤_};
 ghost use Rattle.segm.specs.Segments.{count};

@@ -11,7 +11,7 @@ use Rattle.moves.specs.Moves.{bitsRemaining}
 use Rattle.moves.proofs.Moves.{bits-few}
 use Rattle.slice_walk.specs.Writing.{walkAt, WalkIs}
 use Rattle.slice_walk.specs.declared.Walked.{Walked}
-use Rattle.slice_walk.proofs.Written.{WalkFound, found, not-found, Written, none-yet, pass, whole, fits, stuck, fewer, room, more}
+use Rattle.slice_walk.proofs.Writing.Written.{WalkFound, found, not-found, Written, none-yet, pass, whole, fits, stuck, fewer, room, more}
 use Rattle.slice_walk.proofs.write_walks.Statement.{statement}
 use Rattle.slice_walk.proofs.write_walks.Tie as tie
 
@@ -89,23 +89,23 @@ slice-read-directions c = let e = c .before in omega (arith, inside e, w (l e) .
 slice-write-directions : tie.Need-slice-write-directions Inv-loop μ-loop
 slice-write-directions c = let e = c .before in omega (arith, walks-room e, s (l e) .pre .3, l e .loop .inv .dirs-room)
 
-mul-walk : tie.Need-mul-walk Inv-loop μ-loop
-mul-walk c = let e = c .before .before in record { fits = omega (arith, w (l e) .spent, few e) }
+mul-write-walk : tie.Need-mul-write-walk Inv-loop μ-loop
+mul-write-walk c = let e = c .before .before in record { fits = omega (arith, w (l e) .spent, few e) }
 
-mul-walk-2 : tie.Need-mul-walk-2 Inv-loop μ-loop
-mul-walk-2 c = let e = c .before .before in record { fits = omega (arith, w (l e) .spent, few e) }
+mul-write-walk-2 : tie.Need-mul-write-walk-2 Inv-loop μ-loop
+mul-write-walk-2 c = let e = c .before .before in record { fits = omega (arith, w (l e) .spent, few e) }
 
-sub-walk : tie.Need-sub-walk Inv-loop μ-loop
-sub-walk c = omega (arith, points-room (c .before .before))
+sub-write-walk : tie.Need-sub-write-walk Inv-loop μ-loop
+sub-write-walk c = omega (arith, points-room (c .before .before))
 
-part-walk-start : tie.Need-part-walk-start Inv-loop μ-loop
-part-walk-start c = omega (arith, points-room (c .before .before))
+part-write-walk-start : tie.Need-part-write-walk-start Inv-loop μ-loop
+part-write-walk-start c = omega (arith, points-room (c .before .before))
 
-part-walk-end : tie.Need-part-walk-end Inv-loop μ-loop
-part-walk-end c = search needs
+part-write-walk-end : tie.Need-part-write-walk-end Inv-loop μ-loop
+part-write-walk-end c = search needs
 
-walk-requires : tie.Need-walk-requires Inv-loop μ-loop
-walk-requires c κs =
+write-walk-requires : tie.Need-write-walk-requires Inv-loop μ-loop
+write-walk-requires c κs =
     let e = c .before .before .before in
     let p = s (l e) .pre .0 in (
       record { faultless = p .faultless; nodes-are = p .nodes-are; as-many = w (l e) .as-many },
@@ -127,7 +127,7 @@ enum-told c = search needs
 
 -- the call has returned
 module _ (q : tie.After-points Inv-loop μ-loop) where
-  abbrev r : tie.After-walk Inv-loop μ-loop
+  abbrev r : tie.After-write-walk Inv-loop μ-loop
   r = q .before .before .before
 
   abbrev e : tie.Else1 Inv-loop μ-loop
@@ -137,10 +137,10 @@ module _ (q : tie.After-points Inv-loop μ-loop) where
   past = take (length (l e .loop .points) - 2 * l e .loop .at) (drop (2 * l e .loop .at) (l e .loop .points))
 
   abbrev rest : List ℕ
-  rest = r .walk .last .1 .1 .1 .1 .0
+  rest = r .write-walk .last .1 .1 .1 .1 .0
 
   abbrev part : List ℤ
-  part = r .walk .last .1 .1 .1 .1 .1 .1 .0
+  part = r .write-walk .last .1 .1 .1 .1 .1 .1 .0
 
   abbrev Is : Walked → Type 0
   Is x = WalkIs (links (l e)) (walkAt (links (l e)) (l e .loop .bits) (l e .loop .k)) (l e .loop .bits) past x rest part
@@ -149,7 +149,7 @@ module _ (q : tie.After-points Inv-loop μ-loop) where
   dirs-room = length-set (l e .loop .directions) (l e .loop .walks) (getD (l e .loop .bits) (l e .loop .k) 0 % 2) ∙ l e .loop .inv .dirs-room
 
 same-length : tie.Need-same-length Inv-loop μ-loop
-same-length c = let q = c .before .before in r q .walk .kept .1 .1 .1 .1 .0 ∙ w (l (e q)) .as-many ∙ sym (s (l (e q)) .pre .0 .as-many)
+same-length c = let q = c .before .before in r q .write-walk .kept .1 .1 .1 .1 .0 ∙ w (l (e q)) .as-many ∙ sym (s (l (e q)) .pre .0 .as-many)
 
 same-length-2 : tie.Need-same-length-2 Inv-loop μ-loop
 same-length-2 c = let q = c .before .before in q .points .given .1 ∙ l (e q) .loop .inv .points-room
@@ -164,7 +164,7 @@ returns : tie.Need-returns Inv-loop μ-loop
 returns c =
     let q = c .before .before in
     stuck (links (l (e q))) (w (l (e q))) (inside (e q)) (line (e q))
-    (not-found (links (l (e q))) (l (e q) .loop .bits) (past q) (rest q) (part q) (walkAt (links (l (e q))) (l (e q) .loop .bits) (l (e q) .loop .k)) (subst (Is q) (c .enum-told .given .1) (r q .walk .ensures)))
+    (not-found (links (l (e q))) (l (e q) .loop .bits) (past q) (rest q) (part q) (walkAt (links (l (e q))) (l (e q) .loop .bits) (l (e q) .loop .k)) (subst (Is q) (c .enum-told .given .1) (r q .write-walk .ensures)))
     _ _ _
 
 -- the walk that was found
@@ -176,7 +176,7 @@ module _ (c : tie.After-known-told Inv-loop μ-loop) where
   n = c .before .walked .given .0 .0
 
   f : WalkFound (links (l (e q))) (l (e q) .loop .bits) (past q) (rest q) (part q) (walkAt (links (l (e q))) (l (e q) .loop .bits) (l (e q) .loop .k)) n
-  f = found (links (l (e q))) (l (e q) .loop .bits) (past q) (rest q) (part q) (walkAt (links (l (e q))) (l (e q) .loop .bits) (l (e q) .loop .k)) n (subst (Is q) (c .before .walked .given .1) (r q .walk .ensures))
+  f = found (links (l (e q))) (l (e q) .loop .bits) (past q) (rest q) (part q) (walkAt (links (l (e q))) (l (e q) .loop .bits) (l (e q) .loop .k)) n (subst (Is q) (c .before .walked .given .1) (r q .write-walk .ensures))
 
   enough : l (e q) .loop .at + n ≤ 2048
   enough = omega (arith, few (e q), room (links (l (e q))) (w (l (e q))) (inside (e q)) (line (e q)) f)
@@ -242,12 +242,12 @@ write-walks-spec =
     loop-again
     slice-read-directions
     slice-write-directions
-    mul-walk
-    mul-walk-2
-    sub-walk
-    part-walk-start
-    part-walk-end
-    walk-requires
+    mul-write-walk
+    mul-write-walk-2
+    sub-write-walk
+    part-write-walk-start
+    part-write-walk-end
+    write-walk-requires
     enum-known-walked
     enum-told
     same-length

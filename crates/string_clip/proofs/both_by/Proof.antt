@@ -4,8 +4,8 @@ use mathlib.Core.Path.{sym, _∙_}
 use native.Mathlib.Omega.{arith}
 use mir.Facts.{toZ-ofZ}
 use Rattle.string_clip.specs.Run.{Lists, lists}
-use Rattle.string_clip.proofs.Answers.{one-verdict}
-use Rattle.string_clip.proofs.Together.{both-runs}
+use Rattle.string_clip.proofs.Run.Answers.{one-verdict}
+use Rattle.string_clip.proofs.Claim.Together.{both-runs}
 use Rattle.string_clip.proofs.both_by.Statement.{statement}
 use Rattle.string_clip.proofs.both_by.Tie as tie
 

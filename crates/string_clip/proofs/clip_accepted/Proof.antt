@@ -17,7 +17,7 @@ use Rattle.contour.specs.Points.{Writes}
 use Rattle.string_clip.specs.Paths.{clipPaths}
 use Rattle.string_clip.specs.Run.{totals}
 use Rattle.string_clip.specs.Writing.{ClipLists, bitsPaths}
-use Rattle.string_clip.proofs.Masked.{masked-paths}
+use Rattle.string_clip.proofs.Paths.Masked.{masked-paths}
 use Rattle.string_clip.proofs.clip_accepted.Statement.{statement}
 use Rattle.string_clip.proofs.clip_accepted.Tie as tie
 

@@ -3,7 +3,7 @@ use borrow.Author.Needs.{needs}
 use mir.Facts.{toZ-ofZ}
 use Rattle.integers.proofs.Booleans.{both-l, both-r}
 use Rattle.string_clip.specs.Run.{Lists, lists}
-use Rattle.string_clip.proofs.Together.{both-runs}
+use Rattle.string_clip.proofs.Claim.Together.{both-runs}
 use Rattle.string_clip.proofs.clip_both.Statement.{statement}
 use Rattle.string_clip.proofs.clip_both.Tie as tie
 

@@ -11,8 +11,8 @@ use Rattle.fill_rule.specs.FillRule.{ruleOf}
 use Rattle.build.specs.Links.{filterOf}
 use Rattle.string_clip.specs.Run.{Lists, lists}
 use Rattle.string_clip.specs.Claim.{Room}
-use Rattle.string_clip.proofs.Answers.{said, accepted-answer, refused-answer}
-use Rattle.string_clip.proofs.Together.{accepted-drawing, accepted-room}
+use Rattle.string_clip.proofs.Run.Answers.{said, accepted-answer, refused-answer}
+use Rattle.string_clip.proofs.Claim.Together.{accepted-drawing, accepted-room}
 use Rattle.string_clip.proofs.clip_by.Statement.{statement}
 use Rattle.string_clip.proofs.clip_by.Tie as tie
 

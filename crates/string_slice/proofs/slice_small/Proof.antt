@@ -12,7 +12,7 @@ use Rattle.segm.proofs.Segments.{length-segments}
 use Rattle.checks.specs.Runs.{verdict}
 use Rattle.string_slice.specs.Run.{Lists, lists, runOf}
 use Rattle.string_slice.specs.Walking.{WalkRoom, WalkedOf}
-use Rattle.string_slice.proofs.Stages.{is-one, walk-room, before-few, walked-run, Staged, staged, refused-outcome, lengths-front, directions-front, as-many, stands, points-fit, lengths-fit, roles-fit, cut-outcome}
+use Rattle.string_slice.proofs.Run.{is-one, walk-room, before-few, walked-run, Staged, staged, refused-outcome, lengths-front, directions-front, as-many, stands, points-fit, lengths-fit, roles-fit, cut-outcome}
 use Rattle.string_slice.proofs.slice_small.Statement.{statement}
 use Rattle.string_slice.proofs.slice_small.Tie as tie
 

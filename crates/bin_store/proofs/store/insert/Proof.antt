@@ -10,7 +10,7 @@ use lib.ListN.{length, take, drop, length-append}
 use lib.Seq.{length-take-le, take-at}
 use Rattle.bin_store.specs.Sightings.{Sighting, sighting, isSighted, numberOf}
 use Rattle.bin_store.specs.Bins.{memory, Binned}
-use Rattle.bin_store.proofs.Items.{not-there, is-there, its-number}
+use Rattle.bin_store.proofs.Bins.Items.{not-there, is-there, its-number}
 use Rattle.bin_store.proofs.Sightings.{sight-again, sight-first, number-first, number-own}
 use Rattle.bin_store.proofs.store.insert.Statement.{statement}
 use Rattle.bin_store.proofs.store.insert.Tie as tie

@@ -14,7 +14,7 @@ use Rattle.moves.specs.ByEnd.{moveOf, NodeAt}
 use Rattle.moves.proofs.ByEnd.{node-at}
 use Rattle.slice_walk.specs.Ends.{nearestEnd}
 use Rattle.slice_walk.specs.Writing.{SliceLists, NextIs}
-use Rattle.slice_walk.proofs.Choice.{next-other, next-current, next-none}
+use Rattle.slice_walk.proofs.Ends.{next-other, next-current, next-none}
 use Rattle.slice_walk.proofs.nearest.find_nearest.Statement.{statement}
 use Rattle.slice_walk.proofs.nearest.find_nearest.Tie as tie
 

@@ -17,7 +17,7 @@ use Rattle.moves.specs.Moves.{remains}
 use Rattle.moves.specs.ByEnd.{moveOf}
 use Rattle.moves.proofs.ByEnd.{partFrom, part-step, part-end, end-below}
 use Rattle.slice_walk.specs.Ends.{addEnd, isOther, nearestEnd, Leaving}
-use Rattle.slice_walk.proofs.Choice.{nearest-has}
+use Rattle.slice_walk.proofs.Ends.{nearest-has}
 use Rattle.slice_walk.proofs.nearest.find_other.Statement.{statement}
 use Rattle.slice_walk.proofs.nearest.find_other.Tie as tie
 

@@ -11,7 +11,7 @@ use Rattle.integers.proofs.Machine.{got}
 use Rattle.geom.specs.declared.Point.{Point}
 use Rattle.geom.specs.Points.{cross}
 use Rattle.slice_walk.specs.Walk.{rotated, isWide, isNearer}
-use Rattle.slice_walk.proofs.Choice.{lt-turned}
+use Rattle.slice_walk.proofs.Ends.{lt-turned}
 use Rattle.slice_walk.proofs.nearest.is_nearer.Statement.{statement}
 use Rattle.slice_walk.proofs.nearest.is_nearer.Tie as tie
 

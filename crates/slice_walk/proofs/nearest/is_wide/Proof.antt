@@ -8,7 +8,7 @@ use mir.Val.{toZ, ofZ}
 use Rattle.integers.proofs.Machine.{got}
 use Rattle.geom.specs.Points.{cross}
 use Rattle.slice_walk.specs.Walk.{rotated, isWide}
-use Rattle.slice_walk.proofs.Choice.{le-turned}
+use Rattle.slice_walk.proofs.Ends.{le-turned}
 use Rattle.slice_walk.proofs.nearest.is_wide.Statement.{statement}
 use Rattle.slice_walk.proofs.nearest.is_wide.Tie as tie
 

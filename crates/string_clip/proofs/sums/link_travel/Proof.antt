@@ -5,7 +5,7 @@ use native.Mathlib.Omega.{arith}
 use Prim.Native.Nat.{_*_}
 use Rattle.geom.specs.Points.{travel}
 use Rattle.moves.specs.Bits.{bitsSet}
-use Rattle.string_clip.proofs.Links.{link-bound}
+use Rattle.string_clip.proofs.Writing.Links.{link-bound}
 use Rattle.string_clip.proofs.sums.link_travel.Statement.{statement}
 use Rattle.string_clip.proofs.sums.link_travel.Tie as tie
 

@@ -11,7 +11,7 @@ use Rattle.segm.specs.Segments.{Drawing, segments, segmentAt}
 use Rattle.segm.proofs.Segments.{segment-in}
 use Rattle.moves.specs.Bits.{bitsSet}
 use Rattle.string_clip.specs.Writing.{travelOver}
-use Rattle.string_clip.proofs.Links.{all-bound, travel-next}
+use Rattle.string_clip.proofs.Writing.Links.{all-bound, travel-next}
 use Rattle.string_clip.proofs.sums.travel.Statement.{statement}
 use Rattle.string_clip.proofs.sums.travel.Tie as tie
 

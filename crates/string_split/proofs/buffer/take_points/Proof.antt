@@ -18,7 +18,7 @@ use Rattle.contour.specs.Area.{isLarge}
 use Rattle.contour.proofs.Coordinates.{length-pairs}
 use Rattle.bin_store.specs.Sightings.{Sighting, numberOf, sight}
 use Rattle.bin_store.specs.Bins.{memory, Binned}
-use Rattle.bin_store.proofs.Items.{none-sighted}
+use Rattle.bin_store.proofs.Bins.Items.{none-sighted}
 use Rattle.string_split.specs.declared.buffer.LoopTotals.{LoopTotals}
 use Rattle.string_split.specs.Loops.{Buffered, bufferPoint}
 use Rattle.string_split.specs.Run.{loopTotals}

@@ -1,0 +1,5 @@
+-- The laws of `specs/Paths.antt`: steps by the moves of the walk; links that change no path; so a run's paths by the drawing's own line bits (`Masked`).
+pub mod Steps
+pub mod NoLines
+pub mod SameEnds
+pub mod Masked
