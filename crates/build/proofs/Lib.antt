@@ -1,2 +1,2 @@
-pub mod Kept
 pub mod Cases
+pub mod Links

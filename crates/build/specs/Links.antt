@@ -9,8 +9,8 @@ use Rattle.segm.specs.declared.Segment.{Segment}
 use Rattle.lists.specs.Members.{keep}
 use Rattle.segm.specs.Segments.{Drawing, withBits}
 use Rattle.fill_rule.specs.declared.Rule.{Rule}
-use Rattle.build.specs.declared.links.Filter.{Filter}
-use Rattle.build.specs.declared.links.Filter.the-variants.{InsideIncluded, InsideExcluded, OutsideIncluded, OutsideExcluded}
+use Rattle.build.specs.declared.filter.Filter.{Filter}
+use Rattle.build.specs.declared.filter.Filter.the-variants.{InsideIncluded, InsideExcluded, OutsideIncluded, OutsideExcluded}
 use Rattle.ray.specs.Ray.{fill}
 
 -- how many of the two side bits of a fill are set

@@ -23,7 +23,7 @@ use Rattle.segm.specs.Segments.{Drawing, count, segments, nowhere, segmentAt}
 use Rattle.segm.proofs.Segments.{everywhere, total-none}
 use Rattle.faults.proofs.Faultless.{faultless}
 use Rattle.meetings.specs.Meetings.{sameEnds}
-use Rattle.meetings.proofs.Apart.{apart-ends, same-ends-sym}
+use Rattle.meetings.proofs.Meetings.Apart.{apart-ends, same-ends-sym}
 use Rattle.balance.specs.Balance.{balance, balances}
 use Rattle.checks.specs.Drawing.{drawingVerdict}
 use Rattle.checks.specs.Runs.{Run, clipRun, asked, verdict}

@@ -2,5 +2,4 @@ pub mod Drawing
 pub mod Runs
 pub mod Memory
 pub mod Accepted
-pub mod Listed
 pub mod Cases

@@ -17,6 +17,7 @@ use Rattle.segm.specs.Segments.{width, count, segments}
 use Rattle.segm.proofs.Segments.{length-segments}
 use Rattle.checks.specs.Drawing.{drawingVerdict}
 use Rattle.checks.specs.Runs.{Run, asked, verdict}
+pub mod Listed
 
 -- a run that is accepted passed every check
 pub record Passed (r : Run) : Type 0 where

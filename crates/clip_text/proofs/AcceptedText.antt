@@ -15,7 +15,7 @@ use Rattle.geom.proofs.Points.{within-l, within-r, near-x, near-y}
 use Rattle.segm.specs.declared.Segment.{Segment}
 use Rattle.lists.specs.Members.{_∈_}
 use Rattle.segm.specs.Segments.{Drawing, width, segments, numbersOf, laid}
-use Rattle.segm.proofs.Laid.{segments-laid}
+use Rattle.segm.proofs.Segments.Laid.{segments-laid}
 use Rattle.lists.proofs.Members.{in-map}
 use Rattle.faults.specs.Faults.{endsInRange}
 use Rattle.refusal.specs.declared.Verdict.the-variants.{Accepted}
@@ -35,7 +35,7 @@ use Rattle.string_clip.proofs.Claim.Together.{accepted-outcome, room-long}
 use Rattle.text.specs.declared.Choices.{Choices}
 use Rattle.text.specs.Grammar.{Parsed, Drawn, parsed}
 use Rattle.text.specs.Writing.{choiceNumbers, writing}
-use Rattle.text.proofs.Laws.{AllSmall, fits, reads-back}
+use Rattle.text.proofs.Writing.{AllSmall, fits, reads-back}
 use Rattle.clip_print.specs.Printed.{linesOf, printed}
 use Rattle.clip_text.specs.Answer.{runOn, textOutcome, answerTo}
 

@@ -19,11 +19,11 @@ use Rattle.string_clip.specs.Paths.{clipPaths}
 use Rattle.string_clip.specs.Claim.{Tells}
 use Rattle.string_clip.specs.Run.{totals, Lists, runOf, writtenTo, Outcome, answered, clipOutcome}
 use Rattle.contour.specs.Points.{coordinates}
-use Rattle.contour.proofs.Coordinates.{length-coordinates}
+use Rattle.contour.proofs.Points.Coordinates.{length-coordinates}
 use Rattle.string_clip.proofs.Claim.Together.{accepted-outcome, accepted-room, accepted-tells}
 use Rattle.text.specs.Grammar.{Parsed, BadLine, Drawn, parsed}
 use Rattle.clip_print.specs.Printed.{Held}
-use Rattle.contour.proofs.CutWritten.{tally-lengths}
+use Rattle.contour.proofs.Points.CutWritten.{tally-lengths}
 use Rattle.clip_text.specs.Answer.{runOn, textOutcome}
 
 -- what a run writes stands there

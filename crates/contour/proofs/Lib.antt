@@ -1,6 +1,3 @@
-pub mod Coordinates
-pub mod Areas
-pub mod Reversal
-pub mod Written
-pub mod CutWritten
-pub mod OneContour
+pub mod Area
+pub mod Points
+pub mod Contour

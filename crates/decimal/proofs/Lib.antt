@@ -1,3 +1,3 @@
-pub mod Digits
 pub mod Spelled
 pub mod Cases
+pub mod Decimal

@@ -17,6 +17,7 @@ use Rattle.integers.proofs.Machine.{bits-eq}
 use Rattle.integers.proofs.Order.{order, ltZ-true, ltZ-false, leZ-true, lt-ltZ, le-ltZ, le-leZ, abs-in, abs--}
 use Rattle.geom.specs.declared.Point.{Point}
 use Rattle.geom.specs.Points.{eqZ, within, ltP, eqP, coordinate, inRange, travel}
+pub mod CrossProduct
 
 -- ---- equality
 pub eqZ-true : {a b : ℤ} → eqZ a b ≡ true → a ≡ b

@@ -27,6 +27,7 @@ use Rattle.scan.specs.Scan.{insertAt, removeAt, isBelow, belowAt, Changes}
 use Rattle.scan.specs.declared.Sought.the-variants.{Along}
 use Rattle.scan.proofs.Scan.{insert-in, in-insert, remove-in, in-remove, not-removed, pairs-remove}
 use Rattle.open_list.specs.OpenList.{FitsAt, ClosesAt, HasLeft, Entered, Marked, Marks, Spanning, CanLeave, CanEnter}
+pub mod NeighbourTest
 
 -- ---- leaving
 -- nothing leaves at a start, nor at the end of a vertical segment

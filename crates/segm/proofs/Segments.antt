@@ -13,6 +13,7 @@ use Rattle.lists.specs.Sums.{only}
 use Rattle.segm.specs.Segments.{Drawing, width, front, segmentsOf, count, segments, nowhere, segmentAt, total}
 use Rattle.lists.proofs.Members.{in-at, stands}
 use Rattle.lists.proofs.Sums.{sum-cong, sum-zero, sum-split, sum-trade, sum-++}
+pub mod Laid
 
 length-segmentsOf : (n : ℕ) (l : List ℤ) → length (segmentsOf n l) ≡ n
 unfolding segmentsOf

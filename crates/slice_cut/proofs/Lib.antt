@@ -1,4 +1,1 @@
-pub mod InLists
-pub mod ManyContours
-pub mod OneWalk
-pub mod AllWalks
+pub mod Cutting

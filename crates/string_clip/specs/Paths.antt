@@ -6,7 +6,7 @@ use Rattle.geom.specs.declared.Point.{Point}
 use Rattle.geom.specs.Points.{travel}
 use Rattle.segm.specs.Segments.{Drawing}
 use Rattle.fill_rule.specs.declared.Rule.{Rule}
-use Rattle.build.specs.declared.links.Filter.{Filter}
+use Rattle.build.specs.declared.filter.Filter.{Filter}
 use Rattle.build.specs.Links.{keptLinks}
 use Rattle.moves.specs.Steps.{Step, step}
 use Rattle.moves.specs.Moves.{Move, over}

@@ -16,9 +16,9 @@ use Rattle.segm.specs.Segments.{Drawing}
 use Rattle.lists.proofs.Written.{take-written}
 use Rattle.lists.proofs.Members.{in-map}
 use Rattle.contour.specs.Points.{coordinates, pairUp, AllInRange, cut}
-use Rattle.contour.proofs.Coordinates.{pair-coordinates}
-use Rattle.contour.proofs.Areas.{near-all}
-use Rattle.contour.proofs.CutWritten.{cut-written, tally-lengths}
+use Rattle.contour.proofs.Points.Coordinates.{pair-coordinates}
+use Rattle.contour.proofs.Area.{near-all}
+use Rattle.contour.proofs.Points.CutWritten.{cut-written, tally-lengths}
 use Rattle.refusal.specs.declared.Verdict.{Verdict}
 use Rattle.refusal.specs.declared.Verdict.the-variants as verdict-is
 use Rattle.refusal.specs.Order.{_then_}

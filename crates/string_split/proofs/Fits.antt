@@ -13,7 +13,7 @@ use Rattle.geom.specs.Points.{inRange}
 use Rattle.lists.specs.Members.{_∈_, keep}
 use Rattle.lists.proofs.Members.{in-take, in-drop, cases, in-++, keep-in, length-keep}
 use Rattle.lists.proofs.Entries.{flatten-++}
-use Rattle.contour.proofs.Areas.{near-all}
+use Rattle.contour.proofs.Area.{near-all}
 use Rattle.contour.specs.Points.{AllInRange}
 use Rattle.contour.specs.Area.{isLarge}
 use Rattle.bin_store.specs.Sightings.{Sighting, numberOf, sight}

@@ -1,6 +1,5 @@
-pub mod Fits
-pub mod OnePoint
 pub mod Splitting
-pub mod Taking
 pub mod Run
 pub mod Cases
+pub mod Fits
+pub mod OnePoint

@@ -12,7 +12,7 @@ use Rattle.geom.specs.Points.{inRange}
 use Rattle.lists.specs.Members.{any}
 use Rattle.lists.proofs.Members.{stands}
 use Rattle.contour.specs.Points.{pairUp, origin, AllInRange}
-use Rattle.contour.proofs.Coordinates.{length-pairs}
+use Rattle.contour.proofs.Points.Coordinates.{length-pairs}
 use Rattle.refusal.specs.declared.Verdict.the-variants.{Accepted}
 use Rattle.refusal.specs.Order.{refuseIf, first}
 use Rattle.refusal.specs.Asked.{wrongLength, Lent, lent, tooShort}

@@ -1,6 +1,4 @@
-pub mod Pieces
-pub mod Laws
-pub mod Finding
-pub mod Rows
 pub mod Storing
 pub mod Cases
+pub mod Grammar
+pub mod Writing

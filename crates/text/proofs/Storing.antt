@@ -20,7 +20,8 @@ use Rattle.text.specs.declared.lines.Scanned.{Scanned}
 use Rattle.text.specs.declared.lines.Scanned.the-variants as scanned-is
 use Rattle.text.specs.Grammar.{RowsFound, Bad, Rows, andLines, Parsed, BadLine, Drawn, choicesOf, parsedRows}
 use Rattle.text.specs.Storing.{Outcome, outcome, readVerdict, answered, readInto, Nothing, Numbers, rowsStored, linesStored}
-use Rattle.text.proofs.Rows.{differ}
+use Rattle.text.proofs.Storing.StoredRows.{differ}
+pub mod StoredRows
 
 -- a list is too short for n numbers exactly where it has fewer entries
 pub long-enough : (n entries : ℕ) → tooShort n (lent entries 1) ≡ false → n ≤ entries

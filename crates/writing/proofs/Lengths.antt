@@ -12,7 +12,7 @@ use Rattle.lists.specs.Members.{_∈_}
 use Rattle.lists.specs.Sums.{tally}
 use Rattle.lists.proofs.Sums.{tally-map, tally-bound}
 use Rattle.decimal.specs.Decimal.{digits, decimal, signed}
-use Rattle.decimal.proofs.Digits.{decimal-short}
+use Rattle.decimal.proofs.Decimal.{decimal-short}
 use Rattle.writing.specs.Lines.{joined, lineOf, textOf}
 use Rattle.writing.specs.Lengths.{digitsUpTo, digitsIn, signedLength, lineLength, rowLength, textLength}
 

@@ -8,7 +8,7 @@ use lib.IntN.{ℤ}
 use Rattle.lists.specs.Members.{_∈_}
 use Rattle.lists.proofs.Members.{in-++, in-map}
 use Rattle.decimal.specs.Decimal.{signed}
-use Rattle.decimal.proofs.Digits.{signed-bytes}
+use Rattle.decimal.proofs.Decimal.{signed-bytes}
 use Rattle.writing.specs.Lines.{joined, lineOf, textOf}
 
 -- ---- the bytes of what is joined

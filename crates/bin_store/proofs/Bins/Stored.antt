@@ -9,7 +9,7 @@ use lib.Seq.{getD-set-same, getD-set-other}
 use lib.IntN.{ℤ}
 use Rattle.geom.specs.declared.Point.{Point}
 use Rattle.contour.specs.Points.{pairUp, origin}
-use Rattle.contour.proofs.Coordinates.{length-pairs, pairs-set}
+use Rattle.contour.proofs.Points.Coordinates.{length-pairs, pairs-set}
 use Rattle.bin_store.specs.Sightings.{Sighting, sighting}
 use Rattle.bin_store.specs.Bins.{binIndex, pointOf, memory, Unseen, Binned, RoomForItem}
 use Rattle.bin_store.proofs.Bins.Items.{memory-more}

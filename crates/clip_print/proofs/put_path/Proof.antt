@@ -11,7 +11,7 @@ use mir.Val.{toZ, ofZ}
 use Rattle.integers.proofs.Machine.{read}
 use Rattle.contour.specs.Points.{pairUp}
 use Rattle.clip_print.specs.Printed.{pointLine, pathLines}
-use Rattle.clip_print.proofs.Pairs.{path-more, path-none}
+use Rattle.clip_print.proofs.Printed.{path-more, path-none}
 use Rattle.writing.proofs.Puts.{put-length, Left, left-all, left-less, left-none, left-fits}
 use Rattle.clip_print.proofs.put_path.Statement.{statement}
 use Rattle.clip_print.proofs.put_path.Tie as tie

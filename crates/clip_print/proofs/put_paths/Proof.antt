@@ -10,7 +10,7 @@ use Rattle.lists.specs.Sums.{tally}
 use Rattle.lists.proofs.Sums.{tally-take, tally-part}
 use Rattle.contour.specs.Points.{pairUp}
 use Rattle.clip_print.specs.Printed.{pathLines}
-use Rattle.clip_print.proofs.Pairs.{linesFrom, paths-more, paths-none}
+use Rattle.clip_print.proofs.Printed.{linesFrom, paths-more, paths-none}
 use Rattle.writing.proofs.Puts.{put-length, Left, left-all, left-less, left-none, left-fits}
 use Rattle.clip_print.proofs.put_paths.Statement.{statement}
 use Rattle.clip_print.proofs.put_paths.Tie as tie

@@ -9,7 +9,7 @@ use lib.Seq.{length-take-le}
 use Rattle.contour.specs.Points.{pairUp, cut}
 use Rattle.clip_print.specs.Printed.{pathsLines, totalLine}
 use Rattle.writing.proofs.Puts.{put-then, put-same}
-use Rattle.clip_print.proofs.Pairs.{cut-first}
+use Rattle.clip_print.proofs.Printed.{cut-first}
 use Rattle.clip_print.proofs.put_run.Statement.{statement}
 use Rattle.clip_print.proofs.put_run.Tie as tie
 

@@ -2,7 +2,7 @@
 use mathlib.Core.Path.{_∙_}
 use mir.Syntax.{w64}
 use Rattle.integers.proofs.Machine.{got}
-use Rattle.contour.proofs.Areas.{cross-origin, origin-near}
+use Rattle.contour.proofs.Area.{cross-origin, origin-near}
 use Rattle.contour.proofs.cross_product.Statement.{statement}
 use Rattle.contour.proofs.cross_product.Tie as tie
 

@@ -5,7 +5,7 @@ use mathlib.Core.Bool.{true, false}
 use lib.ListN.{length}
 use Rattle.contour.specs.Points.{coordinates, pairUp}
 use Rattle.contour.specs.Contour.{contourOf}
-use Rattle.contour.proofs.OneContour.{role-is, turned, left}
+use Rattle.contour.proofs.Contour.OneContour.{role-is, turned, left}
 use Rattle.contour.proofs.finish.Statement.{statement}
 use Rattle.contour.proofs.finish.Tie as tie
 

@@ -11,8 +11,8 @@ use mir.Val.{toZ, ofZ}
 use Rattle.integers.proofs.Machine.{got}
 use Rattle.contour.specs.Points.{pairUp}
 use Rattle.contour.specs.Area.{shoelace, isLarge}
-use Rattle.contour.proofs.Coordinates.{length-pairs}
-use Rattle.contour.proofs.Areas.{shoelace-bound}
+use Rattle.contour.proofs.Points.Coordinates.{length-pairs}
+use Rattle.contour.proofs.Area.{shoelace-bound}
 use borrow.Author.Needs.{needs}
 use Rattle.contour.proofs.is_large.Statement.{statement}
 use Rattle.contour.proofs.is_large.Tie as tie

@@ -6,7 +6,7 @@ use lib.ListN.{getD}
 use mir.Syntax.{w32}
 use Prim.Native.Nat.{_+_, _*_}
 use Rattle.integers.proofs.Machine.{read}
-use Rattle.contour.proofs.Coordinates.{pair-at, pair-past}
+use Rattle.contour.proofs.Points.Coordinates.{pair-at, pair-past}
 use borrow.Author.Needs.{needs}
 use Rattle.contour.proofs.point_at.Statement.{statement}
 use Rattle.contour.proofs.point_at.Tie as tie

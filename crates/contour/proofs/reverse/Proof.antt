@@ -8,8 +8,8 @@ use lib.ListN.{length, set, length-set}
 use lib.IntN.{ℤ}
 use Rattle.geom.specs.declared.Point.{Point}
 use Rattle.contour.specs.Points.{coordinates, pairUp, turnedRound}
-use Rattle.contour.proofs.Coordinates.{length-pairs, coordinates-pairs}
-use Rattle.contour.proofs.Reversal.{Turned, turned-start, turned-end, turned-points}
+use Rattle.contour.proofs.Points.Coordinates.{length-pairs, coordinates-pairs}
+use Rattle.contour.proofs.Contour.Reversal.{Turned, turned-start, turned-end, turned-points}
 use Rattle.contour.proofs.reverse.Statement.{statement}
 use Rattle.contour.proofs.reverse.Tie as tie
 

@@ -15,8 +15,8 @@ use Rattle.geom.specs.declared.Point.{Point}
 use Rattle.geom.specs.Points.{inRange}
 use Rattle.contour.specs.Points.{pairUp, origin, AllInRange}
 use Rattle.contour.specs.Area.{crossProduct, shoelace}
-use Rattle.contour.proofs.Coordinates.{length-pairs}
-use Rattle.contour.proofs.Areas.{most, near-at, cross-bound, shoelace-none, along, shoelace-along, along-step, along-end}
+use Rattle.contour.proofs.Points.Coordinates.{length-pairs}
+use Rattle.contour.proofs.Area.{most, near-at, cross-bound, shoelace-none, along, shoelace-along, along-step, along-end}
 use Rattle.contour.proofs.shoelace.Statement.{statement}
 use Rattle.contour.proofs.shoelace.Tie as tie
 

@@ -14,7 +14,7 @@ use lib.Seq.{drop-cons}
 use Rattle.integers.proofs.Booleans.{or-l, or-r}
 use Rattle.lists.proofs.Members.{cases}
 use Rattle.decimal.specs.Decimal.{isDigit, worth, positive}
-use Rattle.decimal.proofs.Digits.{digit}
+use Rattle.decimal.proofs.Decimal.{digit}
 use Rattle.decimal.proofs.positive.Statement.{statement}
 use Rattle.decimal.proofs.positive.Tie as tie
 

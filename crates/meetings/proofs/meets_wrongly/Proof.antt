@@ -7,7 +7,7 @@ use mir.Syntax.{w32}
 use Rattle.integers.proofs.Machine.{res, flag-lt}
 use Rattle.integers.proofs.Order.{ltZ-true}
 use Rattle.meetings.specs.Meetings.{parts, inInterior, meetsWrongly}
-use Rattle.meetings.proofs.Right.{starts-right}
+use Rattle.meetings.proofs.Meetings.Right.{starts-right}
 use Rattle.meetings.proofs.meets_wrongly.Statement.{statement}
 use Rattle.meetings.proofs.meets_wrongly.Tie as tie
 

@@ -9,7 +9,7 @@ use mir.Val.{toZ, ofZ}
 use Rattle.integers.proofs.Machine.{got}
 use Rattle.geom.proofs.Points.{eqP-true}
 use Rattle.meetings.specs.Meetings.{side}
-use Rattle.open_list.proofs.NeighbourTest.{s-first-not, s-first-rest, s-first-beyond, s-first-end, t-first-not, t-first-rest, t-first-beyond, t-first-end, at-one-start, tells-neighbour}
+use Rattle.open_list.proofs.OpenList.NeighbourTest.{s-first-not, s-first-rest, s-first-beyond, s-first-end, t-first-not, t-first-rest, t-first-beyond, t-first-end, at-one-start, tells-neighbour}
 use Rattle.open_list.proofs.follows.Statement.{statement}
 use Rattle.open_list.proofs.follows.Tie as tie
 

@@ -6,7 +6,7 @@ use lib.ListN.{length-set}
 use mir.Syntax.{w32}
 use Rattle.integers.proofs.Machine.{read}
 use Rattle.segm.specs.Segments.{width}
-use Rattle.segm.proofs.Laid.{stores}
+use Rattle.segm.proofs.Segments.Laid.{stores}
 use Rattle.segm.proofs.put.Statement.{statement}
 use Rattle.segm.proofs.put.Tie as tie
 

@@ -12,12 +12,12 @@ use Rattle.geom.specs.declared.Point.{Point}
 use Rattle.lists.specs.Sums.{tally}
 use Rattle.lists.specs.Written.{written}
 use Rattle.contour.specs.Points.{coordinates, pairUp}
-use Rattle.contour.proofs.Coordinates.{length-pairs}
+use Rattle.contour.proofs.Points.Coordinates.{length-pairs}
 use Rattle.string_split.specs.Splitting.{Splittable}
 use Rattle.contour.specs.Contour.{contourOf}
 use Rattle.slice_cut.specs.Cutting.{rolesOf, pathsIn}
-use Rattle.slice_cut.proofs.InLists.{length-cut, points-passed, next-place, path-few, path-fits, path-is, length-path, splittable}
-use Rattle.slice_cut.proofs.ManyContours.{numbersOf, Finished, none-finished, untouched, finished-more}
+use Rattle.slice_cut.proofs.Cutting.InLists.{length-cut, points-passed, next-place, path-few, path-fits, path-is, length-path, splittable}
+use Rattle.slice_cut.proofs.Cutting.ManyContours.{numbersOf, Finished, none-finished, untouched, finished-more}
 use Rattle.slice_cut.proofs.finish_all.Statement.{statement}
 use Rattle.slice_cut.proofs.finish_all.Tie as tie
 

@@ -13,7 +13,7 @@ use Rattle.geom.specs.Points.{eqP}
 use Rattle.lists.specs.Written.{written}
 use Rattle.segm.specs.Segments.{Drawing}
 use Rattle.contour.specs.Points.{coordinates, origin}
-use Rattle.contour.proofs.Coordinates.{written-point}
+use Rattle.contour.proofs.Points.Coordinates.{written-point}
 use Rattle.ends.specs.Ends.{endPoint}
 use Rattle.graph.specs.Nodes.{linkOf, otherEnd}
 use Rattle.graph.proofs.Node.{link-other}

@@ -15,7 +15,7 @@ use Rattle.segm.specs.Segments.{Drawing}
 use Rattle.lists.proofs.Written.{written-more}
 use Rattle.lists.proofs.Entries.{flatten-one}
 use Rattle.contour.specs.Points.{coordinates, Writes}
-use Rattle.contour.proofs.Written.{writes-one}
+use Rattle.contour.proofs.Points.Written.{writes-one}
 use Rattle.moves.specs.Bits.{has}
 use Rattle.moves.specs.Moves.{Move, move, remains, taken, takenAll, bitsRemaining}
 use Rattle.moves.proofs.Bits.{bit-one}

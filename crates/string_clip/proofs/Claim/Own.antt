@@ -19,8 +19,8 @@ use Rattle.lists.proofs.Members.{cases, keep-in}
 use Rattle.lists.proofs.Sums.{tally-nil}
 use Rattle.meetings.specs.Meetings.{sameEnds}
 use Rattle.fill_rule.specs.declared.Rule.{Rule}
-use Rattle.build.specs.declared.links.Filter.{Filter}
-use Rattle.build.specs.declared.links.Filter.the-variants.{InsideIncluded, InsideExcluded, OutsideIncluded, OutsideExcluded}
+use Rattle.build.specs.declared.filter.Filter.{Filter}
+use Rattle.build.specs.declared.filter.Filter.the-variants.{InsideIncluded, InsideExcluded, OutsideIncluded, OutsideExcluded}
 use Rattle.fill_rule.specs.FillRule.{filled}
 use Rattle.ray.specs.Ray.{bottom, top, fill}
 use Rattle.build.specs.Links.{sidesSet, keepsSides, keeps, filterOf, keptLinks}

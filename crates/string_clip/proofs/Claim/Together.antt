@@ -24,7 +24,7 @@ use Rattle.checks.specs.Accepted.{Good, accepts}
 use Rattle.checks.proofs.Runs.{passed, verdict-room}
 use Rattle.checks.proofs.Accepted.{distinct, verdict-good, accepted-input, accepted-run}
 use Rattle.fill_rule.specs.declared.Rule.{Rule}
-use Rattle.build.specs.declared.links.Filter.{Filter}
+use Rattle.build.specs.declared.filter.Filter.{Filter}
 use Rattle.fill_rule.specs.FillRule.{ruleOf}
 use Rattle.ray.specs.Ray.{fill}
 use Rattle.build.specs.Links.{keeps, filterOf}
@@ -32,7 +32,7 @@ use Rattle.moves.specs.Steps.{Step}
 use Rattle.moves.proofs.Worth.{cond-some}
 use Rattle.string_clip.specs.Paths.{clipPaths, stepsOf, travelOf}
 use Rattle.contour.specs.Points.{coordinates}
-use Rattle.contour.proofs.Coordinates.{length-coordinates}
+use Rattle.contour.proofs.Points.Coordinates.{length-coordinates}
 use Rattle.string_clip.specs.Run.{totals, Lists, runOf, Outcome, answered, clipOutcome, output}
 use Rattle.string_clip.specs.Claim.{Direction, drawn, travelled, ownSteps, ownTravel, same, times, OneOf, rayKeeps, InsideAndOutside, Room, Tells, Together}
 use Rattle.string_clip.proofs.Run.ReadBack.{read-back}

@@ -12,7 +12,7 @@ use Rattle.lists.specs.Members.{_∈_, keep}
 use Rattle.segm.specs.Segments.{Drawing, nowhere, segmentAt}
 use Rattle.lists.proofs.Members.{in-map}
 use Rattle.fill_rule.specs.declared.Rule.{Rule}
-use Rattle.build.specs.declared.links.Filter.{Filter}
+use Rattle.build.specs.declared.filter.Filter.{Filter}
 use Rattle.ray.specs.Ray.{fill}
 use Rattle.ray.proofs.Fills.{fill-lines, plain}
 use Rattle.build.specs.Links.{sidesSet, keepsSides, keeps, keptLinks, masked, maskedBits}

@@ -17,7 +17,7 @@ use Rattle.checks.specs.Drawing.{drawingVerdict}
 use Rattle.checks.specs.Runs.{ruleChoice, flagChoice, clipRun, asked, verdict}
 use Rattle.fill_rule.specs.declared.Rule.{Rule}
 use Rattle.fill_rule.specs.FillRule.{ruleOf}
-use Rattle.build.specs.declared.links.Filter.{Filter}
+use Rattle.build.specs.declared.filter.Filter.{Filter}
 use Rattle.build.specs.Links.{filterOf}
 use Rattle.string_clip.specs.declared.Totals.{Totals}
 use Rattle.string_clip.specs.declared.Clipped.the-variants.{Done, Refused}

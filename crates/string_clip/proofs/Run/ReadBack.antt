@@ -3,9 +3,9 @@ use mathlib.Core.Path.{_≡_}
 use mathlib.Core.List.{List, flatten}
 use Rattle.geom.specs.declared.Point.{Point}
 use Rattle.lists.specs.Written.{written}
-use Rattle.contour.proofs.Coordinates.{pair-coordinates}
+use Rattle.contour.proofs.Points.Coordinates.{pair-coordinates}
 use Rattle.refusal.specs.declared.Verdict.the-variants.{Accepted}
-use Rattle.contour.proofs.CutWritten.{cut-written}
+use Rattle.contour.proofs.Points.CutWritten.{cut-written}
 use Rattle.string_clip.specs.Run.{totals, Lists, answered, output}
 
 pub read-back : (paths : List (List Point)) (ls : Lists) → output (answered Accepted paths ls) ≡ paths

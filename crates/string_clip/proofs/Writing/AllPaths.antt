@@ -14,7 +14,7 @@ use Rattle.lists.specs.Written.{written}
 use Rattle.segm.specs.Segments.{Drawing}
 use Rattle.lists.proofs.Entries.{flatten-++, flatten-one}
 use Rattle.contour.specs.Points.{coordinates, Writes}
-use Rattle.contour.proofs.Written.{writes-one}
+use Rattle.contour.proofs.Points.Written.{writes-one}
 use Rattle.moves.specs.Bits.{has}
 use Rattle.moves.specs.Moves.{Move, move, takenAll, bitsRemaining}
 use Rattle.moves.specs.Begins.{begins}

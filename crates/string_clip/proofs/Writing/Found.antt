@@ -18,7 +18,7 @@ use Rattle.lists.proofs.Sums.{tally-one}
 use Rattle.lists.proofs.Members.{length-keep}
 use Rattle.checks.specs.Accepted.{Good}
 use Rattle.fill_rule.specs.declared.Rule.{Rule}
-use Rattle.build.specs.declared.links.Filter.{Filter}
+use Rattle.build.specs.declared.filter.Filter.{Filter}
 use Rattle.ray.specs.Ray.{fill}
 use Rattle.build.specs.Links.{keeps, keptLinks}
 use Rattle.moves.specs.Bits.{has, bitsSet}

@@ -10,7 +10,7 @@ use lib.ListN.{length}
 use Rattle.geom.specs.declared.Point.{Point}
 use Rattle.geom.specs.Points.{inRange}
 use Rattle.contour.specs.Points.{pairUp}
-use Rattle.contour.proofs.Coordinates.{length-pairs}
+use Rattle.contour.proofs.Points.Coordinates.{length-pairs}
 use Rattle.refusal.specs.declared.Verdict.the-variants.{Refused}
 use Rattle.refusal.specs.Order.{firstFrom, first}
 use Rattle.refusal.proofs.Order.{step-none, step-some, step-end}

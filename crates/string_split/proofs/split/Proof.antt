@@ -8,7 +8,7 @@ use lib.ListN.{length}
 use lib.IntN.{ℤ}
 use Rattle.geom.specs.declared.Point.{Point}
 use Rattle.contour.specs.Points.{pairUp, Writes}
-use Rattle.contour.proofs.Coordinates.{length-pairs}
+use Rattle.contour.proofs.Points.Coordinates.{length-pairs}
 use Rattle.refusal.specs.declared.Verdict.{Verdict}
 use Rattle.string_split.specs.declared.buffer.LoopTotals.{LoopTotals}
 use Rattle.string_split.specs.declared.Loops.the-variants.{Done}

@@ -10,7 +10,7 @@ use Rattle.geom.specs.Points.{eqZ, ltP, eqP, between}
 use Rattle.geom.proofs.Points.{eqZ-true, eqP-true, ltP-true}
 use Rattle.segm.specs.declared.Segment.{Segment}
 use Rattle.meetings.specs.Meetings.{side, parts, inInterior, sameEnds, meetsWrongly}
-use Rattle.meetings.proofs.Right.{Opposite, parts-true, same-turn}
+use Rattle.meetings.proofs.Meetings.Right.{Opposite, parts-true, same-turn}
 use Rattle.strip.proofs.Strip.Apart.{Between, Apart}
 
 in-interior-true : (s : Segment) (p : Point) → inInterior s p ≡ true → (side s p ≡ pos 0) × Between s p

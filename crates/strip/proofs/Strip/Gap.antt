@@ -5,7 +5,7 @@ use lib.IntN.{ℤ, pos, negℤ, _+ℤ_, _-ℤ_, _*ℤ_}
 use Rattle.integers.proofs.Ring.{E, var, con, neg, _⊞_, _⊟_, _⊠_, _≐_, ring, ring2, ring4, ring5, ring6, ring7}
 use Rattle.geom.specs.declared.Point.{Point}
 use Rattle.geom.specs.Points.{cross}
-use Rattle.geom.proofs.CrossProduct.{crossE, cross-swap}
+use Rattle.geom.proofs.Points.CrossProduct.{crossE, cross-swap}
 use Rattle.segm.specs.declared.Segment.{Segment}
 use Rattle.meetings.specs.Meetings.{side}
 use Rattle.strip.specs.Strip.{reach, height, gap}

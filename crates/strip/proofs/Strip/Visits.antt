@@ -9,7 +9,7 @@ use Rattle.integers.proofs.Order.{lt-le}
 use Rattle.geom.specs.declared.Point.{Point}
 use Rattle.geom.specs.Points.{ltP, eqP, cross}
 use Rattle.geom.proofs.Points.{eq-eqP, eqP-true, Before, before, before-le, before-irrefl, before-trans, compare, ltP-true}
-use Rattle.geom.proofs.CrossProduct.{not-left, turn}
+use Rattle.geom.proofs.Points.CrossProduct.{not-left, turn}
 use Rattle.segm.specs.declared.Segment.{Segment}
 use Rattle.meetings.specs.Meetings.{side}
 use Rattle.strip.specs.Strip.{above, clockwise}

@@ -16,8 +16,8 @@ use Rattle.refusal.specs.Asked.{lent, tooShort}
 use Rattle.text.specs.declared.Reading.the-variants.{Read, Refused}
 use Rattle.text.specs.Grammar.{pieces, row, fieldsIn, RowsFound, andLines, rowsFrom, afterLast, BadLine, choicesOf, parsedRows, mostBytes, parsed}
 use Rattle.text.specs.Storing.{outcome, readVerdict, readInto, readOutcome, rowStored, listIf, Numbers, rowsStored, linesStored}
-use Rattle.text.proofs.Finding.{past, cut}
-use Rattle.text.proofs.Rows.{row-length, line-bad, lines-next, row-filled}
+use Rattle.text.proofs.Grammar.Finding.{past, cut}
+use Rattle.text.proofs.Storing.StoredRows.{row-length, line-bad, lines-next, row-filled}
 use Rattle.text.proofs.Storing.{bad-answer, short-answer, good-answer}
 use Rattle.text.proofs.read.Statement.{statement}
 use Rattle.text.proofs.read.Tie as tie

@@ -6,7 +6,7 @@ use Prim.Native.Nat.{ℕ, suc, _+_, _-_, _/_, _%_, _^_, _<_, _≤_}
 use native.Mathlib.Omega.{arith}
 use lib.ListN.{length, length-set}
 use Rattle.decimal.specs.Decimal.{digits, decimal}
-use Rattle.decimal.proofs.Digits.{digits-one, digits-more}
+use Rattle.decimal.proofs.Decimal.{digits-one, digits-more}
 use Rattle.writing.specs.Lengths.{digitsUpTo, digitsIn}
 use Rattle.writing.specs.Puts.{Put}
 use Rattle.writing.proofs.Lengths.{length-decimal, one-less, count-one, count-more}

@@ -11,7 +11,7 @@ use Rattle.geom.specs.declared.Point.{Point}
 use Rattle.lists.specs.Written.{written}
 use Rattle.segm.specs.Segments.{segments}
 use Rattle.contour.specs.Points.{coordinates}
-use Rattle.contour.proofs.Coordinates.{written-point}
+use Rattle.contour.proofs.Points.Coordinates.{written-point}
 use Rattle.string_clip.specs.Writing.{endsPoints}
 use Rattle.string_clip.proofs.Writing.Points.{length-points}
 use Rattle.string_clip.proofs.path.write_path.Statement.{statement}

@@ -9,7 +9,7 @@ use Rattle.geom.specs.declared.Point.{Point}
 use Rattle.lists.specs.Members.{keep}
 use Rattle.contour.specs.Points.{pairUp}
 use Rattle.contour.specs.Area.{isLarge}
-use Rattle.contour.proofs.Coordinates.{length-pairs}
+use Rattle.contour.proofs.Points.Coordinates.{length-pairs}
 use Rattle.string_split.specs.Splitting.{Adds}
 use Rattle.string_split.proofs.Splitting.{adds-none}
 use Rattle.string_split.proofs.OnePoint.{no-rest, one-rest}

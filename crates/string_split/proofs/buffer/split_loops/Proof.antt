@@ -12,7 +12,7 @@ use Rattle.lists.specs.Members.{keep}
 use Rattle.lists.proofs.Members.{keep-++, length-keep}
 use Rattle.contour.specs.Points.{pairUp, AllInRange, Writes}
 use Rattle.contour.specs.Area.{isLarge}
-use Rattle.contour.proofs.Coordinates.{length-pairs, pairUp-take}
+use Rattle.contour.proofs.Points.Coordinates.{length-pairs, pairUp-take}
 use Rattle.bin_store.specs.Bins.{Binned}
 use Rattle.string_split.specs.declared.buffer.LoopTotals.{LoopTotals}
 use Rattle.string_split.specs.Loops.{Buffered, bufferPoints, rest, allLoops, splitLoops}

@@ -15,7 +15,7 @@ use Rattle.lists.specs.Members.{keep}
 use Rattle.lists.proofs.Members.{in-at}
 use Rattle.contour.specs.Points.{pairUp, origin, Writes}
 use Rattle.contour.specs.Area.{isLarge}
-use Rattle.contour.proofs.Coordinates.{length-pairs}
+use Rattle.contour.proofs.Points.Coordinates.{length-pairs}
 use Rattle.bin_store.specs.Sightings.{Sighting, numberOf, sight}
 use Rattle.bin_store.specs.Bins.{memory, Binned}
 use Rattle.bin_store.proofs.Bins.Items.{none-sighted}
@@ -24,7 +24,7 @@ use Rattle.string_split.specs.Loops.{Buffered, bufferPoint}
 use Rattle.string_split.specs.Run.{loopTotals}
 use Rattle.string_split.specs.Splitting.{firstPoints, Adds}
 use Rattle.string_split.proofs.OnePoint.{length-buffered}
-use Rattle.string_split.proofs.Taking.{Taking, none-taken, few-points, few-loops, taken-more, all-taken}
+use Rattle.string_split.proofs.Splitting.Taking.{Taking, none-taken, few-points, few-loops, taken-more, all-taken}
 use Rattle.string_split.proofs.buffer.take_points.Statement.{statement}
 use Rattle.string_split.proofs.buffer.take_points.Tie as tie
 

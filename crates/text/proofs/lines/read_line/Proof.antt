@@ -12,8 +12,8 @@ use mir.Syntax.{w32}
 use Rattle.integers.proofs.Machine.{read}
 use Rattle.text.specs.Grammar.{pieces, row}
 use Rattle.text.specs.Storing.{rowStored}
-use Rattle.text.proofs.Finding.{past, cut}
-use Rattle.text.proofs.Rows.{field-stored, field-bad, all-stored, row-full}
+use Rattle.text.proofs.Grammar.Finding.{past, cut}
+use Rattle.text.proofs.Storing.StoredRows.{field-stored, field-bad, all-stored, row-full}
 use Rattle.text.proofs.lines.read_line.Statement.{statement}
 use Rattle.text.proofs.lines.read_line.Tie as tie
 

@@ -14,9 +14,9 @@ use lib.Seq.{length-take-le}
 use lib.IntN.{ℤ}
 use Rattle.text.specs.Grammar.{pieces, row, RowsFound, andLines, rowsFrom}
 use Rattle.text.specs.Storing.{rowStored, listIf, rowsStored}
-use Rattle.text.proofs.Finding.{past, cut}
-use Rattle.text.proofs.Rows.{row-length, fields-later, last-bad, line-bad, lines-next, row-stored, line-stored}
-use Rattle.text.proofs.Laws.{row-narrow}
+use Rattle.text.proofs.Grammar.Finding.{past, cut}
+use Rattle.text.proofs.Storing.StoredRows.{row-length, fields-later, last-bad, line-bad, lines-next, row-stored, line-stored}
+use Rattle.text.proofs.Writing.{row-narrow}
 use Rattle.text.proofs.lines.read_lines.Statement.{statement}
 use Rattle.text.proofs.lines.read_lines.Tie as tie
 
