@@ -16,15 +16,15 @@ use Rattle.integers.proofs.Booleans.{clash, both-r, same-test}
 use Rattle.integers.proofs.Linear.{ints, of-neg, of-pos}
 use Rattle.integers.proofs.Order.{le-leZ, lt-ltZ}
 use Rattle.geom.specs.declared.Point.{Point}
-use Rattle.geom.specs.Points.{ltP, eqP}
+use Rattle.geom.specs.Points.{ltP, eqP, inRange}
 use Rattle.geom.proofs.Points.{eq-eqP, ne-eqP, ltP-irrefl}
 use Rattle.lists.specs.Members.{_∈_, keep}
 use Rattle.segm.specs.Segments.{Drawing, segmentAt}
 use Rattle.lists.proofs.Members.{keep-in}
 use Rattle.ends.specs.Ends.{endPoint}
-use Rattle.ends.proofs.Ends.{end-a, end-b}
+use Rattle.ends.proofs.Ends.{end-a, end-b, end-near}
 use Rattle.graph.specs.Nodes.{node, linkOf, otherEnd, part, Nodes}
-use Rattle.graph.proofs.Node.{link-low, link-high, other-low, other-high}
+use Rattle.graph.proofs.Node.{link-low, link-high, other-low, other-high, other-end-below}
 use Rattle.moves.specs.declared.NextEnd.{NextEnd}
 use Rattle.moves.specs.declared.NextEnd.the-variants.{Stop, Leave}
 use Rattle.moves.specs.Steps.{other}
@@ -138,9 +138,17 @@ module _ (links : Drawing) (faultless : Faultless links) where
       (λ t. eq-eqb (linkOf m e) (linkOf m f) (ap (linkOf m) (eqb-true e f t)))
 
 -- ---- the nearest end
+pub far-near : (links : Drawing) → Faultless links → (e : ℕ) → e < 2 * length links → inRange (farPoint links e) ≡ true
+unfolding farPoint
+far-near links faultless e h = end-near links faultless (otherEnd (length links) e) (other-end-below (length links) e h)
+
 module _ (links : Drawing) (direction : Bool) (f : ℕ) where
+  -- the nearer of the best and another, at the point of f
+  abbrev add : NextEnd → ℕ → NextEnd
+  add = addEnd links direction (endPoint links f) (farPoint links f)
+
   -- what the best end and another have, the nearer one has
-  add-has : (P : ℕ → Type 0) (e : ℕ) (best : NextEnd) → Leaving P best → P e → Leaving P (addEnd links direction f best e)
+  add-has : (P : ℕ → Type 0) (e : ℕ) (best : NextEnd) → Leaving P best → P e → Leaving P (add best e)
   unfolding addEnd
   add-has P e Stop b q = q
   add-has P e (Leave g) b q = go (isNearer direction (endPoint links f) (farPoint links f) (farPoint links g) (farPoint links e))
@@ -156,7 +164,7 @@ module _ (links : Drawing) (direction : Bool) (f : ℕ) where
   nearest-has P bits [] best b h = b
   nearest-has P bits (e ∷ es) best b h = nearest-has P bits es _ (go (isOther links direction f bits e) refl) (λ g i. h g (inr i))
     where
-      go : (t : Bool) → isOther links direction f bits e ≡ t → Leaving P (cond t (addEnd links direction f best e) best)
+      go : (t : Bool) → isOther links direction f bits e ≡ t → Leaving P (cond t (add best e) best)
       go true q = add-has P e best b (h e (inl refl) (both-r (not (eqb e f)) _ q))
       go false q = b
 
@@ -193,7 +201,7 @@ module _ (links : Drawing) (faultless : Faultless links) (direction : Bool) (f :
   leads e h = subst (λ q. other (segmentAt links (link e)) q ≡ farPoint links e) (h .1) (other-is links faultless e (h .0))
 
   add-is : (e : ℕ) → At e → (best : NextEnd) → Leaving At best → (l : List ℕ)
-      → nearest links direction p back (asLink best) (link e ∷ l) ≡ nearest links direction p back (asLink (addEnd links direction f best e)) l
+      → nearest links direction p back (asLink best) (link e ∷ l) ≡ nearest links direction p back (asLink (add links direction f best e)) l
   unfolding nearest addEnd
   add-is e h Stop b l = refl
   add-is e h (Leave g) b l =
@@ -215,8 +223,8 @@ module _ (links : Drawing) (faultless : Faultless links) (direction : Bool) (f :
       rest = keep isTaken (map link es)
 
       go : (t : Bool) → ((next : NextEnd) → Leaving At next → nearest links direction p back (asLink next) rest ≡ asLink (nearestEnd links direction f bits next es))
-          → nearest links direction p back (asLink best) (cond t (link e ∷ rest) rest) ≡ asLink (nearestEnd links direction f bits (cond t (addEnd links direction f best e) best) es)
-      go true ih = add-is e (h e (inl refl)) best b rest ∙ ih (addEnd links direction f best e) (add-has links direction f At e best b (h e (inl refl)))
+          → nearest links direction p back (asLink best) (cond t (link e ∷ rest) rest) ≡ asLink (nearestEnd links direction f bits (cond t (add links direction f best e) best) es)
+      go true ih = add-is e (h e (inl refl)) best b rest ∙ ih (add links direction f best e) (add-has links direction f At e best b (h e (inl refl)))
       go false ih = ih best b
 
   module _ (flat starts nodes : List ℕ) (n : Nodes links flat starts nodes) where

@@ -47,19 +47,18 @@ fn far_point(links: &[i32], e: usize) -> Point
     ends::end_point(links, graph::other_end(m, e))
 }
 
-// The nearer of the best end so far and e, of the ends at the point of f, whose link is the current one.
-fn add(links: &[i32], direction: bool, f: usize, best: NextEnd, e: usize) -> NextEnd
+// The nearer of the best end so far and e to a, turning about c, where they are left.
+fn add(links: &[i32], direction: bool, c: Point, a: Point, best: NextEnd, e: usize) -> NextEnd
     requires { ⌜ Faultless (segments (now links))
-        × (f < 2 * length (segments (now links)))
+        × (inRange c ≡ true)
+        × (inRange a ≡ true)
         × Leaving (λ b. b < 2 * length (segments (now links))) best
         × (e < 2 * length (segments (now links))) ⌝ }
-    ensures { λ r. ⌜ r ≡ addEnd (segments (now (links .entry))) direction f best e ⌝ }
+    ensures { λ r. ⌜ r ≡ addEnd (segments (now (links .entry))) direction c a best e ⌝ }
 {
     let NextEnd::Leave(b) = best else {
         return NextEnd::Leave(e);
     };
-    let c = ends::end_point(links, f);
-    let a = far_point(links, f);
     if is_nearer(direction, c, a, far_point(links, b), far_point(links, e)) {
         return NextEnd::Leave(e);
     }
@@ -82,13 +81,15 @@ fn find_other(
         × (f < 2 * length (now bits)) ⌝ }
     ensures { λ r. ⌜ r ≡ nearestEnd (segments (now (links .entry))) direction f (now (bits .entry)) Stop (part (now (flat .entry)) (now (starts .entry)) v) ⌝ }
 {
+    let c = ends::end_point(links, f);
+    let a = far_point(links, f);
     let end = starts[v + 1] as usize;
     let mut j = starts[v] as usize;
     let mut best = NextEnd::Stop;
     while j < end {
         let e = flat[j] as usize;
         if (e != f) & moves::remains(bits, e, direction) {
-            best = add(links, direction, f, best, e);
+            best = add(links, direction, c, a, best, e);
         }
         j += 1;
     }

@@ -4,17 +4,13 @@ use mathlib.Core.Path.{_≡_, sym, ap, ap₂, subst, _∙_}
 use mathlib.Core.Bool.{Bool, true, false, cond}
 use Prim.Native.Nat.{ℕ, _*_, _<_}
 use lib.ListN.{length}
-use Rattle.geom.specs.declared.Point.{Point}
 use Rattle.geom.specs.Points.{inRange}
 use Rattle.segm.specs.Segments.{Drawing, segments}
-use Rattle.ends.specs.Ends.{endPoint}
-use Rattle.graph.specs.Nodes.{otherEnd}
-use Rattle.graph.proofs.Node.{other-end-below}
 use Rattle.moves.specs.declared.NextEnd.{NextEnd}
 use Rattle.moves.specs.declared.NextEnd.the-variants.{Leave}
 use Rattle.slice_walk.specs.Walk.{isNearer}
 use Rattle.slice_walk.specs.Ends.{farPoint, addEnd, Leaving}
-use Rattle.ends.proofs.Ends.{end-near}
+use Rattle.slice_walk.proofs.Ends.{far-near}
 use Rattle.slice_walk.proofs.nearest.add.Statement.{statement}
 use Rattle.slice_walk.proofs.nearest.add.Tie as tie
 
@@ -28,10 +24,7 @@ returns : tie.Need-returns
 unfolding addEnd
 returns c =
     let a = c .before .before .args in
-    sym (ap (λ (n : NextEnd). addEnd (segments (a .links .now)) (a .direction) (a .f) n (a .e)) (c .enum-told .given .1))
-
-end-point-requires : tie.Need-end-point-requires
-end-point-requires c κs = search needs
+    sym (ap (λ (n : NextEnd). addEnd (segments (a .links .now)) (a .direction) (a .c) (a .a) n (a .e)) (c .enum-told .given .1))
 
 far-point-requires : tie.Need-far-point-requires
 far-point-requires c κs = search needs
@@ -39,13 +32,10 @@ far-point-requires c κs = search needs
 far-point-requires-2 : tie.Need-far-point-requires-2
 far-point-requires-2 c κs = search needs
 
-far-point-requires-3 : tie.Need-far-point-requires-3
-far-point-requires-3 c κs = search needs
-
 -- the two ends
-module _ (c : tie.After-far-point3) where
+module _ (c : tie.After-far-point2) where
   abbrev t : tie.After-best
-  t = c .before .before .before .before .before
+  t = c .before .before .before
 
   abbrev s : tie.Start
   s = t .before .before
@@ -59,34 +49,28 @@ module _ (c : tie.After-far-point3) where
   best-is : s .args .best ≡ Leave b
   best-is = t .best .given .1
 
-  far : (e : ℕ) → e < 2 * length links → inRange (farPoint links e) ≡ true
-  unfolding farPoint
-  far e h = end-near links (s .pre .0) (otherEnd (length links) e) (other-end-below (length links) e h)
-
   best-below : b < 2 * length links
-  best-below = subst (Leaving (λ e. e < 2 * length links)) best-is (s .pre .2)
+  best-below = subst (Leaving (λ e. e < 2 * length links)) best-is (s .pre .3)
 
 is-nearer-requires : tie.Need-is-nearer-requires
 is-nearer-requires c κs = (
-  ap inRange (c .before .before .before .end-point .ensures) ∙ end-near (links c) (s c .pre .0) (s c .args .f) (s c .pre .1),
-  ap inRange (c .before .before .far-point .ensures) ∙ far c (s c .args .f) (s c .pre .1),
-  ap inRange (c .before .far-point2 .ensures) ∙ far c (b c) (best-below c),
-  ap inRange (c .far-point3 .ensures) ∙ far c (s c .args .e) (s c .pre .3),
+  s c .pre .1,
+  s c .pre .2,
+  ap inRange (c .before .far-point .ensures) ∙ far-near (links c) (s c .pre .0) (b c) (best-below c),
+  ap inRange (c .far-point2 .ensures) ∙ far-near (links c) (s c .pre .0) (s c .args .e) (s c .pre .4),
 )
 
 -- by the comparison
 module _ (c : tie.After-is-nearer) where
-  abbrev d : tie.After-far-point3
+  abbrev d : tie.After-far-point2
   d = c .before
 
-  added : (t : Bool) → c .is-nearer .result ≡ t → cond t (Leave (s d .args .e)) (Leave (b d)) ≡ addEnd (links d) (s d .args .direction) (s d .args .f) (s d .args .best) (s d .args .e)
+  added : (t : Bool) → c .is-nearer .result ≡ t → cond t (Leave (s d .args .e)) (Leave (b d)) ≡ addEnd (links d) (s d .args .direction) (s d .args .c) (s d .args .a) (s d .args .best) (s d .args .e)
   unfolding addEnd
   added t q =
-      let nearer : c .is-nearer .result ≡ isNearer (s d .args .direction) (endPoint (links d) (s d .args .f)) (farPoint (links d) (s d .args .f)) (farPoint (links d) (b d)) (farPoint (links d) (s d .args .e)) =
-      c .is-nearer .ensures
-      ∙ ap₂ (λ (p q : Point). isNearer (s d .args .direction) p q (d .before .far-point2 .result) (d .far-point3 .result)) (d .before .before .before .end-point .ensures) (d .before .before .far-point .ensures)
-      ∙ ap₂ (isNearer (s d .args .direction) (endPoint (links d) (s d .args .f)) (farPoint (links d) (s d .args .f))) (d .before .far-point2 .ensures) (d .far-point3 .ensures) in
-      sym (ap (λ (n : NextEnd). addEnd (links d) (s d .args .direction) (s d .args .f) n (s d .args .e)) (best-is d) ∙ ap (λ t. cond t (Leave (s d .args .e)) (Leave (b d))) (sym nearer ∙ q))
+      let nearer : c .is-nearer .result ≡ isNearer (s d .args .direction) (s d .args .c) (s d .args .a) (farPoint (links d) (b d)) (farPoint (links d) (s d .args .e)) =
+      c .is-nearer .ensures ∙ ap₂ (isNearer (s d .args .direction) (s d .args .c) (s d .args .a)) (d .before .far-point .ensures) (d .far-point2 .ensures) in
+      sym (ap (λ (n : NextEnd). addEnd (links d) (s d .args .direction) (s d .args .c) (s d .args .a) n (s d .args .e)) (best-is d) ∙ ap (λ t. cond t (Leave (s d .args .e)) (Leave (b d))) (sym nearer ∙ q))
 
 returns-2 : tie.Need-returns-2
 returns-2 c = added (c .before) true (c .if1 .taken)
@@ -101,10 +85,8 @@ add-spec =
     enum-known-best
     enum-told
     returns
-    end-point-requires
     far-point-requires
     far-point-requires-2
-    far-point-requires-3
     is-nearer-requires
     returns-2
     returns-3)

@@ -1,6 +1,6 @@
 -- The best end so far and the rest of the part decide. Assumes nothing.
 use borrow.Author.Needs.{needs}
-use mathlib.Core.Path.{_≡_, sym, ap, subst, _∙_}
+use mathlib.Core.Path.{_≡_, sym, ap, ap₂, subst, _∙_}
 use mathlib.Core.List.{List, [], _∷_}
 use mathlib.Core.Logic.{⊎-elim}
 use mathlib.Core.Bool.{true, false, not, _&&_}
@@ -9,60 +9,71 @@ use native.Mathlib.Numerals.{add-one}
 use Prim.Native.Nat.{ℕ, suc, _+_, _-_, _*_, _<_, _≤_}
 use lib.Dec.{eqb}
 use lib.ListN.{length, getD}
+use Rattle.geom.specs.declared.Point.{Point}
+use Rattle.geom.specs.Points.{inRange}
 use Rattle.segm.specs.Segments.{Drawing, segments}
+use Rattle.ends.specs.Ends.{endPoint}
+use Rattle.ends.proofs.Ends.{end-near}
 use Rattle.graph.specs.Nodes.{part}
 use Rattle.moves.specs.declared.NextEnd.{NextEnd}
 use Rattle.moves.specs.declared.NextEnd.the-variants.{Stop}
 use Rattle.moves.specs.Moves.{remains}
 use Rattle.moves.specs.ByEnd.{moveOf}
 use Rattle.moves.proofs.ByEnd.{partFrom, part-step, part-end, end-below}
-use Rattle.slice_walk.specs.Ends.{addEnd, isOther, nearestEnd, Leaving}
-use Rattle.slice_walk.proofs.Ends.{nearest-has}
+use Rattle.slice_walk.specs.Ends.{farPoint, addEnd, isOther, nearestEnd, Leaving}
+use Rattle.slice_walk.proofs.Ends.{far-near, nearest-has}
 use Rattle.slice_walk.proofs.nearest.find_other.Statement.{statement}
 use Rattle.slice_walk.proofs.nearest.find_other.Tie as tie
 
 abbrev Inv-loop : tie.InvT-loop
-Inv-loop links flat starts bits v f direction end j₀ best₀ j best =
+Inv-loop links flat starts bits v f direction c a end j₀ best₀ j best =
     (getD starts v 0 ≤ j)
     × (end ≡ getD starts (suc v) 0)
     × Leaving (λ e. e < 2 * length (segments links)) best
     × (nearestEnd (segments links) direction f bits Stop (part flat starts v) ≡ nearestEnd (segments links) direction f bits best (partFrom flat end j))
 
 abbrev μ-loop : tie.MeasureT-loop
-μ-loop links flat starts bits v f direction end j₀ best₀ j best = end - j
+μ-loop links flat starts bits v f direction c a end j₀ best₀ j best = end - j
+
+end-point-requires : tie.Need-end-point-requires Inv-loop μ-loop
+end-point-requires c κs = search needs
+
+far-point-requires : tie.Need-far-point-requires Inv-loop μ-loop
+far-point-requires c κs = search needs
 
 add-end : tie.Need-add-end Inv-loop μ-loop
-add-end c = omega (arith, c .before .before .before .pre .2 .known, c .before .before .before .fits .v)
+add-end c = omega (arith, c .before .before .before .before .before .pre .2 .known, c .before .before .before .before .before .fits .v)
 
 mul-end : tie.Need-mul-end Inv-loop μ-loop
 mul-end c = search needs
 
 shared-slice-read-end : tie.Need-shared-slice-read-end Inv-loop μ-loop
-shared-slice-read-end c = omega (arith, c .before .before .before .before .pre .2 .known)
+shared-slice-read-end c = omega (arith, c .before .before .before .before .before .before .pre .2 .known)
 
 cast-end : tie.Need-cast-end Inv-loop μ-loop
-cast-end c = omega (arith, c .shared-slice-known4 .given (c .before .before .before .before .args .v + 1))
+cast-end c = omega (arith, c .shared-slice-known4 .given (c .before .before .before .before .before .before .args .v + 1))
 
 mul-j : tie.Need-mul-j Inv-loop μ-loop
 mul-j c = search needs
 
 shared-slice-read-j : tie.Need-shared-slice-read-j Inv-loop μ-loop
-shared-slice-read-j c = omega (arith, c .before .before .before .before .before .pre .2 .known)
+shared-slice-read-j c = omega (arith, c .before .before .before .before .before .before .before .pre .2 .known)
 
 cast-j : tie.Need-cast-j Inv-loop μ-loop
-cast-j c = omega (arith, c .shared-slice-known5 .given (c .before .before .before .before .before .args .v))
+cast-j c = omega (arith, c .shared-slice-known5 .given (c .before .before .before .before .before .before .before .args .v))
 
 loop-holds : tie.Need-loop-holds Inv-loop μ-loop
 unfolding part
 loop-holds c =
-    (omega arith, ap (λ k. getD (c .before .before .before .before .before .args .starts .now) k 0) (add-one (c .before .before .before .before .before .args .v)), tt, rw add-one)
+    let s = c .before .before .before .before .before .before .before in
+    (omega arith, ap (λ k. getD (s .args .starts .now) k 0) (add-one (s .args .v)), tt, rw add-one)
 
 module _ (c : tie.In-loop Inv-loop μ-loop) where
   abbrev l : tie.At-loop Inv-loop μ-loop
   l = c .before
 
   abbrev s : tie.Start Inv-loop μ-loop
-  s = l .before .before .before .before .before .before
+  s = l .before .before .before .before .before .before .before .before
 
   abbrev links : Drawing
   links = segments (s .args .links .now)
@@ -108,8 +119,14 @@ remains-requires c κs = below (c .before)
 add-requires : tie.Need-add-requires Inv-loop μ-loop
 add-requires c κs =
     let i = c .before .before .before in
-    let f : s i .args .f < 2 * length (links i) = omega (arith, s i .pre .3, s i .pre .1) in
-    (s i .pre .0, f, l i .loop .inv .2, below-links i)
+    let g = l i .before .before .before in
+    let f : s i .args .f < 2 * length (links i) = omega (arith, s i .pre .3, s i .pre .1) in (
+      s i .pre .0,
+      ap inRange (g .before .end-point .ensures) ∙ end-near (links i) (s i .pre .0) (s i .args .f) f,
+      ap inRange (g .far-point .ensures) ∙ far-near (links i) (s i .pre .0) (s i .args .f) f,
+      l i .loop .inv .2,
+      below-links i,
+    )
 
 add-j : tie.Need-add-j Inv-loop μ-loop
 add-j c = search needs
@@ -129,9 +146,15 @@ module _ (c : tie.After-remains Inv-loop μ-loop) where
   unfolding isOther
   other-is = ap (not (eqb (e i) (s i .args .f)) &&_) (ap (λ m. remains (s i .args .bits .now) (moveOf m (s i .args .direction) (e i))) (sym (s i .pre .1)) ∙ sym (c .remains .ensures))
 
-  added : not (eqb (e i) (s i .args .f)) && c .remains .result ≡ true → more ≡ addEnd (links i) (s i .args .direction) (s i .args .f) (l i .loop .best) (e i)
+  -- with the two points as they were read before the loop
+  abbrev g : tie.After-far-point Inv-loop μ-loop
+  g = l i .before .before .before
+
+  added : not (eqb (e i) (s i .args .f)) && c .remains .result ≡ true → more ≡ addEnd (links i) (s i .args .direction) (g .before .end-point .result) (g .far-point .result) (l i .loop .best) (e i)
   unfolding nearestEnd
-  added q = rw (other-is ∙ q)
+  added q =
+      let at-points : more ≡ addEnd (links i) (s i .args .direction) (endPoint (links i) (s i .args .f)) (farPoint (links i) (s i .args .f)) (l i .loop .best) (e i) = rw (other-is ∙ q) in
+      at-points ∙ ap₂ (λ (p q : Point). addEnd (links i) (s i .args .direction) p q (l i .loop .best) (e i)) (sym (g .before .end-point .ensures)) (sym (g .far-point .ensures))
 
   passed : not (eqb (e i) (s i .args .f)) && c .remains .result ≡ false → more ≡ l i .loop .best
   unfolding nearestEnd
@@ -155,7 +178,7 @@ returns : tie.Need-returns Inv-loop μ-loop
 unfolding nearestEnd
 returns c =
     let l = c .before in
-    let a = l .before .before .before .before .before .before .args in
+    let a = l .before .before .before .before .before .before .before .before .args in
     sym (l .loop .inv .3 ∙ ap (nearestEnd (segments (a .links .now)) (a .direction) (a .f) (a .bits .now) (l .loop .best)) (part-end (a .flat .now) (getD (a .starts .now) (a .v + 1) 0) (l .loop .j) (c .loop-test .left)))
 
 pub find-other-spec : {M : Type 1} → statement M
@@ -164,6 +187,8 @@ find-other-spec =
     (tie.spec
     Inv-loop
     μ-loop
+    end-point-requires
+    far-point-requires
     add-end
     mul-end
     shared-slice-read-end
