@@ -19,6 +19,8 @@ const SIZES: [usize; 3] = [64, 256, MOST_SEGMENTS];
 pub const NON_ZERO: i32 = 1;
 /// How long a row is timed before it is the next one's turn.
 const A_WHILE: Duration = Duration::from_millis(50);
+/// How long ours is called alone on one drawing.
+const ALONE: Duration = Duration::from_millis(500);
 
 /// Few segments open at once, half of all open at once, and half of all at one point.
 const KINDS: [(&str, Make); 3] = [("mesh", mesh), ("nested", shapes::heaped), ("fan", shapes::wheel)];
@@ -89,6 +91,10 @@ The lines inside, boundary included, by the non-zero rule: medians of one call i
 of its own. Ours does every check, the Rust none; the Rust's scans are stand-ins: the list looks at all that is open, the
 tree halves. \"grown\" is how many times as long ours takes at 1,024 segments as at 256.";
 
+const ALONE_NOTE: &str = "\
+Ours alone, call after call, with every check: the least of one call in microseconds, by the number of segments. Where the
+code stands in the program moves it by some parts of 100, where other code runs between the calls by more.";
+
 const COLUMNS: [&str; 8] = [
     "ours, all checks",
     "ours, without",
@@ -128,6 +134,24 @@ pub fn bench_sheets() -> bool {
         move |call| calls([0, 2, 3][call])
     });
     true
+}
+
+/// Ours on the drawings of `bench`, then on the sheets, with nothing else between the calls.
+pub fn bench_alone() -> bool {
+    println!("{ALONE_NOTE}");
+    for run in [FILLS, CLIP, SLICE] {
+        alone_table(run.name, &run, KINDS.map(|(kind, make)| (kind, SIZES.map(|n| drawing(make, run.draw, n)))));
+    }
+    alone_table("sheets", &CLIP, sheets::KINDS.map(|(kind, make)| (kind, SIZES.map(|n| make(n).numbers))));
+    true
+}
+
+fn alone_table(name: &str, run: &Run, kinds: [(&str, [Vec<i32>; SIZES.len()]); 3]) {
+    println!("\n{name:<7}{}", SIZES.map(|n| format!("{n:>9}")).concat());
+    for (kind, drawings) in kinds {
+        let cells = drawings.map(|numbers| format!("{:>9.2}", least(calls(run, &numbers))));
+        println!("{kind:<7}{}", cells.concat());
+    }
 }
 
 /// A row for each sheet: how long the calls take, the first of which is ours; how many times as long ours takes as each
@@ -230,6 +254,18 @@ fn calls(run: &Run, numbers: &[i32]) -> impl FnMut(usize) {
         2 => theirs(&mut list),
         _ => theirs(&mut tree),
     }
+}
+
+/// Of the first call, in microseconds.
+fn least(mut call: impl FnMut(usize)) -> f64 {
+    let begin = Instant::now();
+    let mut least = Duration::MAX;
+    while begin.elapsed() < ALONE {
+        let start = Instant::now();
+        call(0);
+        least = least.min(start.elapsed());
+    }
+    least.as_secs_f64() * 1e6
 }
 
 /// Of the calls of one row.

@@ -15,7 +15,8 @@ driver store [FOLDER]                make the stored answers (needs the Rust)
 driver cases [FOLDER]                make the cases of the clip program, in crates/clip_cases if not said
 driver sweeps [FOLDER]               make the drawings that the definition of the sweep is computed on, in crates/sweep_cases if not said
 driver bench                         time ours and the Rust (needs the Rust)
-driver bench sheets                  time them on the nine sheets alone";
+driver bench sheets                  time them on the nine sheets alone
+driver bench alone                   time ours with nothing else between its calls";
 
 struct Options {
     seed: u64,
@@ -49,7 +50,7 @@ pub fn run(words: &[&str]) -> Option<bool> {
         ["cases", folder] => Some(cases::store(Path::new(folder))),
         ["sweeps"] => Some(sweeps::store(&sweeps::folder())),
         ["sweeps", folder] => Some(sweeps::store(Path::new(folder))),
-        ["bench"] | ["bench", "sheets"] | ["store"] => Some(with_rust(&words.join(" "), &stored::folder())),
+        ["bench"] | ["bench", "sheets" | "alone"] | ["store"] => Some(with_rust(&words.join(" "), &stored::folder())),
         ["store", folder] => Some(with_rust("store", Path::new(folder))),
         _ => None,
     }
@@ -79,6 +80,7 @@ fn with_rust(command: &str, folder: &Path) -> bool {
     match command {
         "store" => store::store(1, folder),
         "bench sheets" => bench::bench_sheets(),
+        "bench alone" => bench::bench_alone(),
         _ => bench::bench(),
     }
 }
