@@ -4,11 +4,15 @@ use mathlib.Core.List.{List, [], _∷_, map, flatten}
 use mathlib.Core.Bool.{Bool, true}
 use Prim.Native.Nat.{ℕ, _+_, _*_, _≤_}
 use lib.ListN.{length, getD}
+use lib.IntN.{ℤ}
 use Rattle.geom.specs.declared.Point.{Point}
 use Rattle.geom.specs.Points.{travel}
 use Rattle.segm.specs.Segments.{Drawing}
 use Rattle.ends.specs.Ends.{endPoint}
 use Rattle.graph.specs.Nodes.{otherEnd, Nodes}
+use Rattle.refusal.specs.declared.Verdict.{Verdict}
+use Rattle.refusal.specs.declared.Verdict.the-variants.{Accepted}
+use Rattle.checks.specs.Memory.{Prepared}
 use Rattle.checks.specs.Accepted.{Good}
 use Rattle.moves.specs.Bits.{has, bitsSet}
 use Rattle.moves.specs.Moves.{Move, move, bitsRemaining}
@@ -37,8 +41,10 @@ pub record ClipLists (links : Drawing) (flat starts nodes bits : List ℕ) : Typ
   pub nodes-are : Nodes links flat starts nodes
   pub as-many : length bits ≡ length links
 
--- working memory for the walk over the links of a drawing, unless it is too large
-pub record ClipRoom (d : Drawing) (bits moves : List ℕ) : Type 0 where
+-- what a clip run with this verdict has of its drawing: an accepted one's nodes and top counts, and working memory, unless it is too large
+pub record ClipMemory (checked : Verdict) (d : Drawing) (flat starts nodes : List ℕ) (tops : List ℤ) (bits moves : List ℕ) : Type 0 where
+  pub prepared : checked ≡ Accepted → Prepared d flat starts nodes tops
+  pub tops-room : length d ≤ 1024 → length d ≤ length tops
   pub bits-room : length d ≤ 1024 → length d ≤ length bits
   pub moves-room : length d ≤ 1024 → 2 * length d ≤ length moves
 

@@ -3,8 +3,6 @@ mod links;
 mod path;
 mod sums;
 
-use build::Filter;
-use fill_rule::Rule;
 use links::clip_links;
 use refusal::Verdict;
 pub use sums::lines;
@@ -12,18 +10,19 @@ ghost use mathlib.Core.Path.{_≡_};
 ghost use mathlib.Core.Bool.{true};
 ghost use mathlib.Core.Logic.{_↔_};
 ghost use Prim.Native.Nat.{_*_, _≤_};
-ghost use lib.ListN.{length};
+ghost use lib.ListN.{length, take};
 ghost use lib.IntN.{pos};
-ghost use Rattle.refusal.specs.declared.Verdict.the-variants.{Accepted};
 ghost use Rattle.segm.specs.Segments.{count, segments};
+ghost use Rattle.graph.specs.Nodes.{Nodes};
+ghost use Rattle.count_up.specs.CountUp.{Counted};
 ghost use Rattle.contour.specs.Points.{Writes};
+ghost use Rattle.fill_rule.specs.FillRule.{ruleOf};
+ghost use Rattle.build.specs.Links.{filterOf, maskedBits};
 ghost use Rattle.checks.specs.Accepted.{Good};
 ghost use Rattle.checks.specs.Runs.{asked, verdict};
-ghost use Rattle.checks.specs.Memory.{Prepared};
-ghost use Rattle.string_clip.specs.Paths.{clipPaths};
 ghost use Rattle.string_clip.specs.Run.{totals, lists, runOf, outcome, clipOutcome};
 ghost use Rattle.string_clip.specs.Claim.{Room, Together};
-ghost use Rattle.string_clip.specs.Writing.{ClipRoom};
+ghost use Rattle.string_clip.specs.Writing.{ClipMemory, bitsPaths};
 
 // How many paths, points and steps a run found, and their travel.
 pub struct Totals {
@@ -45,15 +44,25 @@ pub struct Both {
     pub outside: Clipped,
 }
 
-// Clips an accepted drawing with its nodes and top counts. The lists `bits` and `moves` are working memory.
-fn clip_accepted(
+// Writes the line bits of the segments of an accepted drawing that a run keeps, none of the others, to the front of `bits`.
+fn keep_lines(s: &[i32], rule: i32, invert: i32, boundary: i32, tops: &[i32], bits: &mut [u8])
+    requires { ⌜ (let d = segments (now s) in
+        Good d × Counted d (now tops) × (length d ≤ length (now tops)) × (length d ≤ length (now bits))) ⌝ }
+    ensures { λ _. ⌜ (let d = segments (now (s .entry)) in
+        take (length d) (now (bits .exit)) ≡ maskedBits (ruleOf rule) (filterOf invert boundary) d) ⌝ }
+{
+    let m = segm::count(s);
+    let by = fill_rule::rule_of(rule);
+    let filter = build::filter_of(invert, boundary);
+    build::masked_bits(s, by, filter, tops, &mut bits[..m]);
+}
+
+// The paths of an accepted drawing with its nodes, by the line bits at the front of `bits`, which are taken. The list `moves` is working memory.
+fn clip_kept(
     s: &[i32],
-    rule: Rule,
-    filter: Filter,
     flat: &[u16],
     starts: &[u16],
     nodes: &[u16],
-    tops: &[i32],
     bits: &mut [u8],
     moves: &mut [u16],
     points: &mut [i32],
@@ -61,16 +70,15 @@ fn clip_accepted(
 ) -> Totals
     requires { ⌜ (let d = segments (now s) in
         Good d
-        × Prepared d (now flat) (now starts) (now nodes) (now tops)
-        × (length d ≤ length (now tops))
-        × ClipRoom d (now bits) (now moves)
+        × Nodes d (take (2 * length d) (now flat)) (now starts) (take (2 * length d) (now nodes))
+        × (length d ≤ length (now bits))
+        × (2 * length d ≤ length (now moves))
         × Room (now s) (lists (now points) (now lengths))) ⌝ }
-    ensures { λ r. ⌜ (let paths = clipPaths rule filter (segments (now (s .entry))) in
+    ensures { λ r. ⌜ (let d = segments (now (s .entry)) in let paths = bitsPaths d (take (length d) (now (bits .entry))) in
         (r ≡ totals paths) × Writes paths (now (points .entry)) (now (lengths .entry)) (now (points .exit)) (now (lengths .exit))) ⌝ }
 {
     let m = segm::count(s);
     let e = 2 * m;
-    build::masked_bits(s, rule, filter, tops, &mut bits[..m]);
     clip_links(
         s,
         &flat[..e],
@@ -99,27 +107,16 @@ fn clip_by(
     points: &mut [i32],
     lengths: &mut [u32],
 ) -> Clipped
-    requires { ⌜ (let d = segments (now s) in
-        (checked ≡ verdict (runOf (now s) rule invert boundary (lists (now points) (now lengths))))
-        × (checked ≡ Accepted → Prepared d (now flat) (now starts) (now nodes) (now tops))
-        × (length d ≤ 1024 → length d ≤ length (now tops))
-        × ClipRoom d (now bits) (now moves)) ⌝ }
+    requires { ⌜ (checked ≡ verdict (runOf (now s) rule invert boundary (lists (now points) (now lengths))))
+        × ClipMemory checked (segments (now s)) (now flat) (now starts) (now nodes) (now tops) (now bits) (now moves) ⌝ }
     ensures { λ r. ⌜ outcome r (lists (now (points .exit)) (now (lengths .exit))) ≡ clipOutcome (now (s .entry)) rule invert boundary (lists (now (points .entry)) (now (lengths .entry))) ⌝ }
 {
     match checked {
-        Verdict::Accepted => Clipped::Done(clip_accepted(
-            s,
-            fill_rule::rule_of(rule),
-            build::filter_of(invert, boundary),
-            flat,
-            starts,
-            nodes,
-            tops,
-            bits,
-            moves,
-            points,
-            lengths,
-        )),
+        Verdict::Accepted => {
+            keep_lines(s, rule, invert, boundary, tops, bits);
+            let t = clip_kept(s, flat, starts, nodes, bits, moves, points, lengths);
+            Clipped::Done(t)
+        }
         Verdict::Refused(number, place) => Clipped::Refused(number, place),
     }
 }
@@ -236,55 +233,32 @@ fn both_by(
     tops: &[i32],
     bits: &mut [u8],
     moves: &mut [u16],
-    inside_points: &mut [i32],
-    inside_lengths: &mut [u32],
-    outside_points: &mut [i32],
-    outside_lengths: &mut [u32],
+    in_points: &mut [i32],
+    in_lengths: &mut [u32],
+    out_points: &mut [i32],
+    out_lengths: &mut [u32],
 ) -> Both
-    requires { ⌜ (let d = segments (now s) in
-        (checked ≡ verdict (runOf (now s) rule (pos 0) boundary (lists (now «inside_points») (now «inside_lengths»))))
-        × (checked ≡ Accepted → Prepared d (now flat) (now starts) (now nodes) (now tops))
-        × (length d ≤ 1024 → length d ≤ length (now tops))
-        × ClipRoom d (now bits) (now moves)
-        × Room (now s) (lists (now «inside_points») (now «inside_lengths»))
-        × Room (now s) (lists (now «outside_points») (now «outside_lengths»))) ⌝ }
-    ensures { λ r. ⌜ Together (now (s .entry)) rule boundary
-        (outcome (r .inside) (lists (now («inside_points» .exit)) (now («inside_lengths» .exit)))) (lists (now («inside_points» .entry)) (now («inside_lengths» .entry)))
-        (outcome (r .outside) (lists (now («outside_points» .exit)) (now («outside_lengths» .exit)))) (lists (now («outside_points» .entry)) (now («outside_lengths» .entry))) ⌝ }
+    requires { ⌜ (checked ≡ verdict (runOf (now s) rule (pos 0) boundary (lists (now «in_points») (now «in_lengths»))))
+        × ClipMemory checked (segments (now s)) (now flat) (now starts) (now nodes) (now tops) (now bits) (now moves)
+        × Room (now s) (lists (now «in_points») (now «in_lengths»)) × Room (now s) (lists (now «out_points») (now «out_lengths»)) ⌝ }
+    ensures { λ r. ⌜ Together (now (s .entry)) rule boundary (outcome (r .inside) (lists (now («in_points» .exit)) (now («in_lengths» .exit)))) (lists (now («in_points» .entry)) (now («in_lengths» .entry)))
+        (outcome (r .outside) (lists (now («out_points» .exit)) (now («out_lengths» .exit)))) (lists (now («out_points» .entry)) (now («out_lengths» .entry))) ⌝ }
 {
-    let inside = clip_by(
-        checked,
-        s,
-        rule,
-        0,
-        boundary,
-        flat,
-        starts,
-        nodes,
-        tops,
-        bits,
-        moves,
-        inside_points,
-        inside_lengths,
-    );
-    let outside = clip_by(
-        checked,
-        s,
-        rule,
-        1,
-        boundary,
-        flat,
-        starts,
-        nodes,
-        tops,
-        bits,
-        moves,
-        outside_points,
-        outside_lengths,
-    );
-    Both {
-        inside: inside,
-        outside: outside,
+    match checked {
+        Verdict::Accepted => {
+            keep_lines(s, rule, 0, boundary, tops, bits);
+            let inside = clip_kept(s, flat, starts, nodes, bits, moves, in_points, in_lengths);
+            keep_lines(s, rule, 1, boundary, tops, bits);
+            let outside = clip_kept(s, flat, starts, nodes, bits, moves, out_points, out_lengths);
+            Both {
+                inside: Clipped::Done(inside),
+                outside: Clipped::Done(outside),
+            }
+        }
+        Verdict::Refused(number, place) => Both {
+            inside: Clipped::Refused(number, place),
+            outside: Clipped::Refused(number, place),
+        },
     }
 }
 
@@ -294,15 +268,15 @@ fn both_small(
     s: &[i32],
     rule: i32,
     boundary: i32,
-    inside_points: &mut [i32],
-    inside_lengths: &mut [u32],
-    outside_points: &mut [i32],
-    outside_lengths: &mut [u32],
+    in_points: &mut [i32],
+    in_lengths: &mut [u32],
+    out_points: &mut [i32],
+    out_lengths: &mut [u32],
 ) -> Both
-    requires { ⌜ (count (now s) ≤ 128) × (before ≡ asked (runOf (now s) rule (pos 0) boundary (lists (now «inside_points») (now «inside_lengths»)))) × Room (now s) (lists (now «inside_points») (now «inside_lengths»)) × Room (now s) (lists (now «outside_points») (now «outside_lengths»)) ⌝ }
+    requires { ⌜ (count (now s) ≤ 128) × (before ≡ asked (runOf (now s) rule (pos 0) boundary (lists (now «in_points») (now «in_lengths»)))) × Room (now s) (lists (now «in_points») (now «in_lengths»)) × Room (now s) (lists (now «out_points») (now «out_lengths»)) ⌝ }
     ensures { λ r. ⌜ Together (now (s .entry)) rule boundary
-        (outcome (r .inside) (lists (now («inside_points» .exit)) (now («inside_lengths» .exit)))) (lists (now («inside_points» .entry)) (now («inside_lengths» .entry)))
-        (outcome (r .outside) (lists (now («outside_points» .exit)) (now («outside_lengths» .exit)))) (lists (now («outside_points» .entry)) (now («outside_lengths» .entry))) ⌝ }
+        (outcome (r .inside) (lists (now («in_points» .exit)) (now («in_lengths» .exit)))) (lists (now («in_points» .entry)) (now («in_lengths» .entry)))
+        (outcome (r .outside) (lists (now («out_points» .exit)) (now («out_lengths» .exit)))) (lists (now («out_points» .entry)) (now («out_lengths» .entry))) ⌝ }
 {
     let mut flat = [0u16; ends::SMALL];
     let mut starts = [0u16; graph::SMALL_STARTS];
@@ -322,10 +296,10 @@ fn both_small(
         &tops,
         &mut bits,
         &mut moves,
-        inside_points,
-        inside_lengths,
-        outside_points,
-        outside_lengths,
+        in_points,
+        in_lengths,
+        out_points,
+        out_lengths,
     )
 }
 
@@ -335,15 +309,15 @@ fn both_any(
     s: &[i32],
     rule: i32,
     boundary: i32,
-    inside_points: &mut [i32],
-    inside_lengths: &mut [u32],
-    outside_points: &mut [i32],
-    outside_lengths: &mut [u32],
+    in_points: &mut [i32],
+    in_lengths: &mut [u32],
+    out_points: &mut [i32],
+    out_lengths: &mut [u32],
 ) -> Both
-    requires { ⌜ (before ≡ asked (runOf (now s) rule (pos 0) boundary (lists (now «inside_points») (now «inside_lengths»)))) × Room (now s) (lists (now «inside_points») (now «inside_lengths»)) × Room (now s) (lists (now «outside_points») (now «outside_lengths»)) ⌝ }
+    requires { ⌜ (before ≡ asked (runOf (now s) rule (pos 0) boundary (lists (now «in_points») (now «in_lengths»)))) × Room (now s) (lists (now «in_points») (now «in_lengths»)) × Room (now s) (lists (now «out_points») (now «out_lengths»)) ⌝ }
     ensures { λ r. ⌜ Together (now (s .entry)) rule boundary
-        (outcome (r .inside) (lists (now («inside_points» .exit)) (now («inside_lengths» .exit)))) (lists (now («inside_points» .entry)) (now («inside_lengths» .entry)))
-        (outcome (r .outside) (lists (now («outside_points» .exit)) (now («outside_lengths» .exit)))) (lists (now («outside_points» .entry)) (now («outside_lengths» .entry))) ⌝ }
+        (outcome (r .inside) (lists (now («in_points» .exit)) (now («in_lengths» .exit)))) (lists (now («in_points» .entry)) (now («in_lengths» .entry)))
+        (outcome (r .outside) (lists (now («out_points» .exit)) (now («out_lengths» .exit)))) (lists (now («out_points» .entry)) (now («out_lengths» .entry))) ⌝ }
 {
     let mut flat = [0u16; ends::MOST];
     let mut starts = [0u16; graph::STARTS];
@@ -363,10 +337,10 @@ fn both_any(
         &tops,
         &mut bits,
         &mut moves,
-        inside_points,
-        inside_lengths,
-        outside_points,
-        outside_lengths,
+        in_points,
+        in_lengths,
+        out_points,
+        out_lengths,
     )
 }
 
@@ -375,28 +349,28 @@ fn both_at_once(
     numbers: &[i32],
     rule: i32,
     boundary: i32,
-    inside_points: &mut [i32],
-    inside_lengths: &mut [u32],
-    outside_points: &mut [i32],
-    outside_lengths: &mut [u32],
+    in_points: &mut [i32],
+    in_lengths: &mut [u32],
+    out_points: &mut [i32],
+    out_lengths: &mut [u32],
 ) -> Both
-    requires { ⌜ Room (now numbers) (lists (now «inside_points») (now «inside_lengths»)) × Room (now numbers) (lists (now «outside_points») (now «outside_lengths»)) ⌝ }
+    requires { ⌜ Room (now numbers) (lists (now «in_points») (now «in_lengths»)) × Room (now numbers) (lists (now «out_points») (now «out_lengths»)) ⌝ }
     ensures { λ r. ⌜ Together (now (numbers .entry)) rule boundary
-        (outcome (r .inside) (lists (now («inside_points» .exit)) (now («inside_lengths» .exit)))) (lists (now («inside_points» .entry)) (now («inside_lengths» .entry)))
-        (outcome (r .outside) (lists (now («outside_points» .exit)) (now («outside_lengths» .exit)))) (lists (now («outside_points» .entry)) (now («outside_lengths» .entry))) ⌝ }
+        (outcome (r .inside) (lists (now («in_points» .exit)) (now («in_lengths» .exit)))) (lists (now («in_points» .entry)) (now («in_lengths» .entry)))
+        (outcome (r .outside) (lists (now («out_points» .exit)) (now («out_lengths» .exit)))) (lists (now («out_points» .entry)) (now («out_lengths» .entry))) ⌝ }
 {
-    let points = inside_points.len();
-    let asked = checks::ask_clip(numbers, rule, 0, boundary, points, inside_lengths.len());
+    let points = in_points.len();
+    let asked = checks::ask_clip(numbers, rule, 0, boundary, points, in_lengths.len());
     if segm::count(numbers) <= segm::SMALL {
         return both_small(
             asked,
             numbers,
             rule,
             boundary,
-            inside_points,
-            inside_lengths,
-            outside_points,
-            outside_lengths,
+            in_points,
+            in_lengths,
+            out_points,
+            out_lengths,
         );
     }
     both_any(
@@ -404,10 +378,10 @@ fn both_at_once(
         numbers,
         rule,
         boundary,
-        inside_points,
-        inside_lengths,
-        outside_points,
-        outside_lengths,
+        in_points,
+        in_lengths,
+        out_points,
+        out_lengths,
     )
 }
 

@@ -1,10 +1,11 @@
 -- A run's answer and its verdict; and the one verdict of two runs whose lists are long enough.
-use mathlib.Core.Path.{_≡_, refl, sym, _∙_, ap₂}
+use mathlib.Core.Path.{_≡_, refl, sym, _∙_, ap, ap₂}
 use mathlib.Core.List.{List, [], _∷_}
 use mathlib.Core.Bool.{Bool}
 use Prim.Native.Nat.{ℕ}
 use lib.ListN.{length}
 use lib.IntN.{ℤ, pos}
+use Rattle.geom.specs.declared.Point.{Point}
 use Rattle.geom.specs.Points.{within}
 use Rattle.lists.specs.Members.{any}
 use Rattle.segm.specs.Segments.{width, segments}
@@ -15,15 +16,14 @@ use Rattle.refusal.specs.Order.{_then_}
 use Rattle.refusal.specs.Asked.{wrongLength, unknownChoice, askedFirst}
 use Rattle.checks.specs.Drawing.{drawingVerdict}
 use Rattle.checks.specs.Runs.{ruleChoice, flagChoice, clipRun, asked, verdict}
-use Rattle.fill_rule.specs.declared.Rule.{Rule}
 use Rattle.fill_rule.specs.FillRule.{ruleOf}
-use Rattle.build.specs.declared.filter.Filter.{Filter}
-use Rattle.build.specs.Links.{filterOf}
+use Rattle.build.specs.Links.{filterOf, maskedBits}
 use Rattle.string_clip.specs.declared.Totals.{Totals}
 use Rattle.string_clip.specs.declared.Clipped.the-variants.{Done, Refused}
-use Rattle.string_clip.specs.Paths.{clipPaths}
 use Rattle.string_clip.specs.Run.{totals, Lists, lists, runOf, outcome, answered, clipOutcome}
 use Rattle.string_clip.specs.Claim.{Room}
+use Rattle.string_clip.specs.Writing.{bitsPaths}
+use Rattle.string_clip.proofs.Paths.Masked.{masked-paths}
 use Rattle.string_clip.proofs.Claim.Together.{accepted-outcome, room-long}
 
 -- ---- one run
@@ -32,11 +32,11 @@ module _ (numbers : List ℤ) (rule invert boundary : ℤ) (ls : Lists) where
   said = verdict (runOf numbers rule invert boundary ls)
 
   -- the answer to a verdict: what was written, or nothing
-  pub accepted-answer : said ≡ verdict-is.Accepted → {q : Rule} {f : Filter} {t : Totals} {points : List ℤ} {lengths : List ℕ} → q ≡ ruleOf rule → f ≡ filterOf invert boundary
-      → t ≡ totals (clipPaths q f (segments numbers)) → Writes (clipPaths q f (segments numbers)) (ls .points) (ls .lengths) points lengths → outcome (Done t) (lists points lengths) ≡ clipOutcome numbers rule invert boundary ls
-  accepted-answer e rule-is filter-is n w =
+  pub accepted-answer : said ≡ verdict-is.Accepted → {bits : List ℕ} {t : Totals} {points : List ℤ} {lengths : List ℕ} → bits ≡ maskedBits (ruleOf rule) (filterOf invert boundary) (segments numbers)
+      → t ≡ totals (bitsPaths (segments numbers) bits) → Writes (bitsPaths (segments numbers) bits) (ls .points) (ls .lengths) points lengths → outcome (Done t) (lists points lengths) ≡ clipOutcome numbers rule invert boundary ls
+  accepted-answer e kept n w =
       (λ i. outcome (Done (n i)) (lists (w .points-are i) (w .lengths-are i)))
-      ∙ ap₂ (λ (q : Rule) (f : Filter). answered verdict-is.Accepted (clipPaths q f (segments numbers)) ls) rule-is filter-is
+      ∙ ap (λ (paths : List (List Point)). answered verdict-is.Accepted paths ls) (ap (bitsPaths (segments numbers)) kept ∙ masked-paths (ruleOf rule) (filterOf invert boundary) (segments numbers))
       ∙ sym (accepted-outcome numbers rule invert boundary ls e)
 
   pub refused-answer : {number place : ℕ} → said ≡ verdict-is.Refused number place → outcome (Refused number place) ls ≡ clipOutcome numbers rule invert boundary ls

@@ -8,7 +8,7 @@ use Rattle.checks.specs.Runs.{Run, clipRun}
 use Rattle.checks.proofs.Runs.{asked-few, checked-verdict}
 use Rattle.checks.proofs.Memory.{any-memory}
 use Rattle.string_clip.specs.Run.{Lists, lists, runOf}
-use Rattle.string_clip.proofs.Writing.Memory.{any-walk}
+use Rattle.string_clip.proofs.Writing.Memory.{any-clip}
 use Rattle.string_clip.proofs.both_any.Statement.{statement}
 use Rattle.string_clip.proofs.both_any.Tie as tie
 
@@ -26,7 +26,7 @@ slice-aggregate-check-any-4 c = search needs
 
 module _ (s : tie.Start) where
   abbrev ls : Lists
-  ls = lists (s .args .inside-points .now) (s .args .inside-lengths .now)
+  ls = lists (s .args .in-points .now) (s .args .in-lengths .now)
 
   abbrev run : Run
   run = runOf (s .args .s .now) (s .args .rule) (pos 0) (s .args .boundary) ls
@@ -61,9 +61,7 @@ both-by-requires c κs =
     let s = c .before .before .before .before .before .before .before .before .before .before .before .before .before .before .before .before .before .before .before .before .before in
     let v = c .before .before .before .before .before .before .before .before .before .before .before .before .before .before in (
       rw (toZ-ofZ (s .fits .rule), toZ-ofZ (s .fits .boundary)) (checked-verdict (run s) (s .pre .0) (v .check-any .ensures .0)),
-      v .check-any .ensures .1,
-      λ h. omega (arith, h, v .check-any .kept .1 .1 .1 .1 .1 .0),
-      any-walk (s .args .s .now),
+      any-clip (s .args .s .now) (v .check-any .ensures .1) (omega (arith, v .check-any .kept .1 .1 .1 .1 .1 .0)),
       s .pre .1,
       s .pre .2,
     )

@@ -7,7 +7,7 @@ use Rattle.checks.specs.Runs.{Run, clipRun}
 use Rattle.checks.proofs.Runs.{asked-few, checked-verdict}
 use Rattle.checks.proofs.Memory.{any-memory}
 use Rattle.string_clip.specs.Run.{Lists, lists, runOf}
-use Rattle.string_clip.proofs.Writing.Memory.{any-walk}
+use Rattle.string_clip.proofs.Writing.Memory.{any-clip}
 use Rattle.string_clip.proofs.clip_any.Statement.{statement}
 use Rattle.string_clip.proofs.clip_any.Tie as tie
 
@@ -60,9 +60,7 @@ clip-by-requires c κs =
     let s = c .before .before .before .before .before .before .before .before .before .before .before .before .before .before .before .before .before .before in
     let v = c .before .before .before .before .before .before .before .before .before .before .before .before in (
       rw (toZ-ofZ (s .fits .rule), toZ-ofZ (s .fits .invert), toZ-ofZ (s .fits .boundary)) (checked-verdict (run s) (s .pre) (v .check-any .ensures .0)),
-      v .check-any .ensures .1,
-      λ h. omega (arith, h, v .check-any .kept .1 .1 .1 .1 .1 .0),
-      any-walk (s .args .s .now),
+      any-clip (s .args .s .now) (v .check-any .ensures .1) (omega (arith, v .check-any .kept .1 .1 .1 .1 .1 .0)),
     )
 
 same-length : tie.Need-same-length

@@ -1,14 +1,13 @@
 -- The verdict decides the arm. Assumes nothing.
 use borrow.Author.Needs.{needs}
-use mathlib.Core.Path.{_≡_, sym, ap, _∙_}
+use mathlib.Core.Path.{_≡_, sym, _∙_}
 use mathlib.Core.List.{List}
+use native.Mathlib.Omega.{arith}
 use lib.IntN.{ℤ}
 use mir.Facts.{toZ-ofZ}
 use Rattle.refusal.specs.declared.Verdict.the-variants.{Accepted}
 use Rattle.segm.specs.Segments.{segments}
 use Rattle.checks.specs.Accepted.{Good}
-use Rattle.fill_rule.specs.FillRule.{ruleOf}
-use Rattle.build.specs.Links.{filterOf}
 use Rattle.string_clip.specs.Run.{Lists, lists}
 use Rattle.string_clip.specs.Claim.{Room}
 use Rattle.string_clip.proofs.Run.Answers.{said, accepted-answer, refused-answer}
@@ -18,12 +17,6 @@ use Rattle.string_clip.proofs.clip_by.Tie as tie
 
 enum-told : tie.Need-enum-told
 enum-told c = search needs
-
-rule-of-requires : tie.Need-rule-of-requires
-rule-of-requires c κs = search needs
-
-filter-of-requires : tie.Need-filter-of-requires
-filter-of-requires c κs = search needs
 
 module _ (s : tie.Start) where
   abbrev numbers : List ℤ
@@ -46,11 +39,20 @@ module _ (t : tie.After-enum-told) where
   room : Room (numbers b) (ls b)
   room = accepted-room (numbers b) (b .args .rule) (b .args .invert) (b .args .boundary) (ls b) accepted
 
-clip-accepted-requires : tie.Need-clip-accepted-requires
-clip-accepted-requires c κs =
-    let t = c .before .before .before .before .before .before in
-    let p = b t .pre in
-    (good t, p .1 (t .enum-told .given .1), p .2 (good t .faultless .few), p .3, room t)
+keep-lines-requires : tie.Need-keep-lines-requires
+keep-lines-requires c κs =
+    let t = c .before in
+    let p = b t .pre .1 in
+    let few = good t .faultless .few in
+    (good t, p .prepared (t .enum-told .given .1) .counts-are, p .tops-room few, p .bits-room few)
+
+clip-kept-requires : tie.Need-clip-kept-requires
+clip-kept-requires c κs =
+    let l = c .before .before .before .before .before .before in
+    let t = l .before .before in
+    let p = b t .pre .1 in
+    let few = good t .faultless .few in
+    (good t, p .prepared (t .enum-told .given .1) .nodes-are, omega (arith, p .bits-room few, l .keep-lines .kept .1 .1 .1 .1 .1 .0), p .moves-room few, room t)
 
 enum-known-checked : tie.Need-enum-known-checked
 enum-known-checked c = search needs
@@ -69,14 +71,12 @@ same-length-4 c = search needs
 
 returns : tie.Need-returns
 returns c =
-    let a = c .before .before .before .before .before .before .before in
-    let f = c .before .before .before .before .before .before .before .before .before .before .before .before in
-    let o = c .before .before .before .before .before .before .before .before .before .before .before .before .before in
-    let t = c .before .before .before .before .before .before .before .before .before .before .before .before .before .before in
+    let k = c .before .before .before .before .before .before .before in
+    let l = c .before .before .before .before .before .before .before .before .before .before .before .before .before .before in
+    let t = l .before .before in
     let e = b t in
-    let rule = o .rule-of .ensures ∙ ap ruleOf (toZ-ofZ (e .fits .rule)) in
-    let filter = f .filter-of .ensures ∙ (λ i. filterOf (toZ-ofZ (e .fits .invert) i) (toZ-ofZ (e .fits .boundary) i)) in
-    accepted-answer (numbers e) (e .args .rule) (e .args .invert) (e .args .boundary) (ls e) (accepted t) rule filter (a .clip-accepted .ensures .0) (a .clip-accepted .ensures .1)
+    let kept = rw (toZ-ofZ (e .fits .rule), toZ-ofZ (e .fits .invert), toZ-ofZ (e .fits .boundary)) at (l .keep-lines .ensures) in
+    accepted-answer (numbers e) (e .args .rule) (e .args .invert) (e .args .boundary) (ls e) (accepted t) kept (k .clip-kept .ensures .0) (k .clip-kept .ensures .1)
 
 returns-2 : tie.Need-returns-2
 returns-2 c =
@@ -90,9 +90,8 @@ clip-by-spec =
     tie.close
     (tie.spec
     enum-told
-    rule-of-requires
-    filter-of-requires
-    clip-accepted-requires
+    keep-lines-requires
+    clip-kept-requires
     enum-known-checked
     same-length
     same-length-2
