@@ -1,4 +1,4 @@
--- What the contracts of the inner functions cite: the code sums by nodes, end after end. Assumes nothing.
+-- What the contracts of the inner functions cite: the code sums by nodes, end after end.
 use mathlib.Core.Path.{_≡_}
 use mathlib.Core.List.{List}
 use mathlib.Core.Bool.{Bool, not, _&&_, cond}

@@ -1,4 +1,4 @@
--- What one function over a memory passes on to the next beside it: the lists, a point and a number, with their types and machine values, and what the two contracts say of them. Assumes nothing.
+-- What one function over a memory passes on to the next beside it: the lists, a point and a number, with their types and machine values, and what the two contracts say of them.
 use mathlib.Core.Path.{_≡_}
 use mathlib.Core.Bool.{true}
 use mathlib.Core.List.{List, [], _∷_}

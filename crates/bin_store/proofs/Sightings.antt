@@ -1,4 +1,4 @@
--- First sightings: what is stored stays, and a look-up is told by the places. Assumes nothing.
+-- First sightings: what is stored stays, and a look-up is told by the places.
 use mathlib.Core.Path.{_≡_, refl, _∙_, ap}
 use mathlib.Core.List.{List, [], _∷_, _++_}
 use mathlib.Core.Bool.{Bool, true, false, cond, _||_}

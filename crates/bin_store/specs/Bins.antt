@@ -1,4 +1,4 @@
--- The memory of first sightings as the code has it: items in order of storing, each linked to the one stored before it in its bin. Assumes nothing.
+-- The memory of first sightings as the code has it: items in order of storing, each linked to the one stored before it in its bin.
 use mathlib.Core.Path.{_≡_}
 use mathlib.Core.List.{List, map}
 use mathlib.Core.Bool.{true, false}

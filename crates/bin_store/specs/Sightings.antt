@@ -1,4 +1,4 @@
--- First sightings: a map from points to the numbers that their first sightings stored. Assumes nothing.
+-- First sightings: a map from points to the numbers that their first sightings stored.
 use mathlib.Core.List.{List, [], _∷_, _++_}
 use mathlib.Core.Bool.{Bool, cond}
 use Prim.Native.Nat.{ℕ}

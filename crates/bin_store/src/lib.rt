@@ -1,4 +1,4 @@
-// The memory of first sightings: a map from points to numbers, by hash. Every function here is proved, and the crate assumes nothing of its own.
+// The memory of first sightings: a map from points to numbers, by hash.
 mod memory;
 mod store;
 

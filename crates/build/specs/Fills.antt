@@ -1,4 +1,4 @@
--- A fills run: what it answers and writes. The contracts of `build` cite these. Assumes nothing.
+-- A fills run: what it answers and writes. The contracts of `build` cite these.
 use mathlib.Core.List.{List}
 use Prim.Native.Nat.{ℕ}
 use lib.ListN.{length}

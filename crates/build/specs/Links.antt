@@ -1,4 +1,4 @@
--- Kept links: which segments a clip run keeps. The contracts of `build` cite these. Assumes nothing.
+-- Kept links: which segments a clip run keeps. The contracts of `build` cite these.
 use mathlib.Core.List.{List, map}
 use mathlib.Core.Bool.{Bool, not, _&&_, cond}
 use Prim.Native.Nat.{ℕ, _+_, _/_, _%_}

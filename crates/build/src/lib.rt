@@ -1,4 +1,4 @@
-// From a drawing to its fills and to the line bits of a clip run. Every function here is proved, and the crate assumes nothing of its own.
+// From a drawing to its fills and to the line bits of a clip run.
 mod filter;
 mod run;
 

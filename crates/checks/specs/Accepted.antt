@@ -1,4 +1,4 @@
--- What the laws of the checks speak of: each refusal by itself, and what an accepted drawing has. Assumes nothing.
+-- What the laws of the checks speak of: each refusal by itself, and what an accepted drawing has.
 use mathlib.Core.Path.{_≡_}
 use mathlib.Core.List.{List, []}
 use mathlib.Core.Bool.{Bool, true, false}

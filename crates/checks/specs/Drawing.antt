@@ -1,4 +1,4 @@
--- The verdict on a drawing alone: refusals 3 to 9, each at the place of a segment. A place with nothing wrong has the number 0. Assumes nothing.
+-- The verdict on a drawing alone: refusals 3 to 9, each at the place of a segment. A place with nothing wrong has the number 0.
 use mathlib.Core.Bool.{_&&_, cond}
 use Prim.Native.Nat.{ℕ, suc}
 use lib.ListN.{length, drop}

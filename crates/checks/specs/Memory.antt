@@ -1,4 +1,4 @@
--- Working memory: what the check of a drawing asks of it, and what it leaves there for the run. Assumes nothing.
+-- Working memory: what the check of a drawing asks of it, and what it leaves there for the run.
 use mathlib.Core.Path.{_≡_}
 use mathlib.Core.List.{List}
 use Prim.Native.Nat.{ℕ, _*_, _<_, _≤_}

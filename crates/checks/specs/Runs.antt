@@ -1,4 +1,4 @@
--- The runs on a drawing: which choices each has, what its lent lists must hold, and the verdict on it. Assumes nothing.
+-- The runs on a drawing: which choices each has, what its lent lists must hold, and the verdict on it.
 use mathlib.Core.List.{List, [], _∷_}
 use Prim.Native.Nat.{ℕ}
 use lib.ListN.{length}

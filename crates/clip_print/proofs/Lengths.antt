@@ -1,4 +1,4 @@
--- The lengths counted are those of the lines, and no answer is longer than its lists allow. Assumes nothing.
+-- The lengths counted are those of the lines, and no answer is longer than its lists allow.
 use mathlib.Core.Path.{_≡_, refl, _∙_}
 use mathlib.Core.List.{List, [], _∷_}
 use Prim.Native.Nat.{ℕ, zero, suc, _*_, _≤_}

@@ -1,4 +1,4 @@
--- x, y pairs of a part of a list. Assumes nothing.
+-- x, y pairs of a part of a list.
 use mathlib.Core.Path.{_≡_, refl, ap}
 use mathlib.Core.List.{List, [], _∷_, _++_}
 use Prim.Native.Nat.{ℕ, zero, suc, _+_, _*_, _-_, _≤_, _<_}

@@ -1,4 +1,4 @@
--- How many bytes are printed of a clip run, by counting. Assumes nothing.
+-- How many bytes are printed of a clip run, by counting.
 use mathlib.Core.List.{List, [], _∷_}
 use Prim.Native.Nat.{ℕ, suc, _+_, _*_}
 use Rattle.geom.specs.declared.Point.{Point}

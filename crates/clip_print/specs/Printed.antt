@@ -1,4 +1,4 @@
--- What is printed of a clip run, as bytes. Assumes nothing.
+-- What is printed of a clip run, as bytes.
 use mathlib.Core.List.{List, [], _∷_, _++_}
 use Prim.Native.Nat.{ℕ, suc, _*_, _≤_}
 use lib.ListN.{length, take}

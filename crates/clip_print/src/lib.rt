@@ -1,4 +1,4 @@
-// The printed lines of a clip run, put into a lent list of bytes. Every function here is proved, and the crate assumes nothing of its own.
+// The printed lines of a clip run, put into a lent list of bytes.
 use string_clip::Totals;
 use writing::put_byte;
 use writing::put_bytes;

@@ -1,4 +1,4 @@
--- The text of an accepted drawing is read back, and its paths are printed. Assumes nothing.
+-- The text of an accepted drawing is read back, and its paths are printed.
 use mathlib.Core.Path.{_≡_, refl, ap, subst, _∙_}
 use mathlib.Core.Bool.{true}
 use mathlib.Core.List.{List, [], _∷_, map}

@@ -1,4 +1,4 @@
--- Texts and what is printed for them, by computing: document 01's case A, inside and outside, and refusals in their order. Assumes nothing.
+-- Texts and what is printed for them, by computing: document 01's case A, inside and outside, and refusals in their order.
 use mathlib.Core.Path.{_≡_, refl}
 use mathlib.Core.List.{flatten}
 use Prim.Native.String.{String}

@@ -1,4 +1,4 @@
--- An accepted run's paths stand in its lists. Assumes nothing.
+-- An accepted run's paths stand in its lists.
 use mathlib.Core.Path.{_≡_, refl, sym, subst}
 use mathlib.Core.List.{List, map, flatten}
 use Prim.Native.Nat.{ℕ, _*_, _≤_}

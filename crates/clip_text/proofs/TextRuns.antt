@@ -1,4 +1,4 @@
--- The run on what was read of a text is the run on all of it. Assumes nothing.
+-- The run on what was read of a text is the run on all of it.
 use mathlib.Core.Path.{_≡_, refl, sym, ap}
 use mathlib.Core.List.{List}
 use mathlib.Core.Bool.{Bool, true, false, cond, not, _||_, or-true}

@@ -1,4 +1,4 @@
--- The clip run on a comma text, and what is printed of it. The contracts of `clip_text` cite these. Assumes nothing.
+-- The clip run on a comma text, and what is printed of it. The contracts of `clip_text` cite these.
 use mathlib.Core.List.{List}
 use Prim.Native.Nat.{ℕ}
 use lib.ListN.{replicate}

@@ -1,4 +1,4 @@
--- The walk over flat lists, as the code goes: a move is named by the end of a link that it leaves. Assumes nothing.
+-- The walk over flat lists, as the code goes: a move is named by the end of a link that it leaves.
 use mathlib.Core.List.{List, [], _∷_, map}
 use mathlib.Core.Bool.{Bool, cond}
 use Prim.Native.Nat.{ℕ, zero, suc, _*_, _<_, _≤_}

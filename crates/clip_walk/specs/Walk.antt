@@ -1,4 +1,4 @@
--- The clip walk: by its moves, each of which takes one line bit of one link. Assumes nothing.
+-- The clip walk: by its moves, each of which takes one line bit of one link.
 use mathlib.Core.List.{List, [], _∷_, map}
 use mathlib.Core.Option.{Option, none, some}
 use mathlib.Core.Bool.{Bool}

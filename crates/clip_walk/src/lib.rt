@@ -1,5 +1,4 @@
-// The clip walk over flat lists: a move is named by the end of a link that it leaves, and takes one line bit. Every function here is proved, and the crate
-// assumes nothing of its own.
+// The clip walk over flat lists: a move is named by the end of a link that it leaves, and takes one line bit.
 use moves::Link;
 use moves::NextEnd;
 ghost use mathlib.Core.Path.{_≡_};

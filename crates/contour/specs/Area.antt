@@ -1,4 +1,4 @@
--- The shoelace sum of a contour, and what it decides: which way round the contour goes, and whether it is large enough. Assumes nothing.
+-- The shoelace sum of a contour, and what it decides: which way round the contour goes, and whether it is large enough.
 use mathlib.Core.List.{List, [], _∷_}
 use mathlib.Core.Bool.{Bool, not}
 use Prim.Native.Nat.{ℕ, _/_}

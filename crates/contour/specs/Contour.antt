@@ -1,4 +1,4 @@
--- One contour of a slice: a loop with its role, turned round where it must be. Assumes nothing.
+-- One contour of a slice: a loop with its role, turned round where it must be.
 use mathlib.Core.List.{List, reverse}
 use mathlib.Core.Bool.{Bool, cond, Bool·beq}
 use Prim.Native.Nat.{ℕ}

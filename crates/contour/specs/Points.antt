@@ -1,4 +1,4 @@
--- Lists of points, and lists of such lists, as flat lists of numbers: how they are written and read. Assumes nothing.
+-- Lists of points, and lists of such lists, as flat lists of numbers: how they are written and read.
 use mathlib.Core.Path.{_≡_}
 use mathlib.Core.List.{List, [], _∷_, map, flatten, reverse}
 use mathlib.Core.Bool.{true}

@@ -1,5 +1,4 @@
-// Lists of points as flat lists of their coordinates: read, written and turned round, the area of a contour, and its role. Every function here is proved, and the crate
-// assumes nothing of its own.
+// Lists of points as flat lists of their coordinates: read, written and turned round, the area of a contour, and its role.
 use geom::Point;
 ghost use mathlib.Core.Path.{_≡_};
 ghost use mathlib.Core.Bool.{true};

@@ -1,4 +1,4 @@
--- Counts by the ordered lists of the open segments alone: what a sweep that leaves them promises. Assumes nothing.
+-- Counts by the ordered lists of the open segments alone: what a sweep that leaves them promises.
 use mathlib.Core.Path.{_≡_}
 use mathlib.Core.List.{List, [], _∷_, _++_}
 use mathlib.Core.Bool.{true}

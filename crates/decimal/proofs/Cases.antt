@@ -1,4 +1,4 @@
--- Numbers by computing. Assumes nothing.
+-- Numbers by computing.
 use mathlib.Core.Path.{_≡_, refl}
 use Prim.Native.String.{String}
 use lib.IntN.{pos, negsuc}

@@ -1,4 +1,4 @@
--- Numbers as bytes: what is written reads as the same number, and only what is written does. Assumes nothing.
+-- Numbers as bytes: what is written reads as the same number, and only what is written does.
 use mathlib.Core.Path.{_≡_, refl, sym, _∙_, ap, subst}
 use mathlib.Core.Bool.{Bool, true, false, _||_, cond}
 use mathlib.Core.List.{List, [], _∷_}

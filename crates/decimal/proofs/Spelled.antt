@@ -1,4 +1,4 @@
--- Texts as they are read, for worked cases. Assumes nothing.
+-- Texts as they are read, for worked cases.
 use mathlib.Core.List.{List}
 use mathlib.Core.List.{[] as none, _∷_ as cons}
 use Prim.Native.Char.{code}

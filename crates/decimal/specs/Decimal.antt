@@ -1,4 +1,4 @@
--- Whole numbers as bytes: 48 to 57 are the digits, 45 is the minus. Assumes nothing.
+-- Whole numbers as bytes: 48 to 57 are the digits, 45 is the minus.
 use mathlib.Core.List.{List, [], _∷_}
 use mathlib.Core.Bool.{Bool, true, false, _&&_, _||_, cond}
 use Prim.Native.Nat.{ℕ, zero, suc, _+_, _*_, _-_, _/_, _%_, _^_, _<_}

@@ -1,4 +1,4 @@
-// Numbers as bytes. Every function here is proved, and the crate assumes nothing of its own.
+// Numbers as bytes.
 ghost use mathlib.Core.Path.{_≡_};
 ghost use Prim.Native.Nat.{_^_, _<_};
 ghost use Rattle.decimal.specs.Decimal.{isDigit, positive, unlessZero, fieldOf};

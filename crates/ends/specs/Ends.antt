@@ -1,4 +1,4 @@
--- The ends of links, each with a number, and their order by point. Assumes nothing.
+-- The ends of links, each with a number, and their order by point.
 use mathlib.Core.Bool.{Bool, cond}
 use Prim.Native.Nat.{ℕ, _-_}
 use lib.Dec.{ltb}

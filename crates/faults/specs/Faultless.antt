@@ -1,4 +1,4 @@
--- What refusals 2 to 7 leave of a drawing. Assumes nothing.
+-- What refusals 2 to 7 leave of a drawing.
 use mathlib.Core.Path.{_≡_}
 use mathlib.Core.Bool.{true, false}
 use Prim.Native.Nat.{_≤_}

@@ -1,4 +1,4 @@
--- What can be wrong with one segment: refusals 3 to 7, each at the segment's place. A place with nothing wrong has the number 0. Assumes nothing.
+-- What can be wrong with one segment: refusals 3 to 7, each at the segment's place. A place with nothing wrong has the number 0.
 use mathlib.Core.Bool.{Bool, not, _&&_, cond}
 use Prim.Native.Nat.{ℕ, _-_}
 use lib.ListN.{length}

@@ -1,4 +1,4 @@
--- Fill rules: which counts are filled, and the fill of a segment with two counts. The contracts of `fill_rule` cite these. Assumes nothing.
+-- Fill rules: which counts are filled, and the fill of a segment with two counts. The contracts of `fill_rule` cite these.
 use mathlib.Core.Bool.{Bool, not, cond}
 use Prim.Native.Nat.{ℕ, _+_, _*_, _%_}
 use lib.Dec.{eqb}

@@ -1,4 +1,4 @@
-// Fill rules, and the fill of a segment. Every function here is proved, and the crate assumes nothing of its own.
+// Fill rules, and the fill of a segment.
 ghost use mathlib.Core.Path.{_≡_};
 ghost use mathlib.Core.Bool.{cond};
 ghost use lib.IntN.{pos};

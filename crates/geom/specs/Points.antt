@@ -1,5 +1,5 @@
 -- Points: their order, their range, and on which side of a line they lie. A point is the code's own pair of coordinates, read as integers.
--- The contracts of `geom` cite these. Assumes nothing.
+-- The contracts of `geom` cite these.
 use mathlib.Core.Bool.{Bool, _&&_, _||_}
 use Prim.Native.Nat.{ℕ, _+_}
 use lib.IntN.{ℤ, pos, negℤ, natAbs, _-ℤ_, _*ℤ_}

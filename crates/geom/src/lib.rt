@@ -1,4 +1,4 @@
-// Points: their order, their range, cross products and distances, over i32 coordinates. Every function here is proved, and the crate assumes nothing of its own.
+// Points: their order, their range, cross products and distances, over i32 coordinates.
 ghost use mathlib.Core.Path.{_≡_};
 ghost use mathlib.Core.Bool.{true};
 ghost use Prim.Native.Nat.{_≤_};

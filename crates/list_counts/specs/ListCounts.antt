@@ -1,4 +1,4 @@
--- The ray's top counts by place. Assumes nothing.
+-- The ray's top counts by place.
 use Prim.Native.Nat.{ℕ}
 use lib.IntN.{ℤ}
 use Rattle.segm.specs.Segments.{Drawing, segmentAt}

@@ -1,4 +1,4 @@
--- Lists in which neighbours are related. Assumes nothing.
+-- Lists in which neighbours are related.
 use mathlib.Core.List.{List, [], _∷_}
 
 module _ {A : Type 0} where

@@ -1,4 +1,4 @@
--- Members of a list, its pairs of places, and the members that pass a test. Assumes nothing.
+-- Members of a list, its pairs of places, and the members that pass a test.
 use mathlib.Core.Path.{_≡_}
 use mathlib.Core.List.{List, [], _∷_}
 use mathlib.Core.Logic.{_⊎_}

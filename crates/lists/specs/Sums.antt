@@ -1,4 +1,4 @@
--- Sums over the members of a list. Assumes nothing.
+-- Sums over the members of a list.
 use mathlib.Core.List.{List, [], _∷_}
 use mathlib.Core.Bool.{Bool, cond}
 use Prim.Native.Nat.{ℕ, _+_}

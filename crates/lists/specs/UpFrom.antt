@@ -1,4 +1,4 @@
--- Numbers in a row. Assumes nothing.
+-- Numbers in a row.
 use mathlib.Core.List.{List, [], _∷_}
 use Prim.Native.Nat.{ℕ, zero, suc}
 

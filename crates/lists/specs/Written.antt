@@ -1,4 +1,4 @@
--- Lists that are written to. Assumes nothing.
+-- Lists that are written to.
 use mathlib.Core.List.{List, _++_}
 use lib.ListN.{length, drop}
 

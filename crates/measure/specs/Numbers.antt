@@ -1,4 +1,4 @@
--- What the driver is handed. Assumes nothing.
+-- What the driver is handed.
 use mathlib.Core.List.{List}
 use Prim.Native.Nat.{ℕ}
 use lib.IntN.{ℤ, pos}

@@ -1,4 +1,4 @@
--- What happens at one x. The contracts of `meeting_sweep` cite these. Assumes nothing.
+-- What happens at one x. The contracts of `meeting_sweep` cite these.
 use mathlib.Core.Path.{_≡_}
 use mathlib.Core.List.{List}
 use Prim.Native.Nat.{ℕ, _<_, _≤_}

@@ -1,4 +1,4 @@
--- When two segments meet wrongly. The contracts of `meetings` cite this. Assumes nothing.
+-- When two segments meet wrongly. The contracts of `meetings` cite this.
 use mathlib.Core.Path.{_≡_}
 use mathlib.Core.Bool.{Bool, false, _&&_, _||_}
 use lib.IntN.{ℤ, pos}

@@ -1,4 +1,4 @@
-// When two segments meet wrongly. Every function here is proved, and the crate assumes nothing of its own.
+// When two segments meet wrongly.
 use segm::Segment;
 ghost use mathlib.Core.Path.{_≡_};
 ghost use mathlib.Core.Bool.{_&&_, _||_};

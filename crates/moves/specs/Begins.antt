@@ -1,4 +1,4 @@
--- Where a walk begins. Assumes nothing.
+-- Where a walk begins.
 use mathlib.Core.List.{List, [], _∷_}
 use mathlib.Core.Option.{Option, none, some}
 use mathlib.Core.Bool.{true, false, cond}

@@ -1,5 +1,5 @@
 -- The two bits of a link, each named by its direction: true is bit 1, from a to b, and false is bit 2, from b to a. In a clip walk they are the line bits, in a
--- slice walk the side bits, of which bit 1 is the top and bit 2 the bottom. Assumes nothing.
+-- slice walk the side bits, of which bit 1 is the top and bit 2 the bottom.
 use mathlib.Core.Bool.{Bool, true, false}
 use Prim.Native.Nat.{ℕ, _+_, _-_, _/_, _%_}
 use lib.Dec.{eqb}

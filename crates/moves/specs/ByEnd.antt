@@ -1,4 +1,4 @@
--- Moves over flat lists, as the code has them: each named by the end of a link that it leaves. Assumes nothing.
+-- Moves over flat lists, as the code has them: each named by the end of a link that it leaves.
 use mathlib.Core.List.{List}
 use mathlib.Core.Bool.{Bool, Bool·beq}
 use Prim.Native.Nat.{ℕ, suc, _+_, _*_, _<_, _≤_}

@@ -1,4 +1,4 @@
--- Moves: each goes over one link and takes one of its two bits. The list `bits` has the bits that remain, one entry for each link. Assumes nothing.
+-- Moves: each goes over one link and takes one of its two bits. The list `bits` has the bits that remain, one entry for each link.
 use mathlib.Core.Path.{_≡_}
 use mathlib.Core.List.{List, [], _∷_}
 use mathlib.Core.Bool.{Bool, true}

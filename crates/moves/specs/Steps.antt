@@ -1,4 +1,4 @@
--- Steps over a link: in the direction of a bit or against it, and the bit that fits a step from a point. Assumes nothing.
+-- Steps over a link: in the direction of a bit or against it, and the bit that fits a step from a point.
 use mathlib.Core.Path.{_≡_}
 use mathlib.Core.Bool.{Bool, true, false, cond, Bool·beq}
 use Rattle.geom.specs.declared.Point.{Point}

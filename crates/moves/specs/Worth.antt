@@ -1,4 +1,4 @@
--- What the bits of links come to, for any worth of a step. Laws cite these, no contract does. Assumes nothing.
+-- What the bits of links come to, for any worth of a step. Laws cite these, no contract does.
 use mathlib.Core.List.{List, [], _∷_}
 use mathlib.Core.Bool.{true, false, cond}
 use Prim.Native.Nat.{ℕ, _+_}

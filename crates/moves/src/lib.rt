@@ -1,5 +1,4 @@
-// What the clip walk and the slice walk share: a move is named by the end of a link that it leaves, and takes one of the link's two bits. Every function here
-// is proved, and the crate assumes nothing of its own.
+// What the clip walk and the slice walk share: a move is named by the end of a link that it leaves, and takes one of the link's two bits.
 ghost use mathlib.Core.Path.{_≡_};
 ghost use mathlib.Core.Bool.{true};
 ghost use Prim.Native.Nat.{_*_, _≤_, _<_};

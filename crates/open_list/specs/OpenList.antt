@@ -1,4 +1,4 @@
--- What is tested of neighbours in the list of the open segments, what leaves it and what enters. The contracts of `open_list` cite these. Assumes nothing.
+-- What is tested of neighbours in the list of the open segments, what leaves it and what enters. The contracts of `open_list` cite these.
 use mathlib.Core.Path.{_≡_}
 use mathlib.Core.List.{List}
 use mathlib.Core.Logic.{_⊎_}

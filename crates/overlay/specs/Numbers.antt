@@ -1,4 +1,4 @@
--- What C is handed: the numbers that each public operation sets out its answer in, and its lent lists when it returns. Assumes nothing.
+-- What C is handed: the numbers that each public operation sets out its answer in, and its lent lists when it returns.
 use mathlib.Core.List.{List}
 use Prim.Native.Nat.{ℕ}
 use lib.IntN.{ℤ}

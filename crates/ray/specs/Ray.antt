@@ -1,4 +1,4 @@
--- Sides by a ray: which sides of each segment are filled. Assumes nothing.
+-- Sides by a ray: which sides of each segment are filled.
 use mathlib.Core.List.{List, map}
 use mathlib.Core.Bool.{Bool, _&&_, _||_}
 use Prim.Native.Nat.{ℕ}

@@ -1,4 +1,4 @@
--- What operations ask before they look at what they are given, with place 0: the length, the choices, the lent lists. Assumes nothing.
+-- What operations ask before they look at what they are given, with place 0: the length, the choices, the lent lists.
 use mathlib.Core.Bool.{Bool, not, _||_}
 use Prim.Native.Nat.{ℕ, _*_, _/_, _%_}
 use lib.Dec.{eqb, ltb}

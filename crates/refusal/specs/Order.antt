@@ -1,4 +1,4 @@
--- Verdicts and their order: of several checks the first that refuses decides. Assumes nothing.
+-- Verdicts and their order: of several checks the first that refuses decides.
 use mathlib.Core.Bool.{Bool, true, false, cond}
 use Prim.Native.Nat.{ℕ, zero, suc}
 use lib.Dec.{eqb}

@@ -1,5 +1,5 @@
 -- The ordered list of the open segments: places of segments, the lowest first. Where a point or a segment stands in it, what enters and what is taken out.
--- The contracts of `scan` cite these. Assumes nothing.
+-- The contracts of `scan` cite these.
 use mathlib.Core.List.{List, _∷_, _++_}
 use mathlib.Core.Path.{_≡_}
 use mathlib.Core.Bool.{Bool, true, false}

@@ -1,4 +1,4 @@
--- Document 01's case A, the numbers of its nine segments, and how worked cases write a segment. Assumes nothing.
+-- Document 01's case A, the numbers of its nine segments, and how worked cases write a segment.
 use mathlib.Core.List.{List, [], _∷_, _++_}
 use lib.IntN.{ℤ, pos, negsuc}
 

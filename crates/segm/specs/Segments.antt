@@ -1,5 +1,5 @@
 -- A drawing: its segments, how they are read from a flat list of numbers and laid into one, and sums of their windings.
--- A segment is the code's own record, its numbers read as integers. The contracts of `segm` cite these. Assumes nothing.
+-- A segment is the code's own record, its numbers read as integers. The contracts of `segm` cite these.
 use mathlib.Core.List.{List, [], _∷_, _++_}
 use mathlib.Core.Bool.{Bool}
 use Prim.Native.Nat.{ℕ, zero, suc, _/_, _%_}

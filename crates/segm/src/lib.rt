@@ -1,4 +1,4 @@
-// What a drawing is: segments, read from a flat list of numbers and written to one. Every function here is proved, and the crate assumes nothing of its own.
+// What a drawing is: segments, read from a flat list of numbers and written to one.
 // Any list of numbers can be read at any place; writing asks for room.
 use geom::Point;
 ghost use mathlib.Core.Path.{_≡_};

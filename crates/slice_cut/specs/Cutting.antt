@@ -1,4 +1,4 @@
--- Walks cut into loops, and loops made contours: what contours there are, and how they stand in lists. Assumes nothing.
+-- Walks cut into loops, and loops made contours: what contours there are, and how they stand in lists.
 use mathlib.Core.Path.{_≡_}
 use mathlib.Core.List.{List, [], _∷_, _++_, map, flatten}
 use mathlib.Core.Bool.{Bool}

@@ -1,5 +1,4 @@
-// Walks cut into loops, and loops made contours: each with its role, and turned round where it must be. Every function here is proved, and the crate assumes
-// nothing of its own.
+// Walks cut into loops, and loops made contours: each with its role, and turned round where it must be.
 use string_split::LoopTotals;
 ghost use mathlib.Core.Path.{_≡_};
 ghost use mathlib.Core.List.{map, flatten};

@@ -1,4 +1,4 @@
--- The choice of the next move over flat lists, as the code goes: a move is named by the end of a link that it leaves. Assumes nothing.
+-- The choice of the next move over flat lists, as the code goes: a move is named by the end of a link that it leaves.
 use mathlib.Core.List.{List, [], _∷_}
 use mathlib.Core.Bool.{Bool, not, _&&_, cond}
 use Prim.Native.Nat.{ℕ}

@@ -1,4 +1,4 @@
--- The slice walk: by its moves, each of which takes one side bit of one link: true is the top, bit 1, and false the bottom, bit 2. Assumes nothing.
+-- The slice walk: by its moves, each of which takes one side bit of one link: true is the top, bit 1, and false the bottom, bit 2.
 use mathlib.Core.List.{List, [], _∷_, map}
 use mathlib.Core.Option.{Option, none, some}
 use mathlib.Core.Bool.{Bool, true, false, not, _&&_, cond, Bool·beq}

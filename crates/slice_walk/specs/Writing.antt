@@ -1,4 +1,4 @@
--- What the code of the walk needs of its lists, and what it writes. Assumes nothing.
+-- What the code of the walk needs of its lists, and what it writes.
 use mathlib.Core.Path.{_≡_}
 use mathlib.Core.List.{List, map}
 use mathlib.Core.Option.{Option, none, some}

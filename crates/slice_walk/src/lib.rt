@@ -1,5 +1,4 @@
-// The slice walk over flat lists: a move is named by the end of a link that it leaves, and takes one side bit. Every function here is proved, and the crate
-// assumes nothing of its own.
+// The slice walk over flat lists: a move is named by the end of a link that it leaves, and takes one side bit.
 mod nearest;
 
 use moves::NextEnd;

@@ -1,4 +1,4 @@
--- What starts at one x, node by node: what enters the list, where vertical segments stand, and the top counts. The contracts of `starts` cite these. Assumes nothing.
+-- What starts at one x, node by node: what enters the list, where vertical segments stand, and the top counts. The contracts of `starts` cite these.
 use mathlib.Core.Path.{_≡_}
 use mathlib.Core.List.{List}
 use mathlib.Core.Bool.{true}

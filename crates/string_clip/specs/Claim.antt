@@ -1,4 +1,4 @@
--- Inside and outside together: the one claim about two clip runs with one drawing, rule and boundary, over their outputs as read from the lent lists. Assumes nothing.
+-- Inside and outside together: the one claim about two clip runs with one drawing, rule and boundary, over their outputs as read from the lent lists.
 use mathlib.Core.Path.{_≡_}
 use mathlib.Core.List.{List, [], _∷_, flatten}
 use mathlib.Core.Logic.{_⊎_, _↔_}

@@ -1,4 +1,4 @@
--- Paths as points, their steps and travel. Assumes nothing.
+-- Paths as points, their steps and travel.
 use mathlib.Core.List.{List, [], _∷_, _++_, map, reverse}
 use mathlib.Core.Bool.{Bool, true, false}
 use Prim.Native.Nat.{ℕ, _+_}

@@ -1,4 +1,4 @@
--- A clip run: what it answers, what it writes to its lent lists, and how its output is read from them. The contracts of `string_clip` cite these. Assumes nothing.
+-- A clip run: what it answers, what it writes to its lent lists, and how its output is read from them. The contracts of `string_clip` cite these.
 use mathlib.Core.List.{List, map, flatten}
 use Prim.Native.Nat.{ℕ}
 use lib.ListN.{length}

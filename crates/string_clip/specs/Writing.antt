@@ -1,4 +1,4 @@
--- What the code asks of its links, and what it writes: the points of moves named by ends, one path, all paths, and their travel. Assumes nothing.
+-- What the code asks of its links, and what it writes: the points of moves named by ends, one path, all paths, and their travel.
 use mathlib.Core.Path.{_≡_}
 use mathlib.Core.List.{List, [], _∷_, map, flatten}
 use mathlib.Core.Bool.{Bool, true}

@@ -1,4 +1,4 @@
--- The contours of a slice: its walks, cut into loops, each with its role and turned round where it must be. Assumes nothing.
+-- The contours of a slice: its walks, cut into loops, each with its role and turned round where it must be.
 use mathlib.Core.List.{List, [], _∷_, _++_, map}
 use mathlib.Core.Option.{Option, none, some}
 use mathlib.Core.Bool.{Bool}

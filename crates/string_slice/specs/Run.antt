@@ -1,4 +1,4 @@
--- A slice run: what it answers, and what it writes to its lent lists. The contracts of `string_slice` cite these. Assumes nothing.
+-- A slice run: what it answers, and what it writes to its lent lists. The contracts of `string_slice` cite these.
 use mathlib.Core.List.{List, map, flatten}
 use mathlib.Core.Option.{Option, none, some}
 use Prim.Native.Nat.{ℕ}

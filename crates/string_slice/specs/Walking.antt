@@ -1,4 +1,4 @@
--- The first stage of a slice run, the walks: the memory for them, what is answered, and what is left in their lists. Assumes nothing.
+-- The first stage of a slice run, the walks: the memory for them, what is answered, and what is left in their lists.
 use mathlib.Core.Path.{_≡_}
 use mathlib.Core.List.{List, map}
 use mathlib.Core.Option.{Option, none, some}

@@ -1,4 +1,4 @@
--- Loops by their points: never more of them than were taken, and in range if those are. Assumes nothing.
+-- Loops by their points: never more of them than were taken, and in range if those are.
 use mathlib.Core.Path.{_≡_, refl, sym, ap, _∙_, subst}
 use mathlib.Core.List.{List, [], _∷_, _++_, flatten, append-nil}
 use mathlib.Core.Logic.{inl, inr}

@@ -1,4 +1,4 @@
--- One point: the buffer after it, and the loop that it closes. Assumes nothing.
+-- One point: the buffer after it, and the loop that it closes.
 use mathlib.Core.Path.{_≡_, refl, sym, ap, _∙_}
 use mathlib.Core.List.{List, [], _∷_, _++_}
 use mathlib.Core.Bool.{Bool, true, false, cond}

@@ -1,4 +1,4 @@
--- What an accepted run is given. Assumes nothing.
+-- What an accepted run is given.
 use mathlib.Core.Path.{_≡_, refl, sym, ap, _∙_}
 use mathlib.Core.List.{List, [], _∷_}
 use mathlib.Core.Logic.{inl, inr}

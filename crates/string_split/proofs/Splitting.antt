@@ -1,4 +1,4 @@
--- The first points of a list of numbers, loops that come after those found, and working memory. Assumes nothing.
+-- The first points of a list of numbers, loops that come after those found, and working memory.
 use mathlib.Core.Path.{_≡_, refl, sym, ap, _∙_, ap₂}
 use mathlib.Core.List.{List, [], _∷_, _++_, map, flatten, append-nil}
 use mathlib.Core.Bool.{Bool, cond}

@@ -1,4 +1,4 @@
--- The loops of a list of points. Assumes nothing.
+-- The loops of a list of points.
 use mathlib.Core.List.{List, [], _∷_, _++_}
 use mathlib.Core.Bool.{cond}
 use Prim.Native.Nat.{ℕ, suc}

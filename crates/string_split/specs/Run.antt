@@ -1,4 +1,4 @@
--- A split run: which points it takes, what it answers, and what it writes to its lent lists. Assumes nothing.
+-- A split run: which points it takes, what it answers, and what it writes to its lent lists.
 use mathlib.Core.List.{List, [], _∷_, map, flatten}
 use mathlib.Core.Bool.{cond}
 use Prim.Native.Nat.{ℕ, _/_}

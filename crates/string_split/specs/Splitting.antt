@@ -1,4 +1,4 @@
--- What the inner functions of a split do to their lists. Assumes nothing.
+-- What the inner functions of a split do to their lists.
 use mathlib.Core.Path.{_≡_}
 use mathlib.Core.List.{List, _++_, map, flatten}
 use Prim.Native.Nat.{ℕ, _+_, _*_, _%_, _≤_, _<_}

@@ -1,4 +1,4 @@
-// Loops: a list of points cut at each that it comes back to. Every function here is proved, and the crate assumes nothing of its own.
+// Loops: a list of points cut at each that it comes back to.
 // `split` has no `requires`: any numbers and any lengths of lent lists get an answer. `split_loops` is the same for points that are known to be good, in working
 // memory that is lent.
 mod buffer;

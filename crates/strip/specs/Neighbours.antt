@@ -1,4 +1,4 @@
--- What is asked of neighbours in a list of open segments, and of the vertical segments beside it. Assumes nothing.
+-- What is asked of neighbours in a list of open segments, and of the vertical segments beside it.
 use mathlib.Core.Path.{_≡_}
 use mathlib.Core.List.{List}
 use mathlib.Core.Logic.{_⊎_}

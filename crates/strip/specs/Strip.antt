@@ -1,4 +1,4 @@
--- Segments in a strip, the band between x and x + 1: which ones span it, which points are above them, and which of two is the lower. Assumes nothing.
+-- Segments in a strip, the band between x and x + 1: which ones span it, which points are above them, and which of two is the lower.
 use mathlib.Core.Path.{_≡_}
 use mathlib.Core.Bool.{Bool, true, false, _&&_, _||_, cond}
 use lib.IntN.{ℤ, pos, _+ℤ_, _-ℤ_, _*ℤ_}

@@ -1,5 +1,4 @@
 -- The sweep with an ordered list of the segments still open: nothing is looked at twice that has ended, and the highest one under a point is found by bisection.
--- Assumes nothing.
 use mathlib.Core.List.{List, []}
 use mathlib.Core.Bool.{Bool, cond}
 use Prim.Native.Nat.{ℕ, zero, suc, _+_, _-_, _/_}

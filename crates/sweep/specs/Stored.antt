@@ -1,5 +1,5 @@
 -- The sweep with document 01's scan: of the stored segments strictly under the point with x < b.x, the one highest just right of the point's x
--- (of two with one start, the one counter-clockwise of the other), count 0 if none. Assumes nothing.
+-- (of two with one start, the one counter-clockwise of the other), count 0 if none.
 use mathlib.Core.List.{List, [], _∷_, map}
 use mathlib.Core.Bool.{Bool, _&&_, cond}
 use mathlib.Core.Option.{Option, none, some}

@@ -1,5 +1,5 @@
 -- The sweep of the Rust's build/sweep.rs, line by line: nodes of one start in order, each with its segments counter-clockwise from the lowest, the scan asked once a node.
--- As there, the scan is any collection that can be asked for the count under a point and that stores a segment with its top count. Assumes nothing.
+-- As there, the scan is any collection that can be asked for the count under a point and that stores a segment with its top count.
 use mathlib.Core.List.{List, [], _∷_}
 use mathlib.Core.Bool.{Bool, cond}
 use Prim.Native.Nat.{ℕ, zero, suc, _+_}

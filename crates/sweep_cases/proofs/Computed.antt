@@ -1,5 +1,5 @@
 -- The sweep, as it is defined, has the unchanged Rust's fills on small drawings: with document 01's scan and with the ordered list of the open segments.
--- By computing. Assumes nothing.
+-- By computing.
 use mathlib.Core.Path.{_≡_, refl}
 use mathlib.Core.List.{List, map}
 use Prim.Native.Nat.{ℕ}

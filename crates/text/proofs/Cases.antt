@@ -1,4 +1,4 @@
--- Texts by computing. Assumes nothing.
+-- Texts by computing.
 use mathlib.Core.Path.{_≡_, refl}
 use mathlib.Core.List.{List, [], _∷_, flatten}
 use Prim.Native.String.{String}

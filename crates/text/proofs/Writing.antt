@@ -1,4 +1,4 @@
--- The comma text: what is written is read back, and one text alone holds given choices and numbers. Assumes nothing.
+-- The comma text: what is written is read back, and one text alone holds given choices and numbers.
 use mathlib.Core.Path.{_≡_, refl, sym, _∙_, ap, ap₂, subst}
 use mathlib.Core.Bool.{Bool, true, false, cond}
 use mathlib.Core.List.{List, [], _∷_, _++_, map, flatten}

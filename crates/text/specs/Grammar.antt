@@ -1,4 +1,4 @@
--- The comma text: what a text holds, or its first bad line. 10 is LF, 44 the comma. Assumes nothing.
+-- The comma text: what a text holds, or its first bad line. 10 is LF, 44 the comma.
 use mathlib.Core.List.{List, [], _∷_, flatten}
 use mathlib.Core.Option.{Option, none, some}
 use mathlib.Core.Bool.{cond}

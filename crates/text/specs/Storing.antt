@@ -1,4 +1,4 @@
--- What `read` answers, and how the numbers of a text go into the lent list. The contracts of `text` cite these. Assumes nothing.
+-- What `read` answers, and how the numbers of a text go into the lent list. The contracts of `text` cite these.
 use mathlib.Core.List.{List, [], flatten}
 use mathlib.Core.Option.{Option, none, some}
 use mathlib.Core.Bool.{Bool, true, false}

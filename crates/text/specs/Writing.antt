@@ -1,4 +1,4 @@
--- Drawings and their choices as bytes. Assumes nothing.
+-- Drawings and their choices as bytes.
 use mathlib.Core.List.{List, [], _∷_, map}
 use Prim.Native.Nat.{ℕ}
 use lib.IntN.{ℤ}

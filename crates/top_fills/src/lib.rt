@@ -1,4 +1,4 @@
-// The fills of an accepted drawing by its top counts. Every function here is proved, and the crate assumes nothing of its own.
+// The fills of an accepted drawing by its top counts.
 use fill_rule::Rule;
 ghost use mathlib.Core.Path.{_≡_};
 ghost use Prim.Native.Nat.{_≤_, _<_};

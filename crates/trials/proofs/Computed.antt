@@ -1,4 +1,4 @@
--- Every trial drawing, by computing. Assumes nothing.
+-- Every trial drawing, by computing.
 use mathlib.Core.Path.{refl}
 use mathlib.Core.List.{flatten}
 use Rattle.geom.specs.Points.{eqZ, within, ltP, eqP, coordinate, inRange, cross, between, travel}

@@ -1,5 +1,5 @@
 -- Document 01's trial drawings, those marked P: one joint proposition about whole runs, choices and refusals included. What lent lists hold past an answer
--- stays. Assumes nothing.
+-- stays.
 use mathlib.Core.Path.{_≡_}
 use mathlib.Core.List.{List, [], _∷_, _++_, map}
 use Prim.Native.Nat.{ℕ, _*_}

@@ -1,4 +1,4 @@
--- What is tested of vertical segments. The contracts of `verticals` cite these. Assumes nothing.
+-- What is tested of vertical segments. The contracts of `verticals` cite these.
 use mathlib.Core.Path.{_≡_}
 use mathlib.Core.List.{List}
 use mathlib.Core.Logic.{_⊎_}

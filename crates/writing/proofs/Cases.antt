@@ -1,4 +1,4 @@
--- Lengths by computing. Assumes nothing.
+-- Lengths by computing.
 use mathlib.Core.Path.{_≡_, refl}
 use mathlib.Core.List.{[], _∷_, map, flatten}
 use Prim.Native.Nat.{_^_, _-_}

@@ -1,4 +1,4 @@
--- The lengths counted are those of the bytes; digits counted one by one; how long numbers and lines are at most. Assumes nothing.
+-- The lengths counted are those of the bytes; digits counted one by one; how long numbers and lines are at most.
 use mathlib.Core.Path.{_≡_, refl, ap, _∙_}
 use mathlib.Core.Bool.{Bool, true, false, cond}
 use mathlib.Core.List.{List, [], _∷_, map, flatten}

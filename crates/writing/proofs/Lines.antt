@@ -1,4 +1,4 @@
--- Fields, lines and rows as bytes: of which bytes they are, and a row more. Assumes nothing.
+-- Fields, lines and rows as bytes: of which bytes they are, and a row more.
 use mathlib.Core.Path.{_≡_, refl, subst}
 use mathlib.Core.List.{List, [], _∷_, _++_, map, flatten, append-assoc}
 use mathlib.Core.Logic.{_⊎_, inl, inr}

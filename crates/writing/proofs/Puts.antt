@@ -1,4 +1,4 @@
--- Bytes put into a list, one run after another. Assumes nothing.
+-- Bytes put into a list, one run after another.
 use mathlib.Core.Path.{_≡_, refl, sym, ap, _∙_}
 use mathlib.Core.List.{List, [], _∷_, _++_, append-assoc, append-nil}
 use Prim.Native.Nat.{ℕ, suc, _+_, _<_, _≤_}

@@ -1,4 +1,4 @@
--- A number as the code takes it apart: whether it is below 0, and its distance from 0. Assumes nothing.
+-- A number as the code takes it apart: whether it is below 0, and its distance from 0.
 use mathlib.Core.Path.{_≡_, ap, _∙_}
 use mathlib.Core.List.{_∷_}
 use mathlib.Core.Bool.{true, false}

@@ -1,4 +1,4 @@
--- How many bytes numbers, lines and texts have, by counting. Assumes nothing.
+-- How many bytes numbers, lines and texts have, by counting.
 use mathlib.Core.List.{List, [], _∷_, map}
 use mathlib.Core.Bool.{cond}
 use Prim.Native.Nat.{ℕ, zero, suc, _/_}

@@ -1,4 +1,4 @@
--- Fields, lines and rows as bytes: 10 is LF, 44 the comma. Assumes nothing.
+-- Fields, lines and rows as bytes: 10 is LF, 44 the comma.
 use mathlib.Core.List.{List, [], _∷_, _++_, map, flatten}
 use Prim.Native.Nat.{ℕ}
 use lib.IntN.{ℤ}

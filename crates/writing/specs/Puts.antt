@@ -1,4 +1,4 @@
--- Bytes put into a list. The contracts of `writing` cite these. Assumes nothing.
+-- Bytes put into a list. The contracts of `writing` cite these.
 use mathlib.Core.Path.{_≡_}
 use mathlib.Core.List.{List}
 use Prim.Native.Nat.{ℕ, _+_}

@@ -1,5 +1,5 @@
 // Digits, commas, LF and other bytes, put into a lent list from a place on, and how many bytes numbers and lines have: who writes can see first that there is
-// room for all of it. Every function here is proved, and the crate assumes nothing of its own.
+// room for all of it.
 ghost use mathlib.Core.Path.{_≡_};
 ghost use mathlib.Core.List.{[], _∷_, map};
 ghost use Prim.Native.Nat.{_+_, _^_, _≤_, _<_};

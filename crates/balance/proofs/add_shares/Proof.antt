@@ -1,4 +1,4 @@
--- The sums so far are those of the ends passed. Assumes nothing.
+-- The sums so far are those of the ends passed.
 use borrow.Author.Needs.{needs}
 use mathlib.Core.Path.{_≡_, refl, sym, subst, _∙_}
 use mathlib.Core.List.{List}

@@ -1,4 +1,4 @@
--- The sums are lent with 0 everywhere, and come back as those of the nodes. Assumes nothing.
+-- The sums are lent with 0 everywhere, and come back as those of the nodes.
 use borrow.Author.Needs.{needs}
 use mathlib.Core.Path.{_≡_, sym, ap, subst, _∙_}
 use mathlib.Core.List.{List}

@@ -1,4 +1,4 @@
--- Which end it is decides; the opposite of at most 1,000 fits. Assumes nothing.
+-- Which end it is decides; the opposite of at most 1,000 fits.
 use borrow.Author.Needs.{needs}
 use mathlib.Core.Path.{_≡_, sym, ap, _∙_}
 use native.Mathlib.Omega.{arith}

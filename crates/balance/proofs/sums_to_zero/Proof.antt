@@ -1,4 +1,4 @@
--- The bits of the sum are those of 0. Assumes nothing.
+-- The bits of the sum are those of 0.
 use borrow.Author.Needs.{needs}
 use lib.Dec.{lit<}
 use lib.ListN.{getD}

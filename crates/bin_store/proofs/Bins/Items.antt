@@ -1,4 +1,4 @@
--- The memory by its items, and one item more. Assumes nothing.
+-- The memory by its items, and one item more.
 use mathlib.Core.Path.{_≡_, refl, sym, _∙_, ap, ap₂}
 use mathlib.Core.List.{List, [], _∷_, _++_, map, map-append}
 use mathlib.Core.Bool.{true, false}

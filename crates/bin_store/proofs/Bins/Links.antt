@@ -1,4 +1,4 @@
--- What is reached along the links, and what a store leaves reached. Assumes nothing.
+-- What is reached along the links, and what a store leaves reached.
 use mathlib.Core.Path.{_≡_, refl, sym, _∙_, ap, ap₂, subst}
 use mathlib.Core.List.{List}
 use mathlib.Core.Bool.{true, false}

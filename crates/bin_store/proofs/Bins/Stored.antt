@@ -1,4 +1,4 @@
--- What `store` leaves: one item more. Assumes nothing.
+-- What `store` leaves: one item more.
 use mathlib.Core.Path.{_≡_, _∙_, ap, ap₂}
 use mathlib.Core.List.{List, [], _∷_, _++_}
 use Prim.Native.Nat.{ℕ, suc, _+_, _*_, _<_}

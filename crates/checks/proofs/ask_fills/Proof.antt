@@ -1,4 +1,4 @@
--- The three flags are those of the definition. Assumes nothing.
+-- The three flags are those of the definition.
 use borrow.Author.Needs.{needs}
 use mathlib.Core.Path.{_∙_}
 use mir.Facts.{toZ-ofZ}

@@ -1,4 +1,4 @@
--- Fresh arrays are memory for the drawing. Assumes nothing.
+-- Fresh arrays are memory for the drawing.
 use borrow.Author.Needs.{needs}
 use native.Mathlib.Omega.{arith}
 use Rattle.segm.proofs.Segments.{length-segments}

@@ -1,4 +1,4 @@
--- What is asked first, then the drawing. Assumes nothing.
+-- What is asked first, then the drawing.
 use borrow.Author.Needs.{needs}
 use mathlib.Core.Path.{_≡_, sym, _∙_}
 use mir.Facts.{toZ-ofZ}

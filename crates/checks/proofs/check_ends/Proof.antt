@@ -1,4 +1,4 @@
--- The nodes that are written have the ordered ends, and the numbers of their nodes. Assumes nothing.
+-- The nodes that are written have the ordered ends, and the numbers of their nodes.
 use borrow.Author.Needs.{needs}
 use mathlib.Core.Path.{ap}
 use native.Mathlib.Omega.{arith}

@@ -1,4 +1,4 @@
--- The parts of the lists that the ends need are looked at. Assumes nothing.
+-- The parts of the lists that the ends need are looked at.
 use borrow.Author.Needs.{needs}
 use mathlib.Core.Path.{_≡_, sym, ap, subst, _∙_}
 use mathlib.Core.List.{List}

@@ -1,4 +1,4 @@
--- What the sweep calls clear has no refusal 8, and what it does not call clear has one, which the search names. Assumes nothing.
+-- What the sweep calls clear has no refusal 8, and what it does not call clear has one, which the search names.
 use borrow.Author.Needs.{needs}
 use mathlib.Core.Path.{sym, _∙_}
 use Rattle.integers.proofs.Booleans.{clash}

@@ -1,4 +1,4 @@
--- 9 at the place found, if there is one. Assumes nothing.
+-- 9 at the place found, if there is one.
 use borrow.Author.Needs.{needs}
 use borrow.Author.Tests.{lt-ltb, le-ltb}
 use mathlib.Core.Path.{_≡_, sym, ap, _∙_}

@@ -1,4 +1,4 @@
--- What the search over the later places told. Assumes nothing.
+-- What the search over the later places told.
 use mathlib.Core.Path.{_≡_, sym, ap, subst, _∙_}
 use native.Mathlib.Numerals.{add-one}
 use Prim.Native.Nat.{suc, _+_}

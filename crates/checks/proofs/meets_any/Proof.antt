@@ -1,4 +1,4 @@
--- No segment passed meets t wrongly: what is left decides. Assumes nothing.
+-- No segment passed meets t wrongly: what is left decides.
 use borrow.Author.Needs.{needs}
 use mathlib.Core.Path.{_≡_, sym, ap, subst, _∙_}
 use mathlib.Core.Bool.{Bool, _||_}

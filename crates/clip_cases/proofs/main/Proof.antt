@@ -1,4 +1,4 @@
--- One argument a turn. Assumes nothing.
+-- One argument a turn.
 use borrow.Author.Needs.{needs}
 use Prim.Native.Nat.{_-_}
 use Rattle.clip_cases.proofs.main.Statement.{statement}

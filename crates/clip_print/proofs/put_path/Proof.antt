@@ -1,4 +1,4 @@
--- The lines of the points passed are put. Assumes nothing.
+-- The lines of the points passed are put.
 use borrow.Author.Needs.{needs}
 use mathlib.Core.Path.{_≡_}
 use mathlib.Core.List.{List, _++_}

@@ -1,4 +1,4 @@
--- The lines of the paths passed are put. Assumes nothing.
+-- The lines of the paths passed are put.
 use borrow.Author.Needs.{needs}
 use mathlib.Core.Path.{_≡_, refl}
 use mathlib.Core.List.{List}

@@ -1,4 +1,4 @@
--- Field by field, then LF. Assumes nothing.
+-- Field by field, then LF.
 use borrow.Author.Needs.{needs}
 use mathlib.Core.Path.{_≡_, refl, ap}
 use mathlib.Core.List.{List, [], _∷_}

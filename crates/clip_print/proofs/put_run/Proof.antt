@@ -1,4 +1,4 @@
--- The lines of the paths, then the total. Assumes nothing.
+-- The lines of the paths, then the total.
 use borrow.Author.Needs.{needs}
 use mathlib.Core.Path.{_≡_, sym, ap}
 use mathlib.Core.List.{List}

@@ -1,4 +1,4 @@
--- The lists hold zeros. Assumes nothing.
+-- The lists hold zeros.
 use borrow.Author.Needs.{needs}
 use mathlib.Core.Path.{sym}
 use Prim.Native.Nat.{_≤_}

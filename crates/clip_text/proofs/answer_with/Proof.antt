@@ -1,4 +1,4 @@
--- The run decides the arm. Assumes nothing.
+-- The run decides the arm.
 use borrow.Author.Needs.{needs}
 use mathlib.Core.Path.{_≡_, sym, ap, subst, _∙_}
 use mathlib.Core.List.{List}

@@ -1,4 +1,4 @@
--- The reading decides the arm. Assumes nothing.
+-- The reading decides the arm.
 use borrow.Author.Needs.{needs}
 use mathlib.Core.Path.{_≡_, sym, ap, _∙_}
 use mathlib.Core.Bool.{Bool, cond}

@@ -1,4 +1,4 @@
--- No line bit of an end passed remains: the rest of the part decides. Assumes nothing.
+-- No line bit of an end passed remains: the rest of the part decides.
 use borrow.Author.Needs.{needs}
 use mathlib.Core.Path.{_≡_, sym, ap, _∙_}
 use mathlib.Core.List.{List, _∷_}

@@ -1,4 +1,4 @@
--- What was left and what is to be left are the path's moves. Assumes nothing.
+-- What was left and what is to be left are the path's moves.
 use borrow.Author.Needs.{needs}
 use mathlib.Core.Path.{_≡_, refl, sym, ap, subst, _∙_}
 use mathlib.Core.List.{List, [], _∷_, _++_, append-nil}

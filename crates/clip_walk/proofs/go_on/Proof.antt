@@ -1,4 +1,4 @@
--- The node of the other end, its first end that fits, and that end's bit cleared. Assumes nothing.
+-- The node of the other end, its first end that fits, and that end's bit cleared.
 use borrow.Author.Needs.{needs}
 use mathlib.Core.Path.{_≡_, sym, ap, subst, _∙_}
 use mathlib.Core.List.{List}

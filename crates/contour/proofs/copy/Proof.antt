@@ -1,4 +1,4 @@
--- What is passed is written. Assumes nothing.
+-- What is passed is written.
 use borrow.Author.Needs.{needs}
 use mathlib.Core.Path.{_≡_, refl, sym, ap, ap₂, _∙_}
 use mathlib.Core.List.{List}

@@ -1,4 +1,4 @@
--- About the origin. Assumes nothing.
+-- About the origin.
 use mathlib.Core.Path.{_∙_}
 use mir.Syntax.{w64}
 use Rattle.integers.proofs.Machine.{got}

@@ -1,4 +1,4 @@
--- A loop is turned round where the definition turns it. Assumes nothing.
+-- A loop is turned round where the definition turns it.
 use mathlib.Core.Path.{_≡_, _∙_, ap}
 use mathlib.Core.Logic.{⊎-elim}
 use mathlib.Core.Bool.{true, false}

@@ -1,4 +1,4 @@
--- The sum is negative. Assumes nothing.
+-- The sum is negative.
 use mathlib.Core.Path.{ap}
 use lib.IntN.{ℤ, pos}
 use lib.Signed.{ltZ}

@@ -1,4 +1,4 @@
--- No number is below 0; the sum of at most 2,048 points is at most 2^60. Assumes nothing.
+-- No number is below 0; the sum of at most 2,048 points is at most 2^60.
 use mathlib.Core.Path.{_≡_, refl, sym, _∙_, ap}
 use mathlib.Core.Bool.{Bool, true, false, not}
 use native.Mathlib.Omega.{arith}

@@ -1,4 +1,4 @@
--- The pair at place i. Assumes nothing.
+-- The pair at place i.
 use mathlib.Core.Path.{sym, ap₂, _∙_}
 use native.Mathlib.Omega.{arith}
 use lib.IntN.{pos}

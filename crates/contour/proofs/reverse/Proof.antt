@@ -1,4 +1,4 @@
--- The points are turned round but for a middle, which each step takes the two ends off. Assumes nothing.
+-- The points are turned round but for a middle, which each step takes the two ends off.
 use borrow.Author.Needs.{needs}
 use mathlib.Core.Path.{_≡_, refl, sym, _∙_, ap}
 use mathlib.Core.List.{List, reverse}

@@ -1,4 +1,4 @@
--- The sum so far, with what is left of the way, is the whole; each step adds at most 2^49. Assumes nothing.
+-- The sum so far, with what is left of the way, is the whole; each step adds at most 2^49.
 use borrow.Author.Needs.{needs}
 use mathlib.Core.Path.{_≡_, refl, sym, _∙_, ap, ap₂}
 use mathlib.Core.List.{List}

@@ -1,4 +1,4 @@
--- The last of the list is a place with a top count. Assumes nothing.
+-- The last of the list is a place with a top count.
 use borrow.Author.Needs.{needs}
 use mathlib.Core.Path.{sym, _∙_}
 use native.Mathlib.Omega.{arith}

@@ -1,4 +1,4 @@
--- The stretch about the place, counted up from the one below it. Assumes nothing.
+-- The stretch about the place, counted up from the one below it.
 use borrow.Author.Needs.{needs}
 use mathlib.Core.Path.{sym, ap, subst, _∙_}
 use native.Mathlib.Omega.{arith}

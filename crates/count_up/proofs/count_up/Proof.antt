@@ -1,4 +1,4 @@
--- What is left of the stretch, counted up from the sum. Assumes nothing.
+-- What is left of the stretch, counted up from the sum.
 use borrow.Author.Needs.{needs}
 use mathlib.Core.Path.{_≡_, refl, sym, ap, subst, _∙_}
 use mathlib.Core.List.{List}

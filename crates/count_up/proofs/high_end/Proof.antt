@@ -1,4 +1,4 @@
--- All up to the place to which the loop has come are `first` or more. Assumes nothing.
+-- All up to the place to which the loop has come are `first` or more.
 use borrow.Author.Needs.{needs}
 use native.Mathlib.Omega.{arith}
 use native.Mathlib.Decide.{ℕ-discrete}

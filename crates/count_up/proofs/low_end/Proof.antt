@@ -1,4 +1,4 @@
--- All from the place up to which the loop has come are `first` or more. Assumes nothing.
+-- All from the place up to which the loop has come are `first` or more.
 use borrow.Author.Needs.{needs}
 use native.Mathlib.Omega.{arith}
 use native.Mathlib.Decide.{ℕ-discrete}

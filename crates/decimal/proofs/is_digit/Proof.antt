@@ -1,4 +1,4 @@
--- From 48 on the second test decides. Assumes nothing.
+-- From 48 on the second test decides.
 use borrow.Author.Tests.{le-leb, lt-leb}
 use Rattle.decimal.specs.Decimal.{isDigit}
 use Rattle.decimal.proofs.is_digit.Statement.{statement}

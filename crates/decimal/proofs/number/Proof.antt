@@ -1,4 +1,4 @@
--- The first byte decides. Assumes nothing.
+-- The first byte decides.
 use mathlib.Core.Path.{_≡_, refl, sym, ap, _∙_}
 use mathlib.Core.List.{List, [], _∷_}
 use mathlib.Core.Bool.{true, false, cond}

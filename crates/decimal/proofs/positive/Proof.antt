@@ -1,4 +1,4 @@
--- What is left of the digits decides. Assumes nothing.
+-- What is left of the digits decides.
 use mathlib.Core.Path.{_≡_, refl, sym, _∙_}
 use mathlib.Core.List.{List, [], _∷_}
 use mathlib.Core.Bool.{true, false, _||_, cond}

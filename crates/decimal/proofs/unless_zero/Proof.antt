@@ -1,4 +1,4 @@
--- Nine digits fit 32 bits on either side of 0. Assumes nothing.
+-- Nine digits fit 32 bits on either side of 0.
 use borrow.Author.Needs.{needs}
 use mathlib.Core.Path.{_≡_, refl, ap, _∙_}
 use mathlib.Core.Bool.{Bool, true, false}

@@ -1,4 +1,4 @@
--- Each return rewrites the definition by the tests that led there. Assumes nothing.
+-- Each return rewrites the definition by the tests that led there.
 use borrow.Author.Needs.{needs}
 use borrow.Author.Tests.{not-true, not-false}
 use mathlib.Core.Path.{_≡_, sym, ap, ap₂, _∙_}

@@ -1,4 +1,4 @@
--- What was refused before stays. Assumes nothing.
+-- What was refused before stays.
 use borrow.Author.Needs.{needs}
 use mathlib.Core.Path.{sym, ap, _∙_}
 use Rattle.refusal.specs.declared.Verdict.{Verdict}

@@ -1,4 +1,4 @@
--- Three parts, at most 1, 2 and 12. Assumes nothing.
+-- Three parts, at most 1, 2 and 12.
 use borrow.Author.Needs.{needs}
 use mathlib.Core.Path.{_≡_, ap, ap₂, _∙_}
 use mathlib.Core.Bool.{Bool, cond}

@@ -1,4 +1,4 @@
--- The rule decides the arm, and each arm is the definition's test. Assumes nothing.
+-- The rule decides the arm, and each arm is the definition's test.
 use borrow.Author.Needs.{needs}
 use mathlib.Core.Path.{_≡_, sym, ap, subst, _∙_}
 use mathlib.Core.Bool.{not}

@@ -1,4 +1,4 @@
--- The choice's tests decide the arm. Assumes nothing.
+-- The choice's tests decide the arm.
 use mathlib.Core.Path.{sym}
 use lib.Dec.{lit<}
 use Rattle.fill_rule.specs.FillRule.{ruleOf}

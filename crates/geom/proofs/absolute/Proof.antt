@@ -1,4 +1,4 @@
--- By the sign. Assumes nothing.
+-- By the sign.
 use mathlib.Core.Path.{_≡_, _∙_}
 use lib.Dec.{lit<}
 use lib.IntN.{pos, natAbs, _-ℤ_}

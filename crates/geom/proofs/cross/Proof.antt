@@ -1,4 +1,4 @@
--- Each difference is within ±33,554,432, so the products and their difference fit. Assumes nothing.
+-- Each difference is within ±33,554,432, so the products and their difference fit.
 use borrow.Author.Needs.{needs}
 use mathlib.Core.Path.{_≡_}
 use native.Mathlib.Omega.{arith}

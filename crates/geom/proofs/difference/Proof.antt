@@ -1,4 +1,4 @@
--- Both numbers are widened, and their difference fits. Assumes nothing.
+-- Both numbers are widened, and their difference fits.
 use lib.Dec.{lit<}
 use lib.IntN.{ℤ, _-ℤ_}
 use mir.Syntax.{w32, w64}

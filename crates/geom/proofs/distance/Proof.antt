@@ -1,4 +1,4 @@
--- The difference is small. Assumes nothing.
+-- The difference is small.
 use borrow.Author.Needs.{needs}
 use mathlib.Core.Path.{_≡_, ap, ap₂, _∙_}
 use native.Mathlib.Omega.{arith}

@@ -1,4 +1,4 @@
--- Each coordinate is within the limits. Assumes nothing.
+-- Each coordinate is within the limits.
 use borrow.Author.Needs.{needs}
 use mathlib.Core.Path.{_≡_, sym, ap, _∙_}
 use native.Mathlib.Omega.{arith}

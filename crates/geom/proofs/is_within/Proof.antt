@@ -1,4 +1,4 @@
--- Both tests are of the number itself. Assumes nothing.
+-- Both tests are of the number itself.
 use mathlib.Core.Path.{refl, sym, _∙_}
 use Rattle.integers.proofs.Machine.{any, flag-le}
 use Rattle.geom.specs.Points.{within}

@@ -1,4 +1,4 @@
--- Each test is of the coordinates themselves. Assumes nothing.
+-- Each test is of the coordinates themselves.
 use mathlib.Core.Path.{refl, sym, _∙_}
 use native.Mathlib.Omega.{arith}
 use mir.Syntax.{w32}

@@ -1,4 +1,4 @@
--- Equal bits are equal coordinates. Assumes nothing.
+-- Equal bits are equal coordinates.
 use mathlib.Core.Path.{sym, ap, _∙_}
 use native.Mathlib.Omega.{arith}
 use mir.Syntax.{w32}

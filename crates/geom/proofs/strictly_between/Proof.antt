@@ -1,4 +1,4 @@
--- The definition's three tests, the cheap ones first. Assumes nothing.
+-- The definition's three tests, the cheap ones first.
 use borrow.Author.Needs.{needs}
 use borrow.Author.Tests.{not-true, not-false}
 use mathlib.Core.Path.{sym, ap, _∙_}

@@ -1,4 +1,4 @@
--- The two distances are those of the definition. Assumes nothing.
+-- The two distances are those of the definition.
 use borrow.Author.Needs.{needs}
 use mathlib.Core.Path.{_≡_, ap₂, _∙_}
 use native.Mathlib.Omega.{arith}

@@ -1,4 +1,4 @@
--- Which end it is decides. Assumes nothing.
+-- Which end it is decides.
 use mathlib.Core.Path.{sym}
 use Rattle.graph.proofs.Node.{link-low, link-high}
 use Rattle.graph.proofs.link_of.Statement.{statement}

@@ -1,4 +1,4 @@
--- Which end it is decides. Assumes nothing.
+-- Which end it is decides.
 use borrow.Author.Needs.{needs}
 use mathlib.Core.Path.{sym}
 use Rattle.graph.proofs.Node.{other-low, other-high}

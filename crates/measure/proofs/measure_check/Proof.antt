@@ -1,4 +1,4 @@
--- The verdict decides the arm. Assumes nothing.
+-- The verdict decides the arm.
 use borrow.Author.Needs.{needs}
 use mathlib.Core.Path.{_≡_, sym, ap, _∙_}
 use Rattle.refusal.specs.declared.Verdict.{Verdict}

@@ -1,4 +1,4 @@
--- Each of the two runs is as defined. Assumes nothing.
+-- Each of the two runs is as defined.
 use borrow.Author.Needs.{needs}
 use mathlib.Core.Path.{_≡_, ap₂, _∙_}
 use lib.IntN.{pos}

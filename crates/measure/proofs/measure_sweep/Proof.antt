@@ -1,4 +1,4 @@
--- The verdict decides the arm, and an accepted drawing is good. Assumes nothing.
+-- The verdict decides the arm, and an accepted drawing is good.
 use borrow.Author.Needs.{needs}
 use mathlib.Core.Path.{_≡_, sym, ap, _∙_}
 use mir.Val.{boolByte}

@@ -1,4 +1,4 @@
--- The answer decides the arm. Assumes nothing.
+-- The answer decides the arm.
 use borrow.Author.Needs.{needs}
 use mathlib.Core.Path.{sym, ap}
 use Rattle.string_clip.specs.declared.Clipped.{Clipped}

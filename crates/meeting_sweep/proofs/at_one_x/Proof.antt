@@ -1,4 +1,4 @@
--- Equal bits are equal coordinates. Assumes nothing.
+-- Equal bits are equal coordinates.
 use borrow.Author.Needs.{needs}
 use mathlib.Core.Path.{ap₂, _∙_}
 use native.Mathlib.Omega.{arith}

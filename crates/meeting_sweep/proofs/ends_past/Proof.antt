@@ -1,4 +1,4 @@
--- The ends from k up to j lie at one x. Assumes nothing.
+-- The ends from k up to j lie at one x.
 use borrow.Author.Needs.{needs}
 use borrow.Author.Tests.{not-true, not-false}
 use mathlib.Core.Path.{sym, _∙_}

@@ -1,4 +1,4 @@
--- Test after test, and what each says. Assumes nothing.
+-- Test after test, and what each says.
 use borrow.Author.Needs.{needs}
 use borrow.Author.Tests.{not-false, not-true}
 use native.Mathlib.Omega.{arith}

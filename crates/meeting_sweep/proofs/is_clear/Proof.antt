@@ -1,4 +1,4 @@
--- Working memory for a small drawing or for any. Assumes nothing.
+-- Working memory for a small drawing or for any.
 use borrow.Author.Needs.{needs}
 use native.Mathlib.Omega.{arith}
 use Rattle.segm.proofs.Segments.{length-segments}

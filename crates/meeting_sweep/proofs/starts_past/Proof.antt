@@ -1,4 +1,4 @@
--- The segments from k up to j start at one x. Assumes nothing.
+-- The segments from k up to j start at one x.
 use borrow.Author.Needs.{needs}
 use borrow.Author.Tests.{not-true, not-false}
 use mathlib.Core.Path.{sym, _∙_}

@@ -1,4 +1,4 @@
--- From event to event. Assumes nothing.
+-- From event to event.
 use borrow.Author.Needs.{needs}
 use borrow.Author.Tests.{not-false, not-true}
 use mathlib.Core.Path.{_≡_, refl}

@@ -1,4 +1,4 @@
--- The definition's two tests. Assumes nothing.
+-- The definition's two tests.
 use borrow.Author.Tests.{not-true, not-false}
 use mathlib.Core.Path.{sym, _∙_}
 use borrow.Author.Needs.{needs}

@@ -1,4 +1,4 @@
--- The definition's two tests. Assumes nothing.
+-- The definition's two tests.
 use mathlib.Core.Path.{sym, _∙_}
 use Rattle.meetings.specs.Meetings.{inInterior}
 use borrow.Author.Needs.{needs}

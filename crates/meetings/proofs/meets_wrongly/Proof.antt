@@ -1,4 +1,4 @@
--- Past the cheap test, the definition's four tests in its order. Assumes nothing.
+-- Past the cheap test, the definition's four tests in its order.
 use borrow.Author.Needs.{needs}
 use mathlib.Core.Path.{_≡_, sym, _∙_}
 use mathlib.Core.Bool.{false, _||_, _&&_}

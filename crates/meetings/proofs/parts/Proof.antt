@@ -1,4 +1,4 @@
--- By the sign of the first side. Assumes nothing.
+-- By the sign of the first side.
 use borrow.Author.Needs.{needs}
 use mathlib.Core.Path.{_≡_, sym, ap, _∙_}
 use lib.IntN.{pos}

@@ -1,4 +1,4 @@
--- The link is read, its bit cleared, and its bits written back. Assumes nothing.
+-- The link is read, its bit cleared, and its bits written back.
 use borrow.Author.Needs.{needs}
 use mathlib.Core.Path.{ap, _∙_}
 use mathlib.Core.List.{List}

@@ -1,7 +1,7 @@
 -- `moves::visit_at` meets its contract: a walk of its MIR, by hand.
 -- The place of element k is computed, the borrow is opened, the element is taken out of the row and copied, and `visit` is called with it.
 -- What `visit` returns is stored in the element's place, and the borrow is closed at the list with it.
--- All that the proof knows of `visit` is that it meets its contract. Assumes nothing.
+-- All that the proof knows of `visit` is that it meets its contract.
 use mathlib.Core.Path.{_≡_, refl, sym, ap, subst}
 use mathlib.Core.Bool.{Bool, true}
 use Prim.Native.Nat.{ℕ, _<_, _^_, _*_}

@@ -1,7 +1,7 @@
 -- `moves::visit_lent` meets its contract: a walk of its MIR, by hand.
 -- The link is stored in an array of one, and the array's element is lent as a slice to `visit_at`, for a lifetime that is made for the call.
 -- It comes back as `visit_at` left it, is read, and is the result. The array is then one value again, to be freed.
--- All that the proof knows of `visit_at` is that it meets its contract. Assumes nothing.
+-- All that the proof knows of `visit_at` is that it meets its contract.
 use mathlib.Core.Path.{_≡_, refl}
 use mathlib.Core.Bool.{Bool, true}
 use mathlib.Core.List.{[], _∷_, List}

@@ -1,4 +1,4 @@
--- At either end of the list nothing is asked; between, the test of neighbours. Assumes nothing.
+-- At either end of the list nothing is asked; between, the test of neighbours.
 use borrow.Author.Needs.{needs}
 use mathlib.Core.Path.{_≡_, refl, sym, subst}
 use native.Mathlib.Omega.{arith}

@@ -1,4 +1,4 @@
--- As many segments as were passed have entered the list. Assumes nothing.
+-- As many segments as were passed have entered the list.
 use borrow.Author.Needs.{needs}
 use borrow.Author.Tests.{not-false, not-true}
 use mathlib.Core.Path.{_≡_, refl, subst}

@@ -1,4 +1,4 @@
--- A vertical segment does not enter; another one goes to a place where it may stand. Assumes nothing.
+-- A vertical segment does not enter; another one goes to a place where it may stand.
 use borrow.Author.Needs.{needs}
 use borrow.Author.Tests.{not-false, not-true}
 use mathlib.Core.Path.{_≡_, refl, sym, ap, subst, _∙_}

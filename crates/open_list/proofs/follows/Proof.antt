@@ -1,4 +1,4 @@
--- By the order of the starts. Assumes nothing.
+-- By the order of the starts.
 use borrow.Author.Needs.{needs}
 use mathlib.Core.Path.{_≡_, sym, ap, _∙_}
 use mathlib.Core.Bool.{not}

@@ -1,4 +1,4 @@
--- Of the two segments at these places. Assumes nothing.
+-- Of the two segments at these places.
 use mathlib.Core.Path.{_≡_, sym, subst}
 use mathlib.Core.Logic.{_↔_}
 use mathlib.Core.Bool.{true}

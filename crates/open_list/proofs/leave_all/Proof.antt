@@ -1,4 +1,4 @@
--- As many ends as were passed are gone from the list. Assumes nothing.
+-- As many ends as were passed are gone from the list.
 use borrow.Author.Needs.{needs}
 use borrow.Author.Tests.{not-false, not-true}
 use mathlib.Core.Path.{_≡_, refl, sym, ap, subst, _∙_}

@@ -1,4 +1,4 @@
--- At a start and at the end of a vertical segment nothing leaves; at another end its segment is taken out. Assumes nothing.
+-- At a start and at the end of a vertical segment nothing leaves; at another end its segment is taken out.
 use borrow.Author.Needs.{needs}
 use mathlib.Core.Path.{_≡_, refl, sym, ap, subst, _∙_}
 use mathlib.Core.List.{[], _∷_}

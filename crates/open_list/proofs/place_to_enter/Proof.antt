@@ -1,4 +1,4 @@
--- What was tested of the place. Assumes nothing.
+-- What was tested of the place.
 use borrow.Author.Needs.{needs}
 use mathlib.Core.Path.{refl, sym, subst}
 use lib.ListN.{length}

@@ -1,4 +1,4 @@
--- The place by search is the segment's own, if it is in a list that spans one strip. Assumes nothing.
+-- The place by search is the segment's own, if it is in a list that spans one strip.
 use borrow.Author.Needs.{needs}
 use Prim.Native.Nat.{_-_}
 use mathlib.Core.Path.{sym, subst}

@@ -1,4 +1,4 @@
--- Nothing is asked at the front; after it, the test of neighbours. Assumes nothing.
+-- Nothing is asked at the front; after it, the test of neighbours.
 use borrow.Author.Needs.{needs}
 use mathlib.Core.Path.{_≡_, refl, subst}
 use native.Mathlib.Omega.{arith}

@@ -1,4 +1,4 @@
--- The place by bisection is the segment's own, or the answer is unclear; what is beside it must close. Assumes nothing.
+-- The place by bisection is the segment's own, or the answer is unclear; what is beside it must close.
 use borrow.Author.Needs.{needs}
 use mathlib.Core.Path.{_≡_, refl, sym, subst, _∙_}
 use mathlib.Core.List.{[], _∷_}

@@ -1,4 +1,4 @@
--- What `clip` answered decides the arm. Assumes nothing.
+-- What `clip` answered decides the arm.
 use borrow.Author.Needs.{needs}
 use mathlib.Core.Path.{_≡_, sym, ap, _∙_}
 use mir.Facts.{toZ-ofZ}

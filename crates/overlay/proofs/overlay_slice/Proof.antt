@@ -1,4 +1,4 @@
--- What `slice` answered decides the arm. Assumes nothing.
+-- What `slice` answered decides the arm.
 use borrow.Author.Needs.{needs}
 use mathlib.Core.Path.{_≡_, sym, ap, _∙_}
 use mir.Facts.{toZ-ofZ}

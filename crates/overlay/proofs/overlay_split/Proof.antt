@@ -1,4 +1,4 @@
--- What `split` answered decides the arm. Assumes nothing.
+-- What `split` answered decides the arm.
 use borrow.Author.Needs.{needs}
 use mathlib.Core.Path.{_≡_, sym, ap, _∙_}
 use Rattle.string_split.specs.declared.Loops.{Loops}

@@ -1,4 +1,4 @@
--- Each return rewrites the definition by the flags that led there. Assumes nothing.
+-- Each return rewrites the definition by the flags that led there.
 use borrow.Author.Needs.{needs}
 use Rattle.refusal.specs.Asked.{askedFirst}
 use Rattle.refusal.proofs.asked_first.Statement.{statement}

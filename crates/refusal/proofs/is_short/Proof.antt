@@ -1,4 +1,4 @@
--- A quotient below n is a number below the product. Assumes nothing.
+-- A quotient below n is a number below the product.
 use borrow.Author.Tests.{ltb-true, lt-ltb}
 use native.Mathlib.Nat.{div-lt-iff-lt-mul, mul-comm}
 use Prim.Native.Nat.{_*_, _/_}

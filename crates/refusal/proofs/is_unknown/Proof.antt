@@ -1,4 +1,4 @@
--- The choice is not within its limits. Assumes nothing.
+-- The choice is not within its limits.
 use mathlib.Core.Path.{ap, ap₂, _∙_}
 use mathlib.Core.Bool.{not}
 use lib.IntN.{pos}

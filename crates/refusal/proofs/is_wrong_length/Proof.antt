@@ -1,4 +1,4 @@
--- The two tests are the definition's. Assumes nothing.
+-- The two tests are the definition's.
 use borrow.Author.Needs.{needs}
 use Rattle.refusal.specs.Asked.{wrongLength}
 use Rattle.refusal.proofs.is_wrong_length.Statement.{statement}

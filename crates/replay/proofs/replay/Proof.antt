@@ -1,4 +1,4 @@
--- A byte read is one of the text's. Assumes nothing.
+-- A byte read is one of the text's.
 use borrow.Author.Needs.{needs}
 use mathlib.Core.Path.{_≡_}
 use Prim.Native.Nat.{_-_}

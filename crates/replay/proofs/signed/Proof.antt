@@ -1,4 +1,4 @@
--- What is below the half can be negated. Assumes nothing.
+-- What is below the half can be negated.
 use borrow.Author.Needs.{needs}
 use Prim.Native.Nat.{ℕ, _≤_}
 use native.Mathlib.Omega.{arith}

@@ -1,4 +1,4 @@
--- From place j on the entries have moved up, in whole blocks; between them and the first j is one that is written over next. Assumes nothing.
+-- From place j on the entries have moved up, in whole blocks; between them and the first j is one that is written over next.
 use borrow.Author.Needs.{needs}
 use mathlib.Core.Path.{_≡_, refl, sym, ap, _∙_}
 use mathlib.Core.List.{List}

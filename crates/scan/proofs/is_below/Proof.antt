@@ -1,4 +1,4 @@
--- What is sought decides the test. Assumes nothing.
+-- What is sought decides the test.
 use borrow.Author.Needs.{needs}
 use mathlib.Core.Path.{sym, subst, ap, _∙_}
 use lib.IntN.{pos}

@@ -1,4 +1,4 @@
--- By the order of the starts. Assumes nothing.
+-- By the order of the starts.
 use borrow.Author.Needs.{needs}
 use mathlib.Core.Path.{sym, ap, _∙_}
 use lib.IntN.{pos}

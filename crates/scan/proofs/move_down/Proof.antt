@@ -1,4 +1,4 @@
--- Those still to move lead to what is told. Assumes nothing.
+-- Those still to move lead to what is told.
 use borrow.Author.Needs.{needs}
 use mathlib.Core.Path.{_≡_, refl, sym, ap, _∙_}
 use native.Mathlib.Omega.{arith}

@@ -1,4 +1,4 @@
--- What is before low is below, what is from high on is above, and they come together. Assumes nothing.
+-- What is before low is below, what is from high on is above, and they come together.
 use borrow.Author.Needs.{needs}
 use mathlib.Core.Path.{_≡_, sym, ap, _∙_}
 use mathlib.Core.Bool.{Bool, true, false}

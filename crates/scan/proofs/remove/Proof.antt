@@ -1,4 +1,4 @@
--- Up to place j the entries have moved down, in whole blocks, and from j on they are as they were. Assumes nothing.
+-- Up to place j the entries have moved down, in whole blocks, and from j on they are as they were.
 use borrow.Author.Needs.{needs}
 use mathlib.Core.Path.{_≡_, refl, ap, _∙_}
 use mathlib.Core.List.{List}

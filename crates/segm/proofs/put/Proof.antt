@@ -1,4 +1,4 @@
--- Six stores in a row. Assumes nothing.
+-- Six stores in a row.
 use borrow.Author.Needs.{needs}
 use native.Mathlib.Omega.{arith}
 use Prim.Native.Nat.{_*_}

@@ -1,4 +1,4 @@
--- Past the last segment there are zeros. Assumes nothing.
+-- Past the last segment there are zeros.
 use borrow.Author.Needs.{needs}
 use mathlib.Core.Path.{sym}
 use native.Mathlib.Omega.{arith}

@@ -1,4 +1,4 @@
--- The six numbers are those at the front of what is left after i segments. Assumes nothing.
+-- The six numbers are those at the front of what is left after i segments.
 use borrow.Author.Needs.{needs}
 use native.Mathlib.Omega.{arith}
 use Prim.Native.Nat.{_+_, _*_, _/_, _<_}

@@ -1,4 +1,4 @@
--- The contours of the walks passed are written, and each walk's come after them. Assumes nothing.
+-- The contours of the walks passed are written, and each walk's come after them.
 use borrow.Author.Needs.{needs}
 use mathlib.Core.Path.{_≡_, refl, sym, _∙_, ap, subst}
 use mathlib.Core.List.{List, [], flatten}

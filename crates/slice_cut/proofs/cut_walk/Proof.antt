@@ -1,4 +1,4 @@
--- The loops are written, read back and made contours. Assumes nothing.
+-- The loops are written, read back and made contours.
 use borrow.Author.Needs.{needs}
 use mathlib.Core.Path.{_≡_, ap}
 use mathlib.Core.List.{List}

@@ -1,4 +1,4 @@
--- Memory for the walks of a small drawing or of any. Assumes nothing.
+-- Memory for the walks of a small drawing or of any.
 use borrow.Author.Needs.{needs}
 use native.Mathlib.Omega.{arith}
 use Rattle.lists.specs.Sums.{tally}

@@ -1,4 +1,4 @@
--- The loops passed are contours, and those to come are as they were. Assumes nothing.
+-- The loops passed are contours, and those to come are as they were.
 use borrow.Author.Needs.{needs}
 use mathlib.Core.Path.{_≡_, refl, sym, _∙_, ap, subst}
 use mathlib.Core.List.{List, [], map, flatten}

@@ -1,4 +1,4 @@
--- The moves made and those to come are the walk. Assumes nothing.
+-- The moves made and those to come are the walk.
 use borrow.Author.Needs.{needs}
 use mathlib.Core.Path.{_≡_, refl, sym, ap, ap₂, subst, _∙_}
 use mathlib.Core.List.{List}

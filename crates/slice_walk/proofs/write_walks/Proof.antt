@@ -1,4 +1,4 @@
--- Walks written and walks to come are all walks. Assumes nothing.
+-- Walks written and walks to come are all walks.
 use borrow.Author.Needs.{needs}
 use mathlib.Core.Path.{_≡_, refl, sym, subst, _∙_}
 use mathlib.Core.List.{List}

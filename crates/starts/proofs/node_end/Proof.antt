@@ -1,4 +1,4 @@
--- All up to the place to which the loop has come start at the first one's point. Assumes nothing.
+-- All up to the place to which the loop has come start at the first one's point.
 use borrow.Author.Needs.{needs}
 use borrow.Author.Tests.{not-true, not-false}
 use mathlib.Core.Path.{_≡_, refl, sym, ap, ap₂, subst, _∙_}

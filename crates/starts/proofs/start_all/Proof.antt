@@ -1,4 +1,4 @@
--- As many nodes as were passed. Assumes nothing.
+-- As many nodes as were passed.
 use borrow.Author.Needs.{needs}
 use borrow.Author.Tests.{not-true, not-false}
 use mathlib.Core.Path.{_≡_, refl, subst}

@@ -1,4 +1,4 @@
--- What enters, what is counted up and what stands. Assumes nothing.
+-- What enters, what is counted up and what stands.
 use borrow.Author.Needs.{needs}
 use borrow.Author.Tests.{not-true, not-false}
 use mathlib.Core.Path.{_≡_, refl, sym}

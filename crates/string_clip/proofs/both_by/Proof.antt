@@ -1,4 +1,4 @@
--- No list is too short, so that the outside run has the verdict of the inside run. Assumes nothing.
+-- No list is too short, so that the outside run has the verdict of the inside run.
 use borrow.Author.Needs.{needs}
 use mathlib.Core.Path.{_≡_, sym, _∙_}
 use mathlib.Core.List.{List}

@@ -1,4 +1,4 @@
--- Two runs that are as defined, made at once or one after the other. Assumes nothing.
+-- Two runs that are as defined, made at once or one after the other.
 use borrow.Author.Needs.{needs}
 use mir.Facts.{toZ-ofZ}
 use Rattle.integers.proofs.Booleans.{both-l, both-r}

@@ -1,4 +1,4 @@
--- The links are walked by the line bits at the front of working memory. Assumes nothing.
+-- The links are walked by the line bits at the front of working memory.
 use borrow.Author.Needs.{needs}
 use mathlib.Core.Path.{_≡_, sym, ap, subst, _∙_}
 use mathlib.Core.List.{List}

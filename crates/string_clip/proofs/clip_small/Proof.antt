@@ -1,4 +1,4 @@
--- Memory of its size is enough for a small drawing. Assumes nothing.
+-- Memory of its size is enough for a small drawing.
 use borrow.Author.Needs.{needs}
 use native.Mathlib.Omega.{arith}
 use mir.Facts.{toZ-ofZ}

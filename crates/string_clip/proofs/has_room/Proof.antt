@@ -1,4 +1,4 @@
--- Neither list is too short. Assumes nothing.
+-- Neither list is too short.
 use borrow.Author.Needs.{needs}
 use mathlib.Core.Path.{_≡_, refl, sym, ap, _∙_}
 use mathlib.Core.Bool.{Bool, true, false, not, _||_, true≢false}

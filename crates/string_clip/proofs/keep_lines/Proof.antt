@@ -1,4 +1,4 @@
--- The kept line bits are written to the front of the list. Assumes nothing.
+-- The kept line bits are written to the front of the list.
 use borrow.Author.Needs.{needs}
 use mathlib.Core.Path.{_≡_, sym, ap, _∙_}
 use mathlib.Core.List.{List, _++_}

@@ -1,4 +1,4 @@
--- What is asked first, then a small drawing, or any. Assumes nothing.
+-- What is asked first, then a small drawing, or any.
 use borrow.Author.Needs.{needs}
 use native.Mathlib.Omega.{arith}
 use mir.Facts.{toZ-ofZ}

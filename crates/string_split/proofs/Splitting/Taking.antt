@@ -1,4 +1,4 @@
--- The points taken and those to come: what the loops found and the buffer are after some points. Assumes nothing.
+-- The points taken and those to come: what the loops found and the buffer are after some points.
 use mathlib.Core.Path.{_≡_, refl, sym, ap, subst, _∙_}
 use mathlib.Core.List.{List, [], _∷_, _++_, flatten, append-assoc, append-nil}
 use mathlib.Core.Bool.{true}

@@ -1,4 +1,4 @@
--- Each return is the definition's, by the tests that led there. Assumes nothing.
+-- Each return is the definition's, by the tests that led there.
 use borrow.Author.Needs.{needs}
 use mathlib.Core.Path.{_≡_, sym, ap₂, _∙_}
 use mathlib.Core.List.{List, [], _∷_}

@@ -1,4 +1,4 @@
--- What is left decides. Assumes nothing.
+-- What is left decides.
 use borrow.Author.Needs.{needs}
 use borrow.Author.Tests.{not-true, not-false}
 use mathlib.Core.Path.{_≡_, sym, ap, _∙_}

@@ -1,4 +1,4 @@
--- The verdict decides; the loops are found in memory for few points or for any. Assumes nothing.
+-- The verdict decides; the loops are found in memory for few points or for any.
 use borrow.Author.Needs.{needs}
 use mathlib.Core.Path.{_≡_, sym, ap, _∙_}
 use mathlib.Core.List.{List}

@@ -1,4 +1,4 @@
--- A text cut at a byte, and joined by it again. Assumes nothing.
+-- A text cut at a byte, and joined by it again.
 use mathlib.Core.Path.{_≡_, refl, sym, _∙_, ap}
 use mathlib.Core.Bool.{Bool, true, false, cond}
 use mathlib.Core.List.{List, [], _∷_, _++_}

@@ -1,4 +1,4 @@
--- The lines decide: nothing is stored until each was read once. Assumes nothing.
+-- The lines decide: nothing is stored until each was read once.
 use mathlib.Core.Path.{_≡_, refl, sym, ap, _∙_}
 use mathlib.Core.List.{List, [], _∷_, _++_}
 use mathlib.Core.Option.{Option, some}

@@ -1,4 +1,4 @@
--- The top count less the winding is the bottom count, and fits. Assumes nothing.
+-- The top count less the winding is the bottom count, and fits.
 use borrow.Author.Needs.{needs}
 use mathlib.Core.Path.{_≡_, refl, sym, ap, ap₂, subst, _∙_}
 use lib.Dec.{lit<}

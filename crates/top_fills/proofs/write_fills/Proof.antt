@@ -1,4 +1,4 @@
--- What is written so far are the fills of the segments passed. Assumes nothing.
+-- What is written so far are the fills of the segments passed.
 use borrow.Author.Needs.{needs}
 use mathlib.Core.Path.{_≡_, refl, ap, ap₂, _∙_}
 use mathlib.Core.List.{List, map}

@@ -1,4 +1,4 @@
--- There are n numbers. Assumes nothing.
+-- There are n numbers.
 use borrow.Author.Needs.{needs}
 use mathlib.Core.Path.{sym}
 use lib.Seq.{length-take-le}

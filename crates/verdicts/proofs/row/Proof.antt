@@ -1,4 +1,4 @@
--- The places written are those of a list of 1,025 segments. Assumes nothing.
+-- The places written are those of a list of 1,025 segments.
 use borrow.Author.Needs.{needs}
 use mathlib.Core.Path.{_≡_}
 use native.Mathlib.Omega.{arith}

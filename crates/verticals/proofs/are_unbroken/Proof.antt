@@ -1,4 +1,4 @@
--- Those passed so far are unbroken. Assumes nothing.
+-- Those passed so far are unbroken.
 use borrow.Author.Needs.{needs}
 use native.Mathlib.Omega.{arith}
 use borrow.Author.Tests.{not-true, not-false}

@@ -1,4 +1,4 @@
--- The guess is tried, then the place of v's head. Assumes nothing.
+-- The guess is tried, then the place of v's head.
 use borrow.Author.Needs.{needs}
 use mathlib.Core.Path.{refl}
 use Rattle.segm.specs.Segments.{segments}

@@ -1,4 +1,4 @@
--- Where there is one before the place and one at it, the tests decide. Assumes nothing.
+-- Where there is one before the place and one at it, the tests decide.
 use borrow.Author.Needs.{needs}
 use borrow.Author.Tests.{not-false, not-true}
 use mathlib.Core.Path.{_≡_, refl, sym, _∙_}

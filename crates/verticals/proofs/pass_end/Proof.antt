@@ -1,4 +1,4 @@
--- The height of the end beside foot and top; where a vertical segment starts, beside the top. Assumes nothing.
+-- The height of the end beside foot and top; where a vertical segment starts, beside the top.
 use borrow.Author.Needs.{needs}
 use borrow.Author.Tests.{not-true}
 use mathlib.Core.Path.{_≡_, refl, sym, ap, ap₂, _∙_}

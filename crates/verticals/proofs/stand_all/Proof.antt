@@ -1,4 +1,4 @@
--- Those from the first place up to i stand in gaps and have their counts. Assumes nothing.
+-- Those from the first place up to i stand in gaps and have their counts.
 use borrow.Author.Needs.{needs}
 use borrow.Author.Tests.{not-true, not-false}
 use mathlib.Core.Path.{_≡_, refl, sym, ap, subst, _∙_}

@@ -1,4 +1,4 @@
--- The one below the gap has its count. Assumes nothing.
+-- The one below the gap has its count.
 use borrow.Author.Needs.{needs}
 use mathlib.Core.Path.{refl, sym, ap, subst}
 use native.Mathlib.Omega.{arith}

@@ -1,4 +1,4 @@
--- The digits passed are counted. Assumes nothing.
+-- The digits passed are counted.
 use borrow.Author.Needs.{needs}
 use mathlib.Core.Path.{_≡_, refl}
 use Prim.Native.Nat.{ℕ, suc, _+_, _/_, _^_, _<_}

@@ -1,4 +1,4 @@
--- The numbers passed are counted, each with the byte after it. Assumes nothing.
+-- The numbers passed are counted, each with the byte after it.
 use borrow.Author.Needs.{needs}
 use mathlib.Core.Path.{_≡_, refl, sym, ap, _∙_}
 use Prim.Native.Nat.{suc, _+_, _-_, _^_, _<_}

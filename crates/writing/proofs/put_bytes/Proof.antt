@@ -1,4 +1,4 @@
--- The bytes passed are put. Assumes nothing.
+-- The bytes passed are put.
 use borrow.Author.Needs.{needs}
 use mathlib.Core.Path.{_≡_, refl, _∙_}
 use mathlib.Core.List.{List, [], _∷_}

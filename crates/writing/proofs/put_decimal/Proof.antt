@@ -1,4 +1,4 @@
--- The digits passed stand behind those that are left. Assumes nothing.
+-- The digits passed stand behind those that are left.
 use borrow.Author.Needs.{needs}
 use mathlib.Core.Path.{_≡_, refl, sym, ap, _∙_}
 use mathlib.Core.List.{List, [], _∷_}

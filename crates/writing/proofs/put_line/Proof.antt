@@ -1,4 +1,4 @@
--- The numbers passed are put. Assumes nothing.
+-- The numbers passed are put.
 use borrow.Author.Needs.{needs}
 use mathlib.Core.Path.{_≡_, refl, sym, ap, _∙_}
 use mathlib.Core.List.{List, [], _∷_, _++_, map, append-nil}

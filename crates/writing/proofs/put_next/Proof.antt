@@ -1,4 +1,4 @@
--- A comma, then the number. Assumes nothing.
+-- A comma, then the number.
 use borrow.Author.Needs.{needs}
 use Rattle.writing.proofs.Puts.{put-then}
 use Rattle.writing.proofs.put_next.Statement.{statement}

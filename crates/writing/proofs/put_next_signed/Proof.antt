@@ -1,4 +1,4 @@
--- A comma, then the number. Assumes nothing.
+-- A comma, then the number.
 use borrow.Author.Needs.{needs}
 use mathlib.Core.Path.{_≡_, ap}
 use native.Mathlib.Omega.{arith}

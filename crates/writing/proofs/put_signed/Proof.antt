@@ -1,4 +1,4 @@
--- The sign, then the distance from 0. Assumes nothing.
+-- The sign, then the distance from 0.
 use borrow.Author.Needs.{needs}
 use mathlib.Core.Path.{_≡_, ap}
 use mathlib.Core.List.{_∷_}

@@ -1,4 +1,4 @@
--- The sign, and the digits of the distance from 0. Assumes nothing.
+-- The sign, and the digits of the distance from 0.
 use borrow.Author.Needs.{needs}
 use mathlib.Core.Path.{ap}
 use native.Mathlib.Omega.{arith}

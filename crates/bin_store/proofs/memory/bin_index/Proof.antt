@@ -1,4 +1,4 @@
--- Each coordinate is within ±16,777,216, so the sum is within 0 .. 2 · 805,306,368. Assumes nothing.
+-- Each coordinate is within ±16,777,216, so the sum is within 0 .. 2 · 805,306,368.
 use borrow.Author.Needs.{needs}
 use mathlib.Core.Path.{ap}
 use native.Mathlib.Omega.{arith}

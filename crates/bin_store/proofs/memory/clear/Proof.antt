@@ -1,4 +1,4 @@
--- Each bin that was passed is empty. Assumes nothing.
+-- Each bin that was passed is empty.
 use borrow.Author.Needs.{needs}
 use mathlib.Core.Path.{_≡_, _∙_, ap}
 use mathlib.Core.List.{List}

@@ -1,4 +1,4 @@
--- Every item that holds p is ahead along the links, which go down. Assumes nothing.
+-- Every item that holds p is ahead along the links, which go down.
 use borrow.Author.Needs.{needs}
 use mathlib.Core.Path.{_≡_, sym, _∙_, ap}
 use Prim.Native.Nat.{_<_, _≤_, _-_}

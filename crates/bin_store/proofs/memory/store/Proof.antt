@@ -1,4 +1,4 @@
--- The bin's old head is linked behind the item, which is its new head. Assumes nothing.
+-- The bin's old head is linked behind the item, which is its new head.
 use borrow.Author.Needs.{needs}
 use Prim.Native.Nat.{_<_}
 use native.Mathlib.Omega.{arith}

@@ -1,4 +1,4 @@
--- A point that was sighted has its number, and another is stored. Of the heads those of the bins in use are lent. Assumes nothing.
+-- A point that was sighted has its number, and another is stored. Of the heads those of the bins in use are lent.
 use borrow.Author.Needs.{needs}
 use mathlib.Core.Path.{_≡_, refl, sym, _∙_, ap, subst}
 use mathlib.Core.List.{List, [], _∷_, _++_}

@@ -1,5 +1,5 @@
 -- `insert_if_not_exist` meets its contract: a walk of its MIR, by hand. The borrow is opened, the memory is copied out and `insert` is called with it, the memory that it returns is stored in its place, and the borrow is closed at that.
--- The lists go to `insert` at their own lifetimes and names, for good: what it says of them is what is said at exit. All that the proof knows of `insert` is that it meets its contract. Assumes nothing.
+-- The lists go to `insert` at their own lifetimes and names, for good: what it says of them is what is said at exit. All that the proof knows of `insert` is that it meets its contract.
 use mathlib.Core.Path.{refl, ap}
 use mathlib.Core.List.{[], _∷_}
 use Prim.Native.Nat.{ℕ, _<_, _^_}

@@ -1,5 +1,5 @@
 -- `sight_point` meets its contract: a walk of its MIR, by hand. The memory is made in a local, lent to `insert_if_not_exist` for a lifetime that is made for the call, and comes back at the value that it left.
--- The lists go on at their own lifetimes and names, for good: what is said of them then is what is said at exit. All that the proof knows of `insert_if_not_exist` is that it meets its contract. Assumes nothing.
+-- The lists go on at their own lifetimes and names, for good: what is said of them then is what is said at exit. All that the proof knows of `insert_if_not_exist` is that it meets its contract.
 use mathlib.Core.Path.{_≡_, refl, sym, ap, subst}
 use mathlib.Core.Bool.{true}
 use mathlib.Core.List.{[], _∷_, List}

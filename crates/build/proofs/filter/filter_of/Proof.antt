@@ -1,4 +1,4 @@
--- The choices' tests decide the arm. Assumes nothing.
+-- The choices' tests decide the arm.
 use mathlib.Core.Path.{sym}
 use lib.Dec.{lit<}
 use Rattle.build.specs.Links.{filterOf}

@@ -1,4 +1,4 @@
--- The ones of the masked fill are its sides set. Assumes nothing.
+-- The ones of the masked fill are its sides set.
 use borrow.Author.Needs.{needs}
 use mathlib.Core.Path.{ap, _∙_}
 use mathlib.Core.Bool.{Bool, not, _&&_}

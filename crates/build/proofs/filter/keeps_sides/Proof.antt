@@ -1,4 +1,4 @@
--- The filter decides the arm, and each arm is the definition's test. Assumes nothing.
+-- The filter decides the arm, and each arm is the definition's test.
 use borrow.Author.Needs.{needs}
 use mathlib.Core.Path.{_≡_, sym, ap}
 use Prim.Native.Nat.{ℕ}

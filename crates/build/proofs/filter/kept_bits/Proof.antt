@@ -1,4 +1,4 @@
--- The test decides. Assumes nothing.
+-- The test decides.
 use borrow.Author.Needs.{needs}
 use mathlib.Core.Path.{_≡_, sym, ap, _∙_}
 use mathlib.Core.Bool.{Bool, cond}

@@ -1,4 +1,4 @@
--- What is written so far are the line bits of the segments passed, each by its own fill. Assumes nothing.
+-- What is written so far are the line bits of the segments passed, each by its own fill.
 use borrow.Author.Needs.{needs}
 use mathlib.Core.Path.{_≡_, refl, sym, ap, ap₂, _∙_}
 use mathlib.Core.List.{List, map, map-map}

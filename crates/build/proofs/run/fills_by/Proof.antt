@@ -1,4 +1,4 @@
--- The verdict decides the arm. Assumes nothing.
+-- The verdict decides the arm.
 use borrow.Author.Needs.{needs}
 use mathlib.Core.Path.{_≡_, refl, sym, ap, ap₂, _∙_}
 use mathlib.Core.List.{List}

@@ -1,4 +1,4 @@
--- The first end, or the nearer one of two. Assumes nothing.
+-- The first end, or the nearer one of two.
 use borrow.Author.Needs.{needs}
 use mathlib.Core.Path.{_≡_, sym, ap, ap₂, subst, _∙_}
 use mathlib.Core.Bool.{Bool, true, false, cond}

@@ -1,4 +1,4 @@
--- By the link's other end. Assumes nothing.
+-- By the link's other end.
 use borrow.Author.Needs.{needs}
 use mathlib.Core.Path.{_≡_, sym, _∙_, ap}
 use native.Mathlib.Omega.{arith}

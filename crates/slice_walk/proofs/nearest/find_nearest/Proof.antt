@@ -1,4 +1,4 @@
--- The nearest other end, or the current link's own if that can be left. Assumes nothing.
+-- The nearest other end, or the current link's own if that can be left.
 use borrow.Author.Needs.{needs}
 use mathlib.Core.Path.{_≡_, sym, ap, subst, _∙_}
 use mathlib.Core.Bool.{Bool, true, false}

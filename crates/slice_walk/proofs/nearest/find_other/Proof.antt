@@ -1,4 +1,4 @@
--- The best end so far and the rest of the part decide. Assumes nothing.
+-- The best end so far and the rest of the part decide.
 use borrow.Author.Needs.{needs}
 use mathlib.Core.Path.{_≡_, sym, ap, ap₂, subst, _∙_}
 use mathlib.Core.List.{List, [], _∷_}

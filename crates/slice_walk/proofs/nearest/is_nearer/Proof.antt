@@ -1,4 +1,4 @@
--- On one side the nearer one by the cross product, otherwise the one that is not on the far side. Assumes nothing.
+-- On one side the nearer one by the cross product, otherwise the one that is not on the far side.
 use borrow.Author.Needs.{needs}
 use borrow.Author.Tests.{not-true, not-false}
 use mathlib.Core.Path.{_≡_, sym, _∙_, ap, ap₂}

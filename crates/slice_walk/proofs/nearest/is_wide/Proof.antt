@@ -1,4 +1,4 @@
--- By the sign of the cross product. Assumes nothing.
+-- By the sign of the cross product.
 use borrow.Author.Needs.{needs}
 use mathlib.Core.Path.{_≡_, sym, _∙_, ap}
 use lib.IntN.{pos}

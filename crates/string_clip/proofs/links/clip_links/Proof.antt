@@ -1,4 +1,4 @@
--- One point more than steps in each path, and the travel by the line bits before the walk. Assumes nothing.
+-- One point more than steps in each path, and the travel by the line bits before the walk.
 use borrow.Author.Needs.{needs}
 use mathlib.Core.Path.{_≡_, sym, ap, _∙_}
 use mathlib.Core.List.{List, flatten}

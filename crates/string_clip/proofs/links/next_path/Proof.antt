@@ -1,4 +1,4 @@
--- The first move's bit is cleared, the walk follows, and its points are written. Assumes nothing.
+-- The first move's bit is cleared, the walk follows, and its points are written.
 use borrow.Author.Needs.{needs}
 use mathlib.Core.Path.{_≡_, sym, ap, _∙_}
 use mathlib.Core.List.{List, _∷_}

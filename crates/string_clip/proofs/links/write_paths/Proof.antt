@@ -1,4 +1,4 @@
--- Paths written and paths to come are all paths. Assumes nothing.
+-- Paths written and paths to come are all paths.
 use borrow.Author.Needs.{needs}
 use mathlib.Core.Path.{_≡_, refl, sym, ap, ap₂, subst, _∙_}
 use mathlib.Core.List.{List, _++_, flatten}

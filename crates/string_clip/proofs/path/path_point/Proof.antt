@@ -1,4 +1,4 @@
--- Outward the points as they come, backward from the last to the first. Assumes nothing.
+-- Outward the points as they come, backward from the last to the first.
 use borrow.Author.Needs.{needs}
 use mathlib.Core.Path.{sym, ap, _∙_}
 use mathlib.Core.Bool.{Bool}

@@ -1,4 +1,4 @@
--- The first point is where the walk starts, each other one where a move ends. Assumes nothing.
+-- The first point is where the walk starts, each other one where a move ends.
 use borrow.Author.Needs.{needs}
 use mathlib.Core.Path.{_≡_, sym, ap, _∙_}
 use native.Mathlib.Omega.{arith}

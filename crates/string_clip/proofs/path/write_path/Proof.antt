@@ -1,4 +1,4 @@
--- The points passed are written. Assumes nothing.
+-- The points passed are written.
 use borrow.Author.Needs.{needs}
 use mathlib.Core.Path.{_≡_, refl, ap, ap₂, _∙_}
 use mathlib.Core.List.{List}

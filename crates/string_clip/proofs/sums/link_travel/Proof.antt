@@ -1,4 +1,4 @@
--- The product is that of the definition, so it is small. Assumes nothing.
+-- The product is that of the definition, so it is small.
 use borrow.Author.Needs.{needs}
 use mathlib.Core.Path.{_≡_, ap₂}
 use native.Mathlib.Omega.{arith}

@@ -1,4 +1,4 @@
--- The sum so far and the travel over the links to come are the whole. Assumes nothing.
+-- The sum so far and the travel over the links to come are the whole.
 use borrow.Author.Needs.{needs}
 use mathlib.Core.Path.{_≡_, ap, _∙_}
 use mathlib.Core.List.{List, []}

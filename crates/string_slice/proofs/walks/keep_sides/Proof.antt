@@ -1,4 +1,4 @@
--- The entries passed have their side bits left. Assumes nothing.
+-- The entries passed have their side bits left.
 use borrow.Author.Needs.{needs}
 use mathlib.Core.Path.{_≡_, refl, ap, _∙_}
 use mathlib.Core.List.{List, map}

@@ -1,4 +1,4 @@
--- A small drawing, or any. Assumes nothing.
+-- A small drawing, or any.
 use borrow.Author.Needs.{needs}
 use native.Mathlib.Omega.{arith}
 use mir.Facts.{toZ-ofZ}

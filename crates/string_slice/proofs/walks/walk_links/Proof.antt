@@ -1,4 +1,4 @@
--- The parts of the working memory that the links need are lent and come back. Assumes nothing.
+-- The parts of the working memory that the links need are lent and come back.
 use borrow.Author.Needs.{needs}
 use mathlib.Core.Path.{_≡_, sym, ap, subst, _∙_}
 use mathlib.Core.List.{List, _++_, map}

@@ -1,4 +1,4 @@
--- The drawing is checked in memory for any, and walked where it is accepted. Assumes nothing.
+-- The drawing is checked in memory for any, and walked where it is accepted.
 use borrow.Author.Needs.{needs}
 use native.Mathlib.Omega.{arith}
 use mir.Facts.{toZ-ofZ}

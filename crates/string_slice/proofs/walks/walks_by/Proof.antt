@@ -1,4 +1,4 @@
--- The verdict decides the arm, and where it is acceptance the walks do. Assumes nothing.
+-- The verdict decides the arm, and where it is acceptance the walks do.
 use borrow.Author.Needs.{needs}
 use mathlib.Core.Path.{_≡_, refl, sym, ap, subst, _∙_}
 use mathlib.Core.List.{List}

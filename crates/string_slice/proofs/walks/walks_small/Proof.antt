@@ -1,4 +1,4 @@
--- A small drawing is checked in memory for one, and walked where it is accepted. Assumes nothing.
+-- A small drawing is checked in memory for one, and walked where it is accepted.
 use borrow.Author.Needs.{needs}
 use Prim.Native.Nat.{_≤_}
 use native.Mathlib.Omega.{arith}

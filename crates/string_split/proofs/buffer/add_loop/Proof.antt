@@ -1,4 +1,4 @@
--- Written after those found if it is large enough. Assumes nothing.
+-- Written after those found if it is large enough.
 use borrow.Author.Needs.{needs}
 use borrow.Author.Tests.{not-true, not-false}
 use mathlib.Core.Path.{_≡_, sym, subst, _∙_}

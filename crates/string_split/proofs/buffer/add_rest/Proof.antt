@@ -1,4 +1,4 @@
--- By the test of its length. Assumes nothing.
+-- By the test of its length.
 use borrow.Author.Needs.{needs}
 use mathlib.Core.Path.{sym, subst}
 use mathlib.Core.List.{List}

@@ -1,4 +1,4 @@
--- The point is put after the buffer, so what is cut off and the point stand in one part. Assumes nothing.
+-- The point is put after the buffer, so what is cut off and the point stand in one part.
 use borrow.Author.Needs.{needs}
 use mathlib.Core.Path.{_≡_, sym, subst, ap, _∙_}
 use mathlib.Core.List.{List, [], _∷_, _++_}

@@ -1,4 +1,4 @@
--- The loops of the points taken, then the rest. Assumes nothing.
+-- The loops of the points taken, then the rest.
 use borrow.Author.Needs.{needs}
 use mathlib.Core.Path.{_≡_, sym, ap, subst, _∙_}
 use mathlib.Core.List.{List, [], _++_}

@@ -1,4 +1,4 @@
--- The points taken and those to come are all points. Assumes nothing.
+-- The points taken and those to come are all points.
 use borrow.Author.Needs.{needs}
 use mathlib.Core.Path.{_≡_, refl, sym, ap, subst, _∙_}
 use mathlib.Core.List.{List, []}

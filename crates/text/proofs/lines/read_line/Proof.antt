@@ -1,4 +1,4 @@
--- What is left of the line decides. Assumes nothing.
+-- What is left of the line decides.
 use mathlib.Core.Path.{_≡_, refl, sym, ap, _∙_}
 use mathlib.Core.List.{List, _∷_}
 use Prim.Native.Nat.{ℕ, _+_, _-_, _≤_}

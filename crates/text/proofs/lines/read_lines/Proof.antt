@@ -1,4 +1,4 @@
--- What is left of the text decides. Assumes nothing.
+-- What is left of the text decides.
 use mathlib.Core.Path.{_≡_, refl, sym, ap, _∙_}
 use mathlib.Core.List.{List, _∷_, flatten}
 use mathlib.Core.Option.{Option}

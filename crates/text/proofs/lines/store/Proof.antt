@@ -1,4 +1,4 @@
--- Past the end `set` changes nothing. Assumes nothing.
+-- Past the end `set` changes nothing.
 use borrow.Author.Needs.{needs}
 use mathlib.Core.Path.{sym}
 use lib.Seq.{set-out}
