@@ -8,7 +8,7 @@ use Rattle.lists.specs.Sums.{tally}
 use Rattle.geom.specs.declared.Point.{Point}
 use Rattle.contour.specs.Points.{pairUp, cut}
 use Rattle.contour.proofs.Points.Coordinates.{length-pairs}
-use Rattle.string_clip.specs.declared.Totals.{Totals}
+use Rattle.clip_paths.specs.declared.Totals.{Totals}
 use Rattle.string_clip.specs.declared.Clipped.{Clipped}
 use Rattle.string_clip.specs.declared.Clipped.the-variants.{Done, Refused}
 use Rattle.string_clip.specs.Run.{Outcome, output}

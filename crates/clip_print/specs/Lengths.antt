@@ -2,7 +2,7 @@
 use mathlib.Core.List.{List, [], _∷_}
 use Prim.Native.Nat.{ℕ, suc, _+_, _*_}
 use Rattle.geom.specs.declared.Point.{Point}
-use Rattle.string_clip.specs.declared.Totals.{Totals}
+use Rattle.clip_paths.specs.declared.Totals.{Totals}
 use Rattle.string_clip.specs.declared.Clipped.{Clipped}
 use Rattle.string_clip.specs.declared.Clipped.the-variants.{Done, Refused}
 use Rattle.string_clip.specs.Run.{Outcome, output}

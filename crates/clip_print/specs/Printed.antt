@@ -5,7 +5,7 @@ use lib.ListN.{length, take}
 use lib.IntN.{ℤ}
 use Rattle.lists.specs.Sums.{tally}
 use Rattle.geom.specs.declared.Point.{Point}
-use Rattle.string_clip.specs.declared.Totals.{Totals}
+use Rattle.clip_paths.specs.declared.Totals.{Totals}
 use Rattle.string_clip.specs.declared.Clipped.{Clipped}
 use Rattle.string_clip.specs.declared.Clipped.the-variants.{Done, Refused}
 use Rattle.string_clip.specs.Run.{Outcome, output}

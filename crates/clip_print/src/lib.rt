@@ -1,5 +1,5 @@
 // The printed lines of a clip run, put into a lent list of bytes.
-use string_clip::Totals;
+use clip_paths::Totals;
 use writing::put_byte;
 use writing::put_bytes;
 use writing::put_decimal;

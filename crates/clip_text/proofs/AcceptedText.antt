@@ -27,11 +27,10 @@ use Rattle.checks.proofs.Accepted.{accepted-input, accepted-good, accepted-run}
 use Rattle.fill_rule.specs.FillRule.{ruleOf}
 use Rattle.build.specs.Links.{filterOf}
 use Rattle.string_clip.specs.declared.Clipped.the-variants.{Done}
-use Rattle.string_clip.specs.Claim.{Room}
-use Rattle.string_clip.specs.Paths.{clipPaths}
-use Rattle.string_clip.specs.Run.{totals, Lists, lists, runOf}
+use Rattle.string_clip.specs.Run.{Room, Lists, lists, runOf}
+use Rattle.clip_paths.specs.Paths.{clipPaths, totals}
 use Rattle.string_clip.proofs.Run.ReadBack.{read-back}
-use Rattle.string_clip.proofs.Claim.Together.{accepted-outcome, room-long}
+use Rattle.string_clip.proofs.Run.Accepted.{accepted-outcome, room-long}
 use Rattle.text.specs.declared.Choices.{Choices}
 use Rattle.text.specs.Grammar.{Parsed, Drawn, parsed}
 use Rattle.text.specs.Writing.{choiceNumbers, writing}

@@ -25,9 +25,9 @@ use Rattle.moves.specs.Steps.{asDrawn, way, other, fitting}
 use Rattle.moves.specs.Moves.{remains, taken, takenAll, bitsRemaining, over}
 use Rattle.moves.specs.Begins.{firstRemaining, bothMoves, begins}
 use Rattle.clip_walk.specs.Walk.{goesOn, follow, pathFrom, pathsFrom, walk}
-use Rattle.string_clip.specs.Paths.{through, finished, pathPoints, clipPaths, stepsFrom, stepsOfPath, stepsOf, travelOf}
+use Rattle.clip_paths.specs.Paths.{through, finished, pathPoints, clipPaths, stepsFrom, stepsOfPath, stepsOf, travelOf, totals}
 use Rattle.contour.specs.Points.{coordinates, pairUp, cut}
-use Rattle.string_clip.specs.Run.{totals, clipOutcome, output}
+use Rattle.string_clip.specs.Run.{clipOutcome, output}
 use Rattle.decimal.specs.Decimal.{isDigit, worth, positive, fieldOf, digits, decimal, signed}
 use Rattle.text.specs.Grammar.{pieces, row, fieldsIn, rowsFrom, choicesOf, parsed}
 use Rattle.writing.specs.Lines.{joined, lineOf}

@@ -15,12 +15,13 @@ use Rattle.checks.specs.Runs.{verdict}
 use Rattle.fill_rule.specs.FillRule.{ruleOf}
 use Rattle.build.specs.Links.{filterOf}
 use Rattle.string_clip.specs.declared.Clipped.the-variants.{Refused}
-use Rattle.string_clip.specs.Paths.{clipPaths}
-use Rattle.string_clip.specs.Claim.{Tells}
-use Rattle.string_clip.specs.Run.{totals, Lists, runOf, writtenTo, Outcome, answered, clipOutcome}
+use Rattle.clip_paths.specs.Paths.{clipPaths, totals}
+use Rattle.clip_claim.specs.Claim.{Tells}
+use Rattle.string_clip.specs.Run.{Lists, runOf, writtenTo, Outcome, answered, clipOutcome}
 use Rattle.contour.specs.Points.{coordinates}
 use Rattle.contour.proofs.Points.Coordinates.{length-coordinates}
-use Rattle.string_clip.proofs.Claim.Together.{accepted-outcome, accepted-room, accepted-tells}
+use Rattle.string_clip.proofs.Run.Accepted.{accepted-outcome, accepted-room}
+use Rattle.clip_claim.proofs.Claim.Together.{accepted-tells}
 use Rattle.text.specs.Grammar.{Parsed, BadLine, Drawn, parsed}
 use Rattle.clip_print.specs.Printed.{Held}
 use Rattle.contour.proofs.Points.CutWritten.{tally-lengths}

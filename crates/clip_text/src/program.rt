@@ -1,5 +1,5 @@
 // The program's work: reads a text from what is open, and writes its answer to standard output. What is written is `answer`'s, in one call; no contract can say
-// what a call of C's reads or writes.
+// what a call of C's reads or writes. It assumes the contracts of C's `read` and `write`.
 use super::LONGEST;
 use super::answer;
 use libc::STDERR_FILENO;

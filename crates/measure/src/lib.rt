@@ -129,7 +129,7 @@ pub extern "C" fn measure_clip_both(
     ensures { λ r. ⌜ returnedBoth r (lists (now («inside_points» .exit)) (now («inside_lengths» .exit))) (lists (now («outside_points» .exit)) (now («outside_lengths» .exit)))
         ≡ bothNumbers (now (numbers .entry)) rule boundary (lists (now («inside_points» .entry)) (now («inside_lengths» .entry))) (lists (now («outside_points» .entry)) (now («outside_lengths» .entry))) ⌝ }
 {
-    let both = string_clip::clip_both(
+    let both = clip_both::clip_both(
         numbers,
         rule,
         boundary,

@@ -1,4 +1,5 @@
 // Runs the stored drawings and prints what came of each; the unchanged Rust's answers stand in the file stdout, to which this is held.
+// It assumes the contracts of C's `read` and `write`.
 // A line of standard input is one drawing, with commas between and LF at the end: `f`, for fills, and the rule; `c`, for clip, and the rule, invert and
 // boundary; or `s`, for slice, and the rule, output direction and minimum area; then the numbers of the segments. Or it is `l`, for the loops of a split, and
 // the minimum area; then two numbers a point.
@@ -6,10 +7,10 @@
 // the length of each path and x and y of each point; for slice the contours and points, then lengths, roles, x and y; for split the loops and points, then
 // lengths, x and y. A line of another letter, or with choices missing, is answered with an empty one.
 use build::Filled;
+use clip_paths::Totals;
 use libc::STDIN_FILENO;
 use libc::STDOUT_FILENO;
 use string_clip::Clipped;
-use string_clip::Totals;
 use string_slice::Contours;
 use string_slice::Sliced;
 use string_split::LoopTotals;

@@ -33,9 +33,9 @@ use Rattle.moves.specs.Steps.{asDrawn, way, other, fitting}
 use Rattle.moves.specs.Moves.{remains, taken, takenAll, bitsRemaining, over}
 use Rattle.moves.specs.Begins.{firstRemaining, bothMoves, begins}
 use Rattle.clip_walk.specs.Walk.{goesOn, follow, pathFrom, pathsFrom, walk}
-use Rattle.string_clip.specs.Paths.{through, finished, pathPoints, clipPaths, stepsFrom, stepsOfPath, stepsOf, travelOf}
+use Rattle.clip_paths.specs.Paths.{through, finished, pathPoints, clipPaths, stepsFrom, stepsOfPath, stepsOf, travelOf, totals}
 use Rattle.contour.specs.Points.{coordinates}
-use Rattle.string_clip.specs.Run.{totals, lists, Outcome, outcome, answered, clipOutcome}
+use Rattle.string_clip.specs.Run.{lists, Outcome, outcome, answered, clipOutcome}
 
 -- under nonzero, with no check
 abbrev clip : (invert boundary : ℤ) → List ℤ → List ℤ → List ℕ → Outcome

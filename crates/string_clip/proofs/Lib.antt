@@ -1,5 +1,3 @@
 pub mod Cases
-pub mod Paths
+pub mod Memory
 pub mod Run
-pub mod Claim
-pub mod Writing

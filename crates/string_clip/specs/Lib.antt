@@ -1,4 +1,2 @@
-pub mod Paths
 pub mod Run
-pub mod Claim
-pub mod Writing
+pub mod Memory

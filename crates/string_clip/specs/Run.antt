@@ -1,10 +1,9 @@
 -- A clip run: what it answers, what it writes to its lent lists, and how its output is read from them. The contracts of `string_clip` cite these.
 use mathlib.Core.List.{List, map, flatten}
-use Prim.Native.Nat.{ℕ}
+use Prim.Native.Nat.{ℕ, _*_, _≤_}
 use lib.ListN.{length}
 use lib.IntN.{ℤ}
 use Rattle.geom.specs.declared.Point.{Point}
-use Rattle.lists.specs.Sums.{tally}
 use Rattle.lists.specs.Written.{written}
 use Rattle.segm.specs.Segments.{segments}
 use Rattle.contour.specs.Points.{coordinates, pairUp, cut}
@@ -13,21 +12,12 @@ use Rattle.refusal.specs.declared.Verdict.the-variants as verdict-is
 use Rattle.checks.specs.Runs.{Run, verdict, clipRun}
 use Rattle.fill_rule.specs.FillRule.{ruleOf}
 use Rattle.build.specs.Links.{filterOf}
-use Rattle.string_clip.specs.declared.Totals.{Totals}
+use Rattle.clip_paths.specs.declared.Totals.{Totals}
+use Rattle.clip_paths.specs.Paths.{clipPaths, totals}
 use Rattle.string_clip.specs.declared.Clipped.{Clipped}
 use Rattle.string_clip.specs.declared.Clipped.the-variants.{Done, Refused}
-use Rattle.string_clip.specs.Paths.{clipPaths, stepsOf, travelOf}
 
 -- ---- the answer
--- four numbers: paths, points, steps and travel
-unfoldable pub totals : List (List Point) → Totals
-totals paths = record {
-  paths = length paths;
-  points = length (flatten paths);
-  steps = length (stepsOf paths);
-  travel = tally travelOf (stepsOf paths);
-}
-
 -- 01's number and place for what a run answers, with its four numbers: 0, 0 and the totals; of a refusal its own, and all totals 0
 pub record Told : Type 0 where
   pub number : ℕ
@@ -51,6 +41,11 @@ lists points lengths = record { points = points; lengths = lengths }
 -- the run on these numbers with these choices and lists
 abbrev pub runOf : List ℤ → (rule invert boundary : ℤ) → Lists → Run
 runOf numbers rule invert boundary ls = clipRun numbers rule invert boundary (length (ls .points)) (length (ls .lengths))
+
+-- no list that is lent for n segments is too short
+pub record Room (numbers : List ℤ) (ls : Lists) : Type 0 where
+  pub points-fit : 8 * length (segments numbers) ≤ length (ls .points)
+  pub lengths-fit : 2 * length (segments numbers) ≤ length (ls .lengths)
 
 -- paths written to the fronts of lists
 abbrev pub writtenTo : List (List Point) → Lists → Lists

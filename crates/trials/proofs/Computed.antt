@@ -27,8 +27,8 @@ use Rattle.moves.specs.Steps.{asDrawn, way, other, fitting}
 use Rattle.moves.specs.Moves.{remains, taken, takenAll, bitsRemaining, over}
 use Rattle.moves.specs.Begins.{firstRemaining, bothMoves, begins}
 use Rattle.clip_walk.specs.Walk.{goesOn, follow, pathFrom, pathsFrom, walk}
-use Rattle.string_clip.specs.Paths.{through, finished, pathPoints, clipPaths, stepsFrom, stepsOfPath, stepsOf, travelOf}
-use Rattle.string_clip.specs.Run.{totals, clipOutcome}
+use Rattle.clip_paths.specs.Paths.{through, finished, pathPoints, clipPaths, stepsFrom, stepsOfPath, stepsOf, travelOf, totals}
+use Rattle.string_clip.specs.Run.{clipOutcome}
 use Rattle.bin_store.specs.Sightings.{isSighted, numberOf, sight}
 use Rattle.string_split.specs.Loops.{closed, bufferPoint, bufferPoints, rest, allLoops, splitLoops}
 use Rattle.string_split.specs.Run as split

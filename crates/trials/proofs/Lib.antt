@@ -1,1 +1,3 @@
 pub mod Computed
+pub mod Idle
+pub mod Mistakes

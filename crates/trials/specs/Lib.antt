@@ -1,1 +1,3 @@
 pub mod Trials
+pub mod Idle
+pub mod Mistakes

@@ -1,1 +1,1 @@
-// The trial drawings of document 01 that it marks as proved: one proposition about the definitions, and its proof by computing. No code.
+// What document 01 wants proved beside its demands: its trial drawings, the idle programs that must not pass, and the mistakes near at hand. No code.

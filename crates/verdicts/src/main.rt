@@ -1,5 +1,6 @@
 // Runs the compiled checks on drawings that show each refusal at its first, middle and last place, which of two faults comes first, and the limits
 // exactly met and passed by one. A line says what was asked and what came of it; what is written is held to the file stdout.
+// It assumes the contract of C's `write`.
 use geom::Point;
 use libc::STDOUT_FILENO;
 use refusal::Verdict;

@@ -3,7 +3,7 @@ use borrow.Author.Needs.{needs}
 use mathlib.Core.Path.{_≡_, ap₂, _∙_}
 use lib.IntN.{pos}
 use mir.Facts.{toZ-ofZ}
-use Rattle.string_clip.specs.declared.Both.{Both}
+use Rattle.clip_both.specs.declared.Both.{Both}
 use Rattle.string_clip.specs.Run.{Lists, lists, outcome, clipOutcome}
 use Rattle.measure.specs.Numbers.{returnedBoth, ofBoth, bothNumbers}
 use Rattle.measure.proofs.measure_clip_both.Statement.{statement}

@@ -68,11 +68,11 @@ walk-near links p walk q i =
 
 -- ---- one walk after the other
 module _ (links : Drawing) where
-  begun-first : (bits : List ℕ) (m : Move) → begins links bits ≡ some m → IfSome (Begun bits m) (walkFrom links bits m)
+  pub begun-first : (bits : List ℕ) (m : Move) → begins links bits ≡ some m → IfSome (Begun bits m) (walkFrom links bits m)
   begun-first bits m e = walk-begun links bits m (begins-some links bits m e .bit-remains)
 
   -- a walk takes a bit at least
-  fewer-after : (bits : List ℕ) (m : Move) (walk : List Move) → Begun bits m walk → bitsRemaining (takenAll bits walk) < bitsRemaining bits
+  pub fewer-after : (bits : List ℕ) (m : Move) (walk : List Move) → Begun bits m walk → bitsRemaining (takenAll bits walk) < bitsRemaining bits
   fewer-after bits m walk b = omega (arith, takes-spent bits walk (b .takes), b .not-empty)
 
   -- one turn, with so much turns for the rest

@@ -37,7 +37,7 @@ module _ (links : Drawing) (direction : Bool) (home : Point) where
   turn turns k p bits = bind (findNearest links direction k p bits) (λ m. onto m (till (turns (taken bits m)) links direction home (m .place) (over links direction m .end) (taken bits m)))
 
   -- no bit, no move
-  none-remain : (k : ℕ) (p : Point) (bits : List ℕ) → bitsRemaining bits ≤ 0 → findNearest links direction k p bits ≡ none
+  pub none-remain : (k : ℕ) (p : Point) (bits : List ℕ) → bitsRemaining bits ≤ 0 → findNearest links direction k p bits ≡ none
   none-remain k p bits h = go (findNearest links direction k p bits) refl
     where
       go : (o : Option Move) → findNearest links direction k p bits ≡ o → findNearest links direction k p bits ≡ none

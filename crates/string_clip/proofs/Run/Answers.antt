@@ -1,30 +1,23 @@
--- A run's answer and its verdict; and the one verdict of two runs whose lists are long enough.
-use mathlib.Core.Path.{_≡_, refl, sym, _∙_, ap, ap₂}
-use mathlib.Core.List.{List, [], _∷_}
-use mathlib.Core.Bool.{Bool}
+-- A run's answer to its verdict.
+use mathlib.Core.Path.{_≡_, sym, _∙_, ap}
+use mathlib.Core.List.{List}
 use Prim.Native.Nat.{ℕ}
-use lib.ListN.{length}
-use lib.IntN.{ℤ, pos}
+use lib.IntN.{ℤ}
 use Rattle.geom.specs.declared.Point.{Point}
-use Rattle.geom.specs.Points.{within}
-use Rattle.lists.specs.Members.{any}
-use Rattle.segm.specs.Segments.{width, segments}
+use Rattle.segm.specs.Segments.{segments}
 use Rattle.contour.specs.Points.{Writes}
 use Rattle.refusal.specs.declared.Verdict.{Verdict}
 use Rattle.refusal.specs.declared.Verdict.the-variants as verdict-is
-use Rattle.refusal.specs.Order.{_then_}
-use Rattle.refusal.specs.Asked.{wrongLength, unknownChoice, askedFirst}
-use Rattle.checks.specs.Drawing.{drawingVerdict}
-use Rattle.checks.specs.Runs.{ruleChoice, flagChoice, clipRun, asked, verdict}
+use Rattle.checks.specs.Runs.{verdict}
 use Rattle.fill_rule.specs.FillRule.{ruleOf}
 use Rattle.build.specs.Links.{filterOf, maskedBits}
-use Rattle.string_clip.specs.declared.Totals.{Totals}
+use Rattle.clip_paths.specs.declared.Totals.{Totals}
 use Rattle.string_clip.specs.declared.Clipped.the-variants.{Done, Refused}
-use Rattle.string_clip.specs.Run.{totals, Lists, lists, runOf, outcome, answered, clipOutcome}
-use Rattle.string_clip.specs.Claim.{Room}
-use Rattle.string_clip.specs.Writing.{bitsPaths}
-use Rattle.string_clip.proofs.Paths.Masked.{masked-paths}
-use Rattle.string_clip.proofs.Claim.Together.{accepted-outcome, room-long}
+use Rattle.clip_paths.specs.Paths.{totals}
+use Rattle.string_clip.specs.Run.{Lists, lists, runOf, outcome, answered, clipOutcome}
+use Rattle.clip_paths.specs.Writing.{bitsPaths}
+use Rattle.clip_paths.proofs.Paths.Masked.{masked-paths}
+use Rattle.string_clip.proofs.Run.Accepted.{accepted-outcome}
 
 -- ---- one run
 module _ (numbers : List ℤ) (rule invert boundary : ℤ) (ls : Lists) where
@@ -42,14 +35,3 @@ module _ (numbers : List ℤ) (rule invert boundary : ℤ) (ls : Lists) where
   pub refused-answer : {number place : ℕ} → said ≡ verdict-is.Refused number place → outcome (Refused number place) ls ≡ clipOutcome numbers rule invert boundary ls
   unfolding clipOutcome
   refused-answer e = rw e
-
--- ---- two runs
-module _ (numbers : List ℤ) (rule boundary : ℤ) (ls₀ ls₁ : Lists) (r₀ : Room numbers ls₀) (r₁ : Room numbers ls₁) where
-  -- inside and outside are both known
-  as-known : any unknownChoice (ruleChoice rule ∷ flagChoice (pos 1) ∷ flagChoice boundary ∷ []) ≡ any unknownChoice (ruleChoice rule ∷ flagChoice (pos 0) ∷ flagChoice boundary ∷ [])
-  unfolding any unknownChoice within
-  as-known = refl
-
-  pub one-verdict : said numbers rule (pos 1) boundary ls₁ ≡ said numbers rule (pos 0) boundary ls₀
-  unfolding verdict asked clipRun
-  one-verdict = ap₂ (λ (unknown short : Bool). askedFirst (wrongLength width 1024 (length numbers)) unknown short then drawingVerdict (segments numbers)) as-known (room-long numbers ls₁ r₁ ∙ sym (room-long numbers ls₀ r₀))

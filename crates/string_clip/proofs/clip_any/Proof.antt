@@ -7,7 +7,7 @@ use Rattle.checks.specs.Runs.{Run, clipRun}
 use Rattle.checks.proofs.Runs.{asked-few, checked-verdict}
 use Rattle.checks.proofs.Memory.{any-memory}
 use Rattle.string_clip.specs.Run.{Lists, lists, runOf}
-use Rattle.string_clip.proofs.Writing.Memory.{any-clip}
+use Rattle.string_clip.proofs.Memory.{any-clip}
 use Rattle.string_clip.proofs.clip_any.Statement.{statement}
 use Rattle.string_clip.proofs.clip_any.Tie as tie
 

@@ -8,10 +8,9 @@ use mir.Facts.{toZ-ofZ}
 use Rattle.refusal.specs.declared.Verdict.the-variants.{Accepted}
 use Rattle.segm.specs.Segments.{segments}
 use Rattle.checks.specs.Accepted.{Good}
-use Rattle.string_clip.specs.Run.{Lists, lists}
-use Rattle.string_clip.specs.Claim.{Room}
+use Rattle.string_clip.specs.Run.{Lists, lists, Room}
 use Rattle.string_clip.proofs.Run.Answers.{said, accepted-answer, refused-answer}
-use Rattle.string_clip.proofs.Claim.Together.{accepted-drawing, accepted-room}
+use Rattle.string_clip.proofs.Run.Accepted.{accepted-drawing, accepted-room}
 use Rattle.string_clip.proofs.clip_by.Statement.{statement}
 use Rattle.string_clip.proofs.clip_by.Tie as tie
 

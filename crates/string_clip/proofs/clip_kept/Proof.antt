@@ -12,8 +12,8 @@ use Rattle.segm.proofs.Segments.{length-segments}
 use Rattle.graph.specs.Nodes.{Nodes}
 use Rattle.graph.proofs.Fronts.{front-nodes, ends-room, numbers-room}
 use Rattle.contour.specs.Points.{Writes}
-use Rattle.string_clip.specs.Run.{totals}
-use Rattle.string_clip.specs.Writing.{bitsPaths}
+use Rattle.clip_paths.specs.Paths.{totals}
+use Rattle.clip_paths.specs.Writing.{bitsPaths}
 use Rattle.string_clip.proofs.clip_kept.Statement.{statement}
 use Rattle.string_clip.proofs.clip_kept.Tie as tie
 

@@ -7,7 +7,7 @@ use Rattle.checks.specs.Runs.{Run, clipRun}
 use Rattle.checks.proofs.Runs.{checked-verdict}
 use Rattle.checks.proofs.Memory.{small-memory}
 use Rattle.string_clip.specs.Run.{Lists, lists, runOf}
-use Rattle.string_clip.proofs.Writing.Memory.{small-clip}
+use Rattle.string_clip.proofs.Memory.{small-clip}
 use Rattle.string_clip.proofs.clip_small.Statement.{statement}
 use Rattle.string_clip.proofs.clip_small.Tie as tie
 

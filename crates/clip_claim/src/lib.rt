@@ -1,0 +1,1 @@
+// The claim about inside and outside together, and its proof. No code.
