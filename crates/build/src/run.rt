@@ -42,7 +42,7 @@ pub fn fills(numbers: &[i32], rule: i32, fills: &mut [u8]) -> Filled
         let mut starts = [0u16; graph::SMALL_STARTS];
         let mut nodes = [0u16; ends::SMALL];
         let mut tops = [0i32; segm::SMALL];
-        let checked = checks::check_small(
+        let checked = drawing_check::check_small(
             asked,
             numbers,
             &mut flat,
@@ -56,7 +56,7 @@ pub fn fills(numbers: &[i32], rule: i32, fills: &mut [u8]) -> Filled
     let mut starts = [0u16; graph::STARTS];
     let mut nodes = [0u16; ends::MOST];
     let mut tops = [0i32; segm::MOST];
-    let checked = checks::check_any(
+    let checked = drawing_check::check_any(
         asked,
         numbers,
         &mut flat,

@@ -25,10 +25,10 @@ use Rattle.faults.proofs.Faultless.{faultless}
 use Rattle.meetings.specs.Meetings.{sameEnds}
 use Rattle.meetings.proofs.Meetings.Apart.{apart-ends, same-ends-sym}
 use Rattle.balance.specs.Balance.{balance, balances}
-use Rattle.checks.specs.Drawing.{drawingVerdict}
+use Rattle.drawing_check.specs.Drawing.{drawingVerdict}
 use Rattle.checks.specs.Runs.{Run, clipRun, asked, verdict}
 use Rattle.checks.specs.Accepted.{Good, inputOf, accepts}
-use Rattle.checks.proofs.Drawing.{no-meeting, balanced-at, drawing-passed}
+use Rattle.drawing_check.proofs.Drawing.{no-meeting, balanced-at, drawing-passed}
 use Rattle.checks.proofs.Runs.{asked-few, passed, passes}
 
 -- ---- balance: a point is an end, or nothing starts or ends there

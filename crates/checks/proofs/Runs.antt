@@ -15,7 +15,7 @@ use Rattle.refusal.proofs.Order.{accepted-then}
 use Rattle.refusal.proofs.Asked.{AskedPasses, asked-passes, passes-asked, few-entries, all-known, all-long}
 use Rattle.segm.specs.Segments.{width, count, segments}
 use Rattle.segm.proofs.Segments.{length-segments}
-use Rattle.checks.specs.Drawing.{drawingVerdict}
+use Rattle.drawing_check.specs.Drawing.{drawingVerdict}
 use Rattle.checks.specs.Runs.{Run, asked, verdict}
 pub mod Listed
 

@@ -1,4 +1,2 @@
-pub mod Drawing
 pub mod Runs
-pub mod Memory
 pub mod Accepted

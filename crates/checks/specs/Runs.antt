@@ -8,7 +8,7 @@ use Rattle.refusal.specs.declared.Verdict.{Verdict}
 use Rattle.refusal.specs.Order.{_then_}
 use Rattle.refusal.specs.Asked.{wrongLength, Choice, upTo, unknownChoice, Lent, lent, tooShort, askedFirst}
 use Rattle.segm.specs.Segments.{width, count, segments}
-use Rattle.checks.specs.Drawing.{drawingVerdict}
+use Rattle.drawing_check.specs.Drawing.{drawingVerdict}
 
 -- a run: its numbers, its choices and its lent lists
 pub record Run : Type 0 where

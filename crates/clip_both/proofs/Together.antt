@@ -9,7 +9,7 @@ use Rattle.lists.specs.Members.{any}
 use Rattle.segm.specs.Segments.{width, segments}
 use Rattle.refusal.specs.Order.{_then_}
 use Rattle.refusal.specs.Asked.{wrongLength, unknownChoice, askedFirst}
-use Rattle.checks.specs.Drawing.{drawingVerdict}
+use Rattle.drawing_check.specs.Drawing.{drawingVerdict}
 use Rattle.checks.specs.Runs.{ruleChoice, flagChoice, clipRun, asked, verdict}
 use Rattle.string_clip.specs.Run.{Lists, Room, Outcome, clipOutcome}
 use Rattle.string_clip.proofs.Run.Accepted.{room-long}

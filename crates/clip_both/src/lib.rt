@@ -107,7 +107,14 @@ fn both_small(
     let mut tops = [0i32; segm::SMALL];
     let mut bits = [0u8; segm::SMALL];
     let mut moves = [0u16; ends::SMALL];
-    let checked = checks::check_small(before, s, &mut flat, &mut starts, &mut nodes, &mut tops);
+    let checked = drawing_check::check_small(
+        before,
+        s,
+        &mut flat,
+        &mut starts,
+        &mut nodes,
+        &mut tops,
+    );
     both_by(
         checked,
         s,
@@ -148,7 +155,14 @@ fn both_any(
     let mut tops = [0i32; segm::MOST];
     let mut bits = [0u8; segm::MOST];
     let mut moves = [0u16; ends::MOST];
-    let checked = checks::check_any(before, s, &mut flat, &mut starts, &mut nodes, &mut tops);
+    let checked = drawing_check::check_any(
+        before,
+        s,
+        &mut flat,
+        &mut starts,
+        &mut nodes,
+        &mut tops,
+    );
     both_by(
         checked,
         s,

@@ -9,7 +9,7 @@ use Rattle.refusal.specs.declared.Verdict.{Verdict}
 use Rattle.refusal.specs.declared.Verdict.the-variants.{Accepted}
 use Rattle.segm.specs.Segments.{count, segments}
 use Rattle.segm.proofs.Segments.{length-segments}
-use Rattle.checks.specs.Memory.{Prepared}
+use Rattle.drawing_check.specs.Memory.{Prepared}
 use Rattle.string_clip.specs.Memory.{ClipMemory}
 
 module _ (numbers : List ℤ) {checked : Verdict} {flat starts nodes : List ℕ} {tops : List ℤ} (prepared : checked ≡ Accepted → Prepared (segments numbers) flat starts nodes tops) where

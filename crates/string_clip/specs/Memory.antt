@@ -7,7 +7,7 @@ use lib.IntN.{ℤ}
 use Rattle.segm.specs.Segments.{Drawing}
 use Rattle.refusal.specs.declared.Verdict.{Verdict}
 use Rattle.refusal.specs.declared.Verdict.the-variants.{Accepted}
-use Rattle.checks.specs.Memory.{Prepared}
+use Rattle.drawing_check.specs.Memory.{Prepared}
 
 -- of a drawing with this verdict: an accepted one's nodes and top counts; and working memory, unless it is too large
 pub record ClipMemory (checked : Verdict) (d : Drawing) (flat starts nodes : List ℕ) (tops : List ℤ) (bits moves : List ℕ) : Type 0 where

@@ -119,7 +119,14 @@ fn clip_small(
     let mut tops = [0i32; segm::SMALL];
     let mut bits = [0u8; segm::SMALL];
     let mut moves = [0u16; ends::SMALL];
-    let checked = checks::check_small(before, s, &mut flat, &mut starts, &mut nodes, &mut tops);
+    let checked = drawing_check::check_small(
+        before,
+        s,
+        &mut flat,
+        &mut starts,
+        &mut nodes,
+        &mut tops,
+    );
     clip_by(
         checked,
         s,
@@ -156,7 +163,14 @@ fn clip_any(
     let mut tops = [0i32; segm::MOST];
     let mut bits = [0u8; segm::MOST];
     let mut moves = [0u16; ends::MOST];
-    let checked = checks::check_any(before, s, &mut flat, &mut starts, &mut nodes, &mut tops);
+    let checked = drawing_check::check_any(
+        before,
+        s,
+        &mut flat,
+        &mut starts,
+        &mut nodes,
+        &mut tops,
+    );
     clip_by(
         checked,
         s,

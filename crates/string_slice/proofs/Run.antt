@@ -21,7 +21,7 @@ use Rattle.refusal.specs.declared.Verdict.{Verdict}
 use Rattle.refusal.specs.declared.Verdict.the-variants as verdict-is
 use Rattle.refusal.specs.Order.{_then_}
 use Rattle.refusal.specs.Asked.{lent}
-use Rattle.checks.specs.Drawing.{drawingVerdict}
+use Rattle.drawing_check.specs.Drawing.{drawingVerdict}
 use Rattle.checks.specs.Runs.{Run, asked, verdict, sliceRun}
 use Rattle.checks.specs.Accepted.{Good}
 use Rattle.checks.proofs.Accepted.{verdict-good}

@@ -23,8 +23,8 @@ use Rattle.refusal.specs.declared.Verdict.{Verdict}
 use Rattle.refusal.specs.declared.Verdict.the-variants as verdict-is
 use Rattle.refusal.specs.Order.{_then_}
 use Rattle.refusal.proofs.Order.{accepted-then}
-use Rattle.checks.specs.Drawing.{drawingVerdict}
-use Rattle.checks.specs.Memory.{Prepared, Checked}
+use Rattle.drawing_check.specs.Drawing.{drawingVerdict}
+use Rattle.drawing_check.specs.Memory.{Prepared, Checked}
 use Rattle.checks.specs.Accepted.{Good}
 use Rattle.checks.proofs.Accepted.{drawing-good}
 use Rattle.fill_rule.specs.declared.Rule.{Rule}

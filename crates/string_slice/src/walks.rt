@@ -10,8 +10,8 @@ ghost use lib.ListN.{length};
 ghost use Rattle.refusal.specs.declared.Verdict.the-variants.{Accepted};
 ghost use Rattle.refusal.specs.Order.{_then_};
 ghost use Rattle.segm.specs.Segments.{count, segments};
-ghost use Rattle.checks.specs.Drawing.{drawingVerdict};
-ghost use Rattle.checks.specs.Memory.{Prepared};
+ghost use Rattle.drawing_check.specs.Drawing.{drawingVerdict};
+ghost use Rattle.drawing_check.specs.Memory.{Prepared};
 ghost use Rattle.checks.specs.Accepted.{Good};
 ghost use Rattle.slice_walk.specs.Walk.{walks};
 ghost use Rattle.slice_walk.specs.Writing.{WalksAre};
@@ -133,7 +133,14 @@ fn walks_small(
     let mut nodes = [0u16; ends::SMALL];
     let mut tops = [0i32; segm::SMALL];
     let mut bits = [0u8; segm::SMALL];
-    let checked = checks::check_small(before, s, &mut flat, &mut starts, &mut nodes, &mut tops);
+    let checked = drawing_check::check_small(
+        before,
+        s,
+        &mut flat,
+        &mut starts,
+        &mut nodes,
+        &mut tops,
+    );
     walks_by(
         checked,
         s,
@@ -166,7 +173,14 @@ fn walks_any(
     let mut nodes = [0u16; ends::MOST];
     let mut tops = [0i32; segm::MOST];
     let mut bits = [0u8; segm::MOST];
-    let checked = checks::check_any(before, s, &mut flat, &mut starts, &mut nodes, &mut tops);
+    let checked = drawing_check::check_any(
+        before,
+        s,
+        &mut flat,
+        &mut starts,
+        &mut nodes,
+        &mut tops,
+    );
     walks_by(
         checked,
         s,

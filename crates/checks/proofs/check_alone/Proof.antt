@@ -2,7 +2,7 @@
 use borrow.Author.Needs.{needs}
 use native.Mathlib.Omega.{arith}
 use Rattle.segm.proofs.Segments.{length-segments}
-use Rattle.checks.proofs.Memory.{small-memory, any-memory}
+use Rattle.drawing_check.proofs.Memory.{small-memory, any-memory}
 use Rattle.checks.proofs.check_alone.Statement.{statement}
 use Rattle.checks.proofs.check_alone.Tie as tie
 

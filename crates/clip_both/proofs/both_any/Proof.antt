@@ -6,7 +6,7 @@ use mir.Facts.{toZ-ofZ}
 use lib.IntN.{pos}
 use Rattle.checks.specs.Runs.{Run, clipRun}
 use Rattle.checks.proofs.Runs.{asked-few, checked-verdict}
-use Rattle.checks.proofs.Memory.{any-memory}
+use Rattle.drawing_check.proofs.Memory.{any-memory}
 use Rattle.string_clip.specs.Run.{Lists, lists, runOf}
 use Rattle.string_clip.proofs.Memory.{any-clip}
 use Rattle.clip_both.proofs.both_any.Statement.{statement}

@@ -6,7 +6,7 @@ use lib.IntN.{pos}
 use Rattle.segm.proofs.Segments.{length-segments}
 use Rattle.checks.specs.Runs.{Run, clipRun}
 use Rattle.checks.proofs.Runs.{checked-verdict}
-use Rattle.checks.proofs.Memory.{small-memory}
+use Rattle.drawing_check.proofs.Memory.{small-memory}
 use Rattle.string_clip.specs.Run.{Lists, lists, runOf}
 use Rattle.string_clip.proofs.Memory.{small-clip}
 use Rattle.clip_both.proofs.both_small.Statement.{statement}

@@ -5,7 +5,7 @@ use native.Mathlib.Omega.{arith}
 use mir.Facts.{toZ-ofZ}
 use Rattle.checks.specs.Runs.{Run, clipRun}
 use Rattle.checks.proofs.Runs.{asked-few, checked-verdict}
-use Rattle.checks.proofs.Memory.{any-memory}
+use Rattle.drawing_check.proofs.Memory.{any-memory}
 use Rattle.string_clip.specs.Run.{Lists, lists, runOf}
 use Rattle.string_clip.proofs.Memory.{any-clip}
 use Rattle.string_clip.proofs.clip_any.Statement.{statement}

@@ -5,7 +5,7 @@ use mir.Facts.{toZ-ofZ}
 use Rattle.segm.proofs.Segments.{length-segments}
 use Rattle.checks.specs.Runs.{Run, clipRun}
 use Rattle.checks.proofs.Runs.{checked-verdict}
-use Rattle.checks.proofs.Memory.{small-memory}
+use Rattle.drawing_check.proofs.Memory.{small-memory}
 use Rattle.string_clip.specs.Run.{Lists, lists, runOf}
 use Rattle.string_clip.proofs.Memory.{small-clip}
 use Rattle.string_clip.proofs.clip_small.Statement.{statement}

@@ -8,7 +8,7 @@ use mir.Facts.{toZ-ofZ}
 use Rattle.segm.proofs.Segments.{length-segments}
 use Rattle.checks.specs.Runs.{Run, fillsRun, asked}
 use Rattle.checks.proofs.Runs.{asked-few, checked-verdict}
-use Rattle.checks.proofs.Memory.{small-memory, any-memory}
+use Rattle.drawing_check.proofs.Memory.{small-memory, any-memory}
 use Rattle.build.specs.Fills.{fillsOutcome}
 use Rattle.build.proofs.run.fills.Statement.{statement}
 use Rattle.build.proofs.run.fills.Tie as tie

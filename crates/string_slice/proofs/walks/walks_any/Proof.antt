@@ -2,7 +2,7 @@
 use borrow.Author.Needs.{needs}
 use native.Mathlib.Omega.{arith}
 use mir.Facts.{toZ-ofZ}
-use Rattle.checks.proofs.Memory.{any-memory}
+use Rattle.drawing_check.proofs.Memory.{any-memory}
 use Rattle.string_slice.proofs.Walking.{checked-good, walked-as}
 use Rattle.string_slice.proofs.walks.walks_any.Statement.{statement}
 use Rattle.string_slice.proofs.walks.walks_any.Tie as tie

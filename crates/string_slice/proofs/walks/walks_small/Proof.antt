@@ -6,7 +6,7 @@ use lib.ListN.{length}
 use mir.Facts.{toZ-ofZ}
 use Rattle.segm.specs.Segments.{segments}
 use Rattle.segm.proofs.Segments.{length-segments}
-use Rattle.checks.proofs.Memory.{small-memory}
+use Rattle.drawing_check.proofs.Memory.{small-memory}
 use Rattle.string_slice.proofs.Walking.{checked-good, walked-as}
 use Rattle.string_slice.proofs.walks.walks_small.Statement.{statement}
 use Rattle.string_slice.proofs.walks.walks_small.Tie as tie

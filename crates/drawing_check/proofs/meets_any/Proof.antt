@@ -11,8 +11,8 @@ use Rattle.segm.proofs.Segments.{count-inside, count-past}
 use Rattle.faults.specs.Faultless.{Proper}
 use Rattle.meetings.specs.Meetings.{meetsWrongly}
 use Rattle.faults.proofs.Faultless.{proper-at}
-use Rattle.checks.proofs.meets_any.Statement.{statement}
-use Rattle.checks.proofs.meets_any.Tie as tie
+use Rattle.drawing_check.proofs.meets_any.Statement.{statement}
+use Rattle.drawing_check.proofs.meets_any.Tie as tie
 
 abbrev Inv-loop : tie.InvT-loop
 Inv-loop s j t n k₀ k = any (meetsWrongly t) (drop j (segments s)) ≡ any (meetsWrongly t) (drop k (segments s))

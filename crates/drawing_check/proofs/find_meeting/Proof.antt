@@ -3,9 +3,9 @@ use borrow.Author.Needs.{needs}
 use mathlib.Core.Path.{sym, _∙_}
 use Rattle.integers.proofs.Booleans.{clash}
 use Rattle.segm.specs.Segments.{segments}
-use Rattle.checks.proofs.Drawing.{no-meeting}
-use Rattle.checks.proofs.find_meeting.Statement.{statement}
-use Rattle.checks.proofs.find_meeting.Tie as tie
+use Rattle.drawing_check.proofs.Drawing.{no-meeting}
+use Rattle.drawing_check.proofs.find_meeting.Statement.{statement}
+use Rattle.drawing_check.proofs.find_meeting.Tie as tie
 
 is-clear-requires : tie.Need-is-clear-requires
 is-clear-requires c κs = let s = c .before .before in (s .pre .0, s .pre .1, s .pre .2, s .pre .3)

@@ -5,10 +5,10 @@ use mathlib.Core.Path.{_≡_, sym, ap, _∙_}
 use lib.ListN.{length}
 use Rattle.segm.specs.Segments.{segments}
 use Rattle.segm.proofs.Segments.{count-inside, count-past}
-use Rattle.checks.specs.Drawing.{unbalancedOf}
-use Rattle.checks.proofs.Drawing.{nineBelow, first-nine}
-use Rattle.checks.proofs.find_unbalanced.Statement.{statement}
-use Rattle.checks.proofs.find_unbalanced.Tie as tie
+use Rattle.drawing_check.specs.Drawing.{unbalancedOf}
+use Rattle.drawing_check.proofs.Drawing.{nineBelow, first-nine}
+use Rattle.drawing_check.proofs.find_unbalanced.Statement.{statement}
+use Rattle.drawing_check.proofs.find_unbalanced.Tie as tie
 
 first-unbalanced-requires : tie.Need-first-unbalanced-requires
 first-unbalanced-requires c κs = let s = c .before .before in (s .pre .0, s .pre .1, s .pre .2, λ v _. s .pre .3 v)

@@ -22,7 +22,7 @@ use Rattle.faults.proofs.Faults.{last}
 use Rattle.faults.proofs.Faultless.{faultless}
 use Rattle.meetings.specs.Meetings.{meetsWrongly, NoneMeetWrongly}
 use Rattle.balance.specs.Balance.{balances, unbalanced, firstPlace, firstUnbalanced}
-use Rattle.checks.specs.Drawing.{meetingAt, meetingsOf, unbalancedAt, unbalancedOf, drawingVerdict}
+use Rattle.drawing_check.specs.Drawing.{meetingAt, meetingsOf, unbalancedAt, unbalancedOf, drawingVerdict}
 
 -- ---- 8
 -- 8 fits nowhere exactly where no two segments meet wrongly

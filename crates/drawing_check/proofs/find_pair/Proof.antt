@@ -9,9 +9,9 @@ use Rattle.refusal.specs.Order.{firstFrom, first}
 use Rattle.refusal.proofs.Order.{step-none, step-some, step-end}
 use Rattle.segm.specs.Segments.{segments}
 use Rattle.segm.proofs.Segments.{length-segments, count-inside}
-use Rattle.checks.specs.Drawing.{meetingAt, meetingsOf}
-use Rattle.checks.proofs.find_pair.Statement.{statement}
-use Rattle.checks.proofs.find_pair.Tie as tie
+use Rattle.drawing_check.specs.Drawing.{meetingAt, meetingsOf}
+use Rattle.drawing_check.proofs.find_pair.Statement.{statement}
+use Rattle.drawing_check.proofs.find_pair.Tie as tie
 
 abbrev Inv-loop : tie.InvT-loop
 Inv-loop s n i₀ i = (i ≤ n) × (meetingsOf (segments s) ≡ firstFrom (meetingAt (segments s)) (n - i) i)

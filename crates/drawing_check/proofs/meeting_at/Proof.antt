@@ -8,11 +8,11 @@ use Rattle.lists.specs.Members.{any}
 use Rattle.segm.specs.Segments.{segments, segmentAt}
 use Rattle.faults.specs.Faultless.{Proper}
 use Rattle.meetings.specs.Meetings.{meetsWrongly}
-use Rattle.checks.specs.Drawing.{meetingAt}
+use Rattle.drawing_check.specs.Drawing.{meetingAt}
 use Rattle.faults.proofs.Faultless.{proper-at}
 use borrow.Author.Needs.{needs}
-use Rattle.checks.proofs.meeting_at.Statement.{statement}
-use Rattle.checks.proofs.meeting_at.Tie as tie
+use Rattle.drawing_check.proofs.meeting_at.Statement.{statement}
+use Rattle.drawing_check.proofs.meeting_at.Tie as tie
 
 add-meets-any : tie.Need-add-meets-any
 add-meets-any c = search needs

@@ -7,7 +7,7 @@ use lib.ListN.{length, getD, replicate}
 use lib.IntN.{ℤ, pos}
 use Rattle.segm.specs.Segments.{Drawing, count, segments}
 use Rattle.segm.proofs.Segments.{length-segments}
-use Rattle.checks.specs.Memory.{DrawingRoom, EndsRoom}
+use Rattle.drawing_check.specs.Memory.{DrawingRoom, EndsRoom}
 
 fresh : (n i : ℕ) → getD (replicate n (pos 0)) i (pos 0) ≡ pos 0
 fresh zero i = refl

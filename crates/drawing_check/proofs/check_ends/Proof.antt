@@ -9,9 +9,9 @@ use lib.IntN.{natAbs}
 use Rattle.segm.specs.Segments.{Drawing, segments}
 use Rattle.graph.specs.Nodes.{Nodes}
 use Rattle.balance.proofs.Balance.{nodes-by-point}
-use Rattle.checks.specs.Memory.{OrderedIn, NumberedIn}
-use Rattle.checks.proofs.check_ends.Statement.{statement}
-use Rattle.checks.proofs.check_ends.Tie as tie
+use Rattle.drawing_check.specs.Memory.{OrderedIn, NumberedIn}
+use Rattle.drawing_check.proofs.check_ends.Statement.{statement}
+use Rattle.drawing_check.proofs.check_ends.Tie as tie
 
 write-nodes-requires : tie.Need-write-nodes-requires
 write-nodes-requires c κs =

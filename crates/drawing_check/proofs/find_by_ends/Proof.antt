@@ -10,11 +10,11 @@ use Rattle.segm.specs.Segments.{Drawing, segments}
 use Rattle.segm.proofs.Segments.{length-segments}
 use Rattle.balance.specs.Balance.{NodesByPoint}
 use Rattle.refusal.specs.declared.Verdict.{Verdict}
-use Rattle.checks.specs.Drawing.{meetingsOf, unbalancedOf}
+use Rattle.drawing_check.specs.Drawing.{meetingsOf, unbalancedOf}
 use Rattle.refusal.specs.Order.{_then_}
 use Rattle.refusal.proofs.Order.{not-both, refused-then}
-use Rattle.checks.proofs.find_by_ends.Statement.{statement}
-use Rattle.checks.proofs.find_by_ends.Tie as tie
+use Rattle.drawing_check.proofs.find_by_ends.Statement.{statement}
+use Rattle.drawing_check.proofs.find_by_ends.Tie as tie
 
 count-requires : tie.Need-count-requires
 count-requires c κs = search needs
