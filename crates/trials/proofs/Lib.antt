@@ -1,3 +1,5 @@
 pub mod Computed
 pub mod Idle
 pub mod Mistakes
+pub mod Refusals
+pub mod Exported

@@ -1,3 +1,5 @@
 pub mod Trials
 pub mod Idle
 pub mod Mistakes
+pub mod Refusals
+pub mod Exported
