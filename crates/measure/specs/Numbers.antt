@@ -5,9 +5,9 @@ use lib.IntN.{ℤ, pos}
 use Rattle.refusal.specs.declared.Verdict.{Verdict}
 use Rattle.refusal.specs.declared.Verdict.the-variants.{Accepted, Refused}
 use Rattle.checks.specs.Runs.{verdict, clipRun}
-use Rattle.string_clip.specs.Run.{Told, Lists, Outcome, clipOutcome}
+use Rattle.string_clip.specs.Run.{Lists, Outcome, clipOutcome}
 use Rattle.measure.specs.declared.Check.{Check}
-use Rattle.measure.specs.declared.Clip.{Clip}
+use Rattle.c_structs.specs.Structs.{clipStruct}
 use Rattle.measure.specs.declared.ClipBoth.{ClipBoth}
 
 -- ---- the check alone
@@ -27,11 +27,6 @@ sweepNumber Accepted = 1
 sweepNumber (Refused number place) = 2
 
 -- ---- both clip runs
--- the answer of a clip run as C's struct
-abbrev pub clipStruct : Told → Clip
-clipStruct t =
-    record { number = t .number; place = t .place; paths = t .totals .paths; points = t .totals .points; steps = t .totals .steps; travel = t .totals .travel }
-
 -- what a call of `measure_clip_both` returns, and the lent lists then
 pub record ReturnedBoth : Type 0 where
   pub answer : ClipBoth

@@ -1,12 +1,12 @@
 // For the driver alone: the verdict by itself, what the sweep over neighbours says of an accepted drawing, and both clip runs by one check.
+use c_structs::Clip;
 use refusal::Verdict;
-use string_clip::Clipped;
 ghost use mathlib.Core.Path.{_≡_};
 ghost use mathlib.Core.Bool.{true};
 ghost use Rattle.segm.specs.Segments.{segments};
 ghost use Rattle.checks.specs.Accepted.{Good};
-ghost use Rattle.string_clip.specs.Run.{told, lists};
-ghost use Rattle.measure.specs.Numbers.{verdictOf, checkNumbers, sweepNumber, clipStruct, returnedBoth, bothNumbers};
+ghost use Rattle.string_clip.specs.Run.{lists};
+ghost use Rattle.measure.specs.Numbers.{verdictOf, checkNumbers, sweepNumber, returnedBoth, bothNumbers};
 
 // A refusal's number and place, or 0 and 0.
 #[repr(C)]
@@ -73,46 +73,11 @@ pub extern "C" fn measure_sweep(numbers: &[i32]) -> u64
     }
 }
 
-// A refusal's number and place, or 0 and 0 and what a clip run found.
-#[repr(C)]
-pub struct Clip {
-    pub number: u64,
-    pub place: u64,
-    pub paths: u64,
-    pub points: u64,
-    pub steps: u64,
-    pub travel: u64,
-}
-
 // The numbers of two clip runs.
 #[repr(C)]
 pub struct ClipBoth {
     pub inside: Clip,
     pub outside: Clip,
-}
-
-// The numbers of a run's answer.
-fn numbers_of(answer: Clipped) -> Clip
-    ensures { λ r. ⌜ r ≡ clipStruct (told answer) ⌝ }
-{
-    match answer {
-        Clipped::Done(found) => Clip {
-            number: 0,
-            place: 0,
-            paths: found.paths as u64,
-            points: found.points as u64,
-            steps: found.steps as u64,
-            travel: found.travel,
-        },
-        Clipped::Refused(number, place) => Clip {
-            number: number as u64,
-            place: place as u64,
-            paths: 0,
-            points: 0,
-            steps: 0,
-            travel: 0,
-        },
-    }
 }
 
 // Both clip runs by one check, which nothing else exports: the driver compares them with two runs.
@@ -140,8 +105,8 @@ pub extern "C" fn measure_clip_both(
     );
     let i = both.inside;
     let o = both.outside;
-    let inside = numbers_of(i);
-    let outside = numbers_of(o);
+    let inside = c_structs::clip_of(i);
+    let outside = c_structs::clip_of(o);
     ClipBoth {
         inside: inside,
         outside: outside,

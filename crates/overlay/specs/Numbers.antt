@@ -8,17 +8,14 @@ use Rattle.string_slice.specs.Run as slice
 use Rattle.string_split.specs.Run as split
 use Rattle.segm.specs.Segments.{width}
 use Rattle.text.specs.Storing as reading
-use Rattle.overlay.specs.declared.Fills.{Fills}
-use Rattle.overlay.specs.declared.Clip.{Clip}
-use Rattle.overlay.specs.declared.Slice.{Slice}
-use Rattle.overlay.specs.declared.Split.{Split}
-use Rattle.overlay.specs.declared.Read.{Read}
+use Rattle.c_structs.specs.declared.Fills.{Fills}
+use Rattle.c_structs.specs.declared.Clip.{Clip}
+use Rattle.c_structs.specs.declared.Slice.{Slice}
+use Rattle.c_structs.specs.declared.Split.{Split}
+use Rattle.c_structs.specs.declared.Read.{Read}
+use Rattle.c_structs.specs.Structs.{fillsStruct, clipStruct, sliceStruct, splitStruct, readStruct}
 
 -- ---- fills
--- the answer of a fills run as C's struct
-abbrev pub fillsStruct : fills.Told → Fills
-fillsStruct t = record { number = t .number; place = t .place; count = t .count }
-
 -- what a call of `overlay_fills` returns, and the lent list then
 pub record Returned : Type 0 where
   pub answer : Fills
@@ -32,11 +29,6 @@ unfoldable pub fillsNumbers : List ℤ → ℤ → List ℕ → Returned
 fillsNumbers numbers rule lent = let o = fills.fillsOutcome numbers rule lent in returned (fillsStruct (o .numbers)) (o .list)
 
 -- ---- clip
--- the answer of a clip run as C's struct
-abbrev pub clipStruct : clip.Told → Clip
-clipStruct t =
-    record { number = t .number; place = t .place; paths = t .totals .paths; points = t .totals .points; steps = t .totals .steps; travel = t .totals .travel }
-
 -- its lent lists
 abbrev pub clipLists : List ℤ → List ℕ → clip.Lists
 clipLists = clip.lists
@@ -54,10 +46,6 @@ unfoldable pub clipNumbers : List ℤ → (rule invert boundary : ℤ) → clip.
 clipNumbers numbers rule invert boundary ls = let o = clip.clipOutcome numbers rule invert boundary ls in returnedClip (clipStruct (o .numbers)) (o .lists)
 
 -- ---- slice
--- the answer of a slice run as C's struct
-abbrev pub sliceStruct : slice.Told → Slice
-sliceStruct t = record { number = t .number; place = t .place; contours = t .contours; points = t .points }
-
 -- its lent lists
 abbrev pub sliceLists : List ℤ → List ℕ → List ℕ → slice.Lists
 sliceLists = slice.lists
@@ -75,10 +63,6 @@ unfoldable pub sliceNumbers : List ℤ → (rule direction : ℤ) → ℕ → sl
 sliceNumbers numbers rule direction least ls = let o = slice.sliceOutcome numbers rule direction least ls in returnedSlice (sliceStruct (o .numbers)) (o .lists)
 
 -- ---- split
--- the answer of a split run as C's struct
-abbrev pub splitStruct : split.Told → Split
-splitStruct t = record { number = t .number; place = t .place; loops = t .loops; points = t .points }
-
 -- its lent lists
 abbrev pub splitLists : List ℤ → List ℕ → split.Lists
 splitLists = split.lists
@@ -96,10 +80,6 @@ unfoldable pub splitNumbers : List ℤ → ℕ → split.Lists → ReturnedSplit
 splitNumbers points least ls = let o = split.splitOutcome points least ls in returnedSplit (splitStruct (o .numbers)) (o .lists)
 
 -- ---- read
--- the answer of `read` as C's struct
-abbrev pub readStruct : reading.Told → Read
-readStruct t = record { number = t .number; place = t .place; count = t .count; rule = t .rule; invert = t .invert; boundary = t .boundary }
-
 -- what a call of `overlay_read` returns, and the lent list then
 pub record ReturnedRead : Type 0 where
   pub answer : Read

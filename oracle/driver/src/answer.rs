@@ -27,8 +27,8 @@ pub fn answer(text: &[u8]) -> Answer {
 fn paths(text: &[u8]) -> Result<Vec<Vec<Point>>, Refusal> {
     let (choices, numbers) = text::read(text).map_err(|place| Refusal { number: 1, place })?;
     let case = Case::new(&numbers);
-    match case.clip_refusal(choices, LENT) {
-        Some(refusal) => Err(refusal),
+    match case.clip_refusals(choices, LENT).first() {
+        Some(&refusal) => Err(refusal),
         None => Ok(case.graph(choices).walk().into_iter().map(|path| path.points).collect()),
     }
 }

@@ -52,14 +52,14 @@ impl<'a> Case<'a> {
         self.fills.as_ref().map_or(&[], |fills| &fills[rule as usize])
     }
 
-    /// The refusal of a clip run that lends lists of these lengths, if any.
-    pub fn clip_refusal(&self, choices: Choices, lent: Room) -> Option<Refusal> {
-        self.checked.run(&zip(choices.list(), MOST), &zip(lent, CLIP_EACH))
+    /// The refusals of a clip run that lends lists of these lengths: the first is due.
+    pub fn clip_refusals(&self, choices: Choices, lent: Room) -> Vec<Refusal> {
+        self.checked.refusals(&zip(choices.list(), MOST), &zip(lent, CLIP_EACH))
     }
 
-    /// The refusal of a slice run that lends lists of these lengths, if any but 12.
-    pub fn slice_refusal(&self, choices: SliceChoices, lent: Room) -> Option<Refusal> {
-        self.checked.run(&zip(choices.list(), SLICE_MOST), &zip(lent, SLICE_EACH))
+    /// The refusals but 12 of a slice run that lends lists of these lengths: the first is due.
+    pub fn slice_refusals(&self, choices: SliceChoices, lent: Room) -> Vec<Refusal> {
+        self.checked.refusals(&zip(choices.list(), SLICE_MOST), &zip(lent, SLICE_EACH))
     }
 
     /// The links of a clip run of an accepted drawing.

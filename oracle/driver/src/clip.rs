@@ -1,12 +1,13 @@
 //! overlay_clip beside the Rust, the walk written from prose, and the claim on both sides together.
 
+use crate::calls::{Call, Function};
 use crate::case::{Case, Difference};
 use crate::choices::{Choices, MOST};
 use crate::drawing::Point;
 use crate::lent::{long_enough, too_short};
 use crate::output::{Output, Room, CLIP_EACH};
 use crate::random::Random;
-use crate::tally::{Function, Tally};
+use crate::tally::Tally;
 use crate::theirs::{agree, Theirs};
 use crate::{claim, marks};
 use jumperclay::raw::{self, Clipped};
@@ -78,9 +79,13 @@ struct Run<'a> {
 }
 
 impl Run<'_> {
+    fn needed(&self) -> Room {
+        CLIP_EACH.map(|each| each * self.case.n())
+    }
+
     /// Lends lists too short and lists long enough, and returns what was made of the latter.
     fn by_ours(&self, random: &mut Random, tally: &mut Tally) -> Result<Output<Clipped>, Difference> {
-        let needed = CLIP_EACH.map(|each| each * self.case.n());
+        let needed = self.needed();
         if let Some(short) = too_short(needed, random) {
             self.on_lists(short, random, tally)?;
         }
@@ -88,11 +93,13 @@ impl Run<'_> {
     }
 
     fn on_lists(&self, lent: Room, random: &mut Random, tally: &mut Tally) -> Result<Output<Clipped>, Difference> {
-        let due: Output<Clipped> = match self.case.clip_refusal(self.choices, lent) {
-            Some(refusal) => Output::refused(refusal),
+        let refusals = self.case.clip_refusals(self.choices, lent);
+        let due: Output<Clipped> = match refusals.first() {
+            Some(&refusal) => Output::refused(refusal),
             None => Output::of_paths(self.paths),
         };
-        tally.add_call(Function::Clip, due.counts.number);
+        let needed = self.needed();
+        tally.add_call(&Call { function: Function::Clip, due: due.counts.number, refusals: &refusals, lent, needed });
         let [rule, invert, boundary] = self.choices.list();
         Output::of_noise(&due, lent, random, |points, lengths, _| {
             raw::clip(self.case.numbers, rule, invert, boundary, points, lengths)

@@ -10,7 +10,7 @@ driver check [--seed S] [--drawings N] [--lists N] [--texts N]
                                      compare with all that is stored, then on N drawings, N lists of points and N texts
 driver lists [--seed S] [--lists N]  compare overlay_split alone, on N lists of points
 driver texts [--seed S] [--texts N]  compare the clip program and overlay_read alone, on N texts
-driver replay [FOLDER]               compare with the stored answers, in crates/replay if not said
+driver replay [FOLDER]               compare with the stored answers, in oracle/stored if not said
 driver store [FOLDER]                make the stored answers (needs the Rust)
 driver cases [FOLDER]                make the cases of the clip program, in crates/clip_cases if not said
 driver sweeps [FOLDER]               make the drawings that the definition of the sweep is computed on, in crates/sweep_cases if not said

@@ -1,11 +1,12 @@
 //! overlay_fills beside the Rust and the ray.
 
+use crate::calls::{Call, Function};
 use crate::case::{Case, Difference};
 use crate::choices::{unknown, Choices, MOST, RULES};
 use crate::lent::Lent;
 use crate::prose::Refusal;
 use crate::random::Random;
-use crate::tally::{Function, Tally};
+use crate::tally::Tally;
 use crate::theirs::{agree, Theirs};
 use jumperclay::raw;
 
@@ -45,11 +46,13 @@ impl Run<'_> {
 
     /// One call on a list of noise: every returned number and every entry, written or not, must be as due.
     fn on_list(&self, length: usize, random: &mut Random, tally: &mut Tally) -> Result<(), Difference> {
-        let (due, fills) = match self.case.checked.run(&[(self.rule, MOST[0])], &[(length, 1)]) {
-            Some(Refusal { number, place }) => (raw::Filled { number, place, count: 0 }, &[][..]),
+        let refusals = self.case.checked.refusals(&[(self.rule, MOST[0])], &[(length, 1)]);
+        let (due, fills) = match refusals.first() {
+            Some(&Refusal { number, place }) => (raw::Filled { number, place, count: 0 }, &[][..]),
             None => (raw::Filled { number: 0, place: 0, count: self.fills.len() as u64 }, self.fills),
         };
-        tally.add_call(Function::Fills, due.number);
+        let (lent, needed) = ([length, 0, 0], [self.case.n(), 0, 0]);
+        tally.add_call(&Call { function: Function::Fills, due: due.number, refusals: &refusals, lent, needed });
         let mut lent = Lent::new(length, random, |noise| noise as u8);
         let returned = raw::fills(self.case.numbers, self.rule, lent.list());
         if returned == due && lent.holds(fills) {

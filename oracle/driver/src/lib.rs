@@ -7,6 +7,7 @@ mod areas;
 mod bench;
 mod blocks;
 mod both;
+mod calls;
 mod case;
 mod case_texts;
 mod cases;
@@ -42,6 +43,8 @@ mod prose;
 mod random;
 mod ray;
 mod reader;
+#[cfg(feature = "rust")]
+mod refusals;
 mod shapes;
 #[cfg(feature = "rust")]
 mod sheets;

@@ -27,19 +27,15 @@ impl Checked {
         Self { n, refused }
     }
 
-    /// The first refusal in the order 2, 10, 11 and 3 to 9. Each choice comes with the greatest known one, each length
-    /// of a lent list with the entries needed for a segment.
-    pub fn run(&self, choices: &[(i32, i32)], lists: &[(usize, usize)]) -> Option<Refusal> {
-        let number = if self.refused.is_some_and(|refusal| refusal.number == 2) {
-            2
-        } else if choices.iter().any(|&(choice, most)| !(0..=most).contains(&choice)) {
-            10
-        } else if lists.iter().any(|&(lent, each)| lent < each * self.n) {
-            11
-        } else {
-            return self.refused;
-        };
-        Some(Refusal { number, place: 0 })
+    /// The refusals of a run that fit, in the order 2, 10, 11 and 3 to 9: the first is due. Each choice comes with the
+    /// greatest known one, each length of a lent list with the entries needed for a segment.
+    pub fn refusals(&self, choices: &[(i32, i32)], lists: &[(usize, usize)]) -> Vec<Refusal> {
+        let unknown = choices.iter().any(|&(choice, most)| !(0..=most).contains(&choice));
+        let short = lists.iter().any(|&(lent, each)| lent < each * self.n);
+        let asked = |number| Refusal { number, place: 0 };
+        let length = self.refused.filter(|refusal| refusal.number == 2);
+        let segments = self.refused.filter(|refusal| refusal.number != 2);
+        [length, unknown.then_some(asked(10)), short.then_some(asked(11)), segments].into_iter().flatten().collect()
     }
 }
 

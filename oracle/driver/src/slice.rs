@@ -1,6 +1,7 @@
 //! overlay_slice beside the Rust and the walks written from prose.
 
 use crate::areas::areas;
+use crate::calls::{Call, Function};
 use crate::case::{Case, Difference};
 use crate::choices::{known, known_but, SliceChoices, SLICE_MOST};
 use crate::contours::{contours, Contour};
@@ -10,7 +11,7 @@ use crate::output::{Output, Room, SLICE_EACH};
 use crate::prose::Refusal;
 use crate::random::Random;
 use crate::slice_walk::Walk;
-use crate::tally::{Function, Tally};
+use crate::tally::Tally;
 use crate::theirs::{agree, Theirs};
 use jumperclay::raw;
 
@@ -86,9 +87,13 @@ struct Run<'a> {
 }
 
 impl Run<'_> {
+    fn needed(&self) -> Room {
+        SLICE_EACH.map(|each| each * self.case.n())
+    }
+
     /// Lends lists too short and lists long enough.
     fn by_ours(&self, random: &mut Random, tally: &mut Tally) -> Result<(), Difference> {
-        let needed = SLICE_EACH.map(|each| each * self.case.n());
+        let needed = self.needed();
         if let Some(short) = too_short(needed, random) {
             self.on_lists(short, random, tally)?;
         }
@@ -96,12 +101,14 @@ impl Run<'_> {
     }
 
     fn on_lists(&self, lent: Room, random: &mut Random, tally: &mut Tally) -> Result<(), Difference> {
-        let due = match (self.case.slice_refusal(self.choices, lent), self.contours) {
-            (Some(refusal), _) => Output::refused(refusal),
+        let refusals = self.case.slice_refusals(self.choices, lent);
+        let due = match (refusals.first(), self.contours) {
+            (Some(&refusal), _) => Output::refused(refusal),
             (None, None) => Output::refused(Refusal { number: 12, place: 0 }),
             (None, Some(contours)) => Output::of_contours(contours),
         };
-        tally.add_call(Function::Slice, due.counts.number);
+        let needed = self.needed();
+        tally.add_call(&Call { function: Function::Slice, due: due.counts.number, refusals: &refusals, lent, needed });
         let SliceChoices { rule, direction, min_area } = self.choices;
         let output = Output::of_noise(&due, lent, random, |points, lengths, roles| {
             raw::slice(self.case.numbers, rule, direction, min_area, points, lengths, roles)

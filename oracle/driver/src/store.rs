@@ -9,11 +9,12 @@ use crate::damage::damaged;
 use crate::drawing::{commas, pairs, MOST_POINTS, MOST_SEGMENTS};
 use crate::generate::{accepted, Generator, JOINED, SCATTERED};
 use crate::loops::Loops;
-use crate::output::{Output, SLICE_EACH};
+use crate::output::{Output, CLIP_EACH, SLICE_EACH};
 use crate::point_lists;
 use crate::prose::{of_split, Checked, Refusal};
 use crate::random::Random;
-use crate::stored::fills_answer;
+use crate::refusals;
+use crate::stored::{self, fills_answer};
 use crate::theirs::{self, Theirs};
 use crate::trials;
 use jumperclay::raw::{Clipped, Looped};
@@ -27,29 +28,34 @@ type Line = (String, String);
 /// Makes the line of a place among those of its kind.
 type MakeLine = fn(usize, &mut Random) -> Line;
 
-/// How many lines there are of each kind. The trials are as many as there are.
-const KINDS: [(usize, MakeLine); 10] = [
-    (320, accepted_fills),
-    (80, refused_fills),
-    (240, accepted_clip),
-    (60, refused_clip),
-    (12, |place, _| slice_line(&trials::slices()[place])),
-    (81, accepted_slice),
-    (27, refused_slice),
-    (16, |place, _| split_line(&trials::splits()[place])),
-    (52, accepted_split),
-    (12, refused_split),
-];
+/// How many lines there are of each kind. The trials and the refusals are as many as there are.
+fn kinds() -> [(usize, MakeLine); 13] {
+    [
+        (320, accepted_fills),
+        (80, refused_fills),
+        (240, accepted_clip),
+        (60, refused_clip),
+        (trials::slices().len(), |place, _| slice_line(&trials::slices()[place])),
+        (81, accepted_slice),
+        (27, refused_slice),
+        (trials::splits().len(), |place, _| split_line(&trials::splits()[place])),
+        (52, accepted_split),
+        (12, refused_split),
+        (refusals::fills().len(), |place, _| fills_line(&refusals::fills()[place])),
+        (refusals::clips().len(), |place, _| clip_line(&refusals::clips()[place])),
+        (refusals::slices().len(), |place, _| slice_line(&refusals::slices()[place])),
+    ]
+}
 
 /// What a run can be refused with that lends lists long enough.
 const NUMBERS: [u64; 9] = [2, 3, 4, 5, 6, 7, 8, 9, 10];
 
-/// Lines stay short enough for a program that reads them one by one: those of drawings, and of lists of points.
+/// Random lines stay short: those of drawings, and of lists of points.
 const MOST_NUMBERS: usize = 900;
 const MOST_COORDINATES: usize = 150;
 
 pub fn store(seed: u64, folder: &Path) -> bool {
-    let makers = KINDS.into_iter().flat_map(|(count, make)| (0..count).map(move |place| (make, place)));
+    let makers = kinds().into_iter().flat_map(|(count, make)| (0..count).map(move |place| (make, place)));
     let lines = makers.enumerate().map(|(line, (make, place))| make(place, &mut Random::new(&[seed, line as u64])));
     let (questions, answers): (Vec<_>, Vec<_>) = lines.unzip();
     match write(folder, &text(&questions), &text(&answers)) {
@@ -66,8 +72,8 @@ pub fn store(seed: u64, folder: &Path) -> bool {
 
 fn write(folder: &Path, questions: &str, answers: &str) -> io::Result<()> {
     fs::create_dir_all(folder)?;
-    fs::write(folder.join("stdin"), questions)?;
-    fs::write(folder.join("stdout"), answers)
+    fs::write(folder.join(stored::QUESTIONS), questions)?;
+    fs::write(folder.join(stored::ANSWERS), answers)
 }
 
 fn text(lines: &[String]) -> String {
@@ -78,6 +84,15 @@ fn question(letter: &str, choices: &[i32], numbers: &[i32]) -> String {
     format!("{letter},{}", commas(&[choices, numbers].concat()))
 }
 
+/// The answer to a fills run, refused or not.
+fn fills_line((rule, numbers): &(i32, Vec<i32>)) -> Line {
+    let answer = match Checked::new(numbers).refusals(&[(*rule, MOST[0])], &[]).first() {
+        Some(&Refusal { number, place }) => fills_answer(number, place, &[]),
+        None => fills_answer(0, 0, Theirs::new(numbers).fills(*rule)[0].1),
+    };
+    (question("f", &[*rule], numbers), answer)
+}
+
 /// The first has no segments, a few have many.
 fn accepted_fills(place: usize, random: &mut Random) -> Line {
     let sizes = match place {
@@ -86,11 +101,17 @@ fn accepted_fills(place: usize, random: &mut Random) -> Line {
         _ if place.is_multiple_of(5) => 20..=40,
         _ => 1..=16,
     };
-    let numbers = accepted(&SCATTERED, sizes, random);
-    let rule = RULES[place % RULES.len()];
-    let mut theirs = Theirs::new(&numbers);
-    let (_, fills) = theirs.fills(rule)[0];
-    (question("f", &[rule], &numbers), fills_answer(0, 0, fills))
+    fills_line(&(RULES[place % RULES.len()], accepted(&SCATTERED, sizes, random)))
+}
+
+/// The answer to a clip run, refused or not.
+fn clip_line((choices, numbers): &(Choices, Vec<i32>)) -> Line {
+    let room = CLIP_EACH.map(|each| each * MOST_SEGMENTS);
+    let output: Output<Clipped> = match Case::new(numbers).clip_refusals(*choices, room).first() {
+        Some(&refusal) => Output::refused(refusal),
+        None => Output::of_paths(&Theirs::new(numbers).clip(*choices)[0].1),
+    };
+    (question("c", &choices.list(), numbers), line(&output))
 }
 
 /// Every rule and filter in turn. The first has no segments, a few have many. In some anything goes; in others the
@@ -112,7 +133,7 @@ fn accepted_clip(place: usize, random: &mut Random) -> Line {
         let (paths, other) = (paths(boundary), paths(1 - boundary));
         let wanted = if place % 3 == 1 { paths != other } else { !paths.is_empty() };
         if wanted || place.is_multiple_of(11) {
-            return (question("c", &choices.list(), &numbers), line(&Output::<Clipped>::of_paths(&paths)));
+            return clip_line(&(choices, numbers));
         }
     }
 }
@@ -120,21 +141,21 @@ fn accepted_clip(place: usize, random: &mut Random) -> Line {
 fn refused_fills(place: usize, random: &mut Random) -> Line {
     let number = NUMBERS[place % NUMBERS.len()];
     let rule = |random: &mut Random| match number {
-        10 => vec![random.pick(&unknown(MOST[0]))],
-        _ => vec![RULES[place % RULES.len()]],
+        10 => [random.pick(&unknown(MOST[0]))],
+        _ => [RULES[place % RULES.len()]],
     };
-    let (choices, numbers, refusal) = refused(number, 1..=20, rule, random);
-    (question("f", &choices, &numbers), fills_answer(refusal.number, refusal.place, &[]))
+    let ([rule], numbers) = refused(number, 1..=20, rule, random);
+    fills_line(&(rule, numbers))
 }
 
 fn refused_clip(place: usize, random: &mut Random) -> Line {
     let number = NUMBERS[place % NUMBERS.len()];
     let choices = |random: &mut Random| match number {
-        10 => Choices::unknown(place / NUMBERS.len() % MOST.len(), random).list().to_vec(),
-        _ => Choices::known(random).list().to_vec(),
+        10 => known_but(place / NUMBERS.len() % MOST.len(), MOST, random),
+        _ => known(MOST, random),
     };
-    let (choices, numbers, refusal) = refused(number, 1..=6, choices, random);
-    (question("c", &choices, &numbers), line(&Output::<Clipped>::refused(refusal)))
+    let (choices, numbers) = refused(number, 1..=6, choices, random);
+    clip_line(&(choices.into(), numbers))
 }
 
 fn line<C: Counts>(output: &Output<C>) -> String {
@@ -144,8 +165,8 @@ fn line<C: Counts>(output: &Output<C>) -> String {
 /// The answer to a slice, refused or not.
 fn slice_line((choices, numbers): &(SliceChoices, Vec<i32>)) -> Line {
     let room = SLICE_EACH.map(|each| each * MOST_SEGMENTS);
-    let output = match Case::new(numbers).slice_refusal(*choices, room) {
-        Some(refusal) => Output::refused(refusal),
+    let output = match Case::new(numbers).slice_refusals(*choices, room).first() {
+        Some(&refusal) => Output::refused(refusal),
         None => {
             let (_, contours) = Theirs::new(numbers).slice(*choices).remove(0);
             Output::of_contours(&contours.expect("a move is found"))
@@ -182,11 +203,11 @@ fn accepted_slice(place: usize, random: &mut Random) -> Line {
 fn refused_slice(place: usize, random: &mut Random) -> Line {
     let number = NUMBERS[place % NUMBERS.len()];
     let choices = |random: &mut Random| match number {
-        10 => known_but(place / NUMBERS.len() % SLICE_MOST.len(), SLICE_MOST, random).to_vec(),
-        _ => known(SLICE_MOST, random).to_vec(),
+        10 => known_but(place / NUMBERS.len() % SLICE_MOST.len(), SLICE_MOST, random),
+        _ => known(SLICE_MOST, random),
     };
-    let (choices, numbers, _) = refused(number, 1..=6, choices, random);
-    slice_line(&(SliceChoices { rule: choices[0], direction: choices[1], min_area: 0 }, numbers))
+    let (choices, numbers) = refused(number, 1..=6, choices, random);
+    slice_line(&(SliceChoices::new(choices, 0), numbers))
 }
 
 /// The answer to a split, refused or not.
@@ -237,22 +258,20 @@ fn field(min_area: u64) -> i32 {
 }
 
 /// Choices and a damaged drawing that are refused with this number.
-fn refused(
+fn refused<const N: usize>(
     number: u64,
     sizes: RangeInclusive<usize>,
-    choose: impl Fn(&mut Random) -> Vec<i32>,
+    choose: impl Fn(&mut Random) -> [i32; N],
     random: &mut Random,
-) -> (Vec<i32>, Vec<i32>, Refusal) {
+) -> ([i32; N], Vec<i32>) {
     loop {
         let good = accepted(&SCATTERED, sizes.clone(), random);
         let numbers = damaged(&good, random);
         let choices = choose(random);
         let limited: Vec<_> = choices.iter().copied().zip(MOST).collect();
-        match Checked::new(&numbers).run(&limited, &[]) {
-            Some(refusal) if refusal.number == number && numbers.len() <= MOST_NUMBERS => {
-                return (choices, numbers, refusal);
-            }
-            _ => {}
+        let due = Checked::new(&numbers).refusals(&limited, &[]).first().map(|refusal| refusal.number);
+        if due == Some(number) && numbers.len() <= MOST_NUMBERS {
+            return (choices, numbers);
         }
     }
 }

@@ -11,13 +11,17 @@ use jumperclay::raw;
 use std::path::{Path, PathBuf};
 use std::{fs, io};
 
-/// Where the program that replays them has them.
+/// The two files, line by line.
+pub const QUESTIONS: &str = "questions";
+pub const ANSWERS: &str = "answers";
+
+/// Where they stand.
 pub fn folder() -> PathBuf {
-    in_repository("crates/replay")
+    in_repository("oracle/stored")
 }
 
 fn read(folder: &Path) -> io::Result<(String, String)> {
-    Ok((fs::read_to_string(folder.join("stdin"))?, fs::read_to_string(folder.join("stdout"))?))
+    Ok((fs::read_to_string(folder.join(QUESTIONS))?, fs::read_to_string(folder.join(ANSWERS))?))
 }
 
 pub fn fills_answer(number: u64, place: u64, fills: &[u8]) -> String {

@@ -1,27 +1,19 @@
 //! How many drawings, calls and runs of each kind there were.
 
 use crate::both;
+use crate::calls::{Call, Calls};
 use crate::choices::{Choices, SliceChoices};
 use crate::drawing::WIDTH;
 use crate::marks;
 use crate::prose::Refusal;
 use crate::table::Table;
 
-/// An exported function, by its column.
-#[derive(Clone, Copy)]
-pub enum Function {
-    Fills,
-    Clip,
-    Slice,
-}
-
 #[derive(Default)]
 pub struct Tally {
     generators: Table<&'static str, 2>,
     placements: Table<&'static str, 1>,
     sizes: Table<usize, 1>,
-    /// By the refusal due, 0 for none.
-    calls: Table<u64, 3>,
+    calls: Calls,
     /// Accepted drawings asked what cleared them of wrong meetings, and those that only the search over pairs did.
     asked: usize,
     searched: usize,
@@ -34,11 +26,8 @@ pub struct Tally {
     slice_marks: Table<&'static str, 1>,
 }
 
-/// What must occur: numbers of segments, refusals by each function, filters and directions by each rule.
+/// What must occur: numbers of segments, filters and directions by each rule.
 const SIZES: [usize; 3] = [0, 1, 1024];
-const REFUSALS: [u64; 10] = [2, 3, 4, 5, 6, 7, 8, 9, 10, 11];
-/// Need not occur: no walk of an accepted drawing is known to find no move.
-const NO_MOVE: u64 = 12;
 const DIRECTIONS: [&str; 2] = ["counter-clockwise", "clockwise"];
 const FILTERS: [[&str; 2]; 2] = [["inside excluded", "inside included"], ["outside excluded", "outside included"]];
 
@@ -55,8 +44,8 @@ impl Tally {
         self.placements.add(name, 0);
     }
 
-    pub fn add_call(&mut self, function: Function, due: u64) {
-        self.calls.add(due, function as usize);
+    pub fn add_call(&mut self, call: &Call) {
+        self.calls.add(call);
     }
 
     /// An accepted drawing, and whether only the search over pairs cleared it of wrong meetings.
@@ -104,20 +93,19 @@ impl Tally {
 
     /// What should have occurred and did not.
     pub fn missing(&self) -> Vec<String> {
-        let refusals = self.calls.lacking(&REFUSALS).map(|number| format!("refusal {number}"));
         let sizes = self.sizes.lacking(&SIZES).map(|size| format!("n = {size}"));
         let choices = self.clips.lacking(FILTERS.as_flattened()).chain(self.slices.lacking(&DIRECTIONS));
         let marks = self.clip_marks.lacking(&marks::CLIP).chain(self.slice_marks.lacking(&marks::SLICE));
         let both = self.both.lacking(&both::CALLS).map(|name| format!("measure_clip_both with {name}"));
-        refusals.chain(sizes).chain(choices.chain(marks).map(|name| name.to_string())).chain(both).collect()
+        let names = choices.chain(marks).map(|name| name.to_string());
+        self.calls.missing().into_iter().chain(sizes).chain(names).chain(both).collect()
     }
 
     pub fn print(&self) {
         self.generators.print("generator", ["accepted", "refused"]);
         self.placements.print("placement", ["drawings"]);
         self.sizes.print("segments", ["accepted"]);
-        self.calls.print("calls by the refusal due", ["overlay_fills", "overlay_clip", "overlay_slice"]);
-        println!("{} slices find no move: refusal {NO_MOVE}", self.calls.sum_of(&NO_MOVE));
+        self.calls.print();
         let (asked, searched) = (self.asked, self.searched);
         println!("{asked} accepted drawings cleared of wrong meetings, {searched} of them by the search over pairs\n");
         self.both.print("measure_clip_both with", ["calls"]);

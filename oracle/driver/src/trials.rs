@@ -4,7 +4,7 @@ use crate::choices::SliceChoices;
 use crate::drawing::{flat, Point, FARTHEST, MOST_POINTS, WIDTH};
 
 /// Document 01's case A.
-const A: [i32; 9 * WIDTH] = [
+pub const A: [i32; 9 * WIDTH] = [
     -5, 5, 0, 5, 0, 1, 0, 0, 0, 5, -1, 0, 0, 0, 10, 0, 1, 0, 0, 5, 0, 10, -1, 0, 0, 5, 10, 5, 0, 1, 0, 10, 10, 10, -1,
     0, 10, 0, 10, 5, 1, 0, 10, 5, 10, 10, 1, 0, 10, 5, 15, 5, 0, 1,
 ];

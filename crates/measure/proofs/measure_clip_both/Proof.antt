@@ -12,11 +12,11 @@ use Rattle.measure.proofs.measure_clip_both.Tie as tie
 clip-both-requires : tie.Need-clip-both-requires
 clip-both-requires c κs = search needs
 
-numbers-of-requires : tie.Need-numbers-of-requires
-numbers-of-requires c κs = search needs
+clip-of-requires : tie.Need-clip-of-requires
+clip-of-requires c κs = search needs
 
-numbers-of-requires-2 : tie.Need-numbers-of-requires-2
-numbers-of-requires-2 c κs = search needs
+clip-of-requires-2 : tie.Need-clip-of-requires-2
+clip-of-requires-2 c κs = search needs
 
 same-length : tie.Need-same-length
 same-length c = search needs
@@ -62,7 +62,7 @@ module _ (c : tie.After-clip-both) where
 returns : tie.Need-returns
 returns c =
     let k = c .before .before .before .before .before .before .before .before in
-    (λ i. returnedBoth (record { inside = c .before .numbers-of .ensures i; outside = c .numbers-of2 .ensures i }) (inside-after k) (outside-after k))
+    (λ i. returnedBoth (record { inside = c .before .clip-of .ensures i; outside = c .clip-of2 .ensures i }) (inside-after k) (outside-after k))
     ∙ are k
 
 pub measure-clip-both-spec : {M : Type 1} → statement M
@@ -70,8 +70,8 @@ measure-clip-both-spec =
     tie.close
     (tie.spec
     clip-both-requires
-    numbers-of-requires
-    numbers-of-requires-2
+    clip-of-requires
+    clip-of-requires-2
     same-length
     same-length-2
     same-length-3

@@ -1,0 +1,32 @@
+-- The answer decides the arm.
+use borrow.Author.Needs.{needs}
+use mathlib.Core.Path.{sym, ap}
+use Rattle.string_split.specs.declared.Loops.{Loops}
+use Rattle.c_structs.specs.Structs.{splitOf}
+use Rattle.c_structs.proofs.split_of.Statement.{statement}
+use Rattle.c_structs.proofs.split_of.Tie as tie
+
+enum-known-answer : tie.Need-enum-known-answer
+enum-known-answer c = search needs
+
+enum-known-answer-2 : tie.Need-enum-known-answer-2
+enum-known-answer-2 c = search needs
+
+cast-t8 : tie.Need-cast-t8
+cast-t8 c = search needs
+
+returns : tie.Need-returns
+returns c = ap splitOf (sym (c .before .answer .given .1))
+
+returns-2 : tie.Need-returns-2
+returns-2 c = ap splitOf (sym (c .before .answer2 .given .1))
+
+pub split-of-spec : {M : Type 1} → statement M
+split-of-spec =
+    tie.close
+    (tie.spec
+    enum-known-answer
+    enum-known-answer-2
+    cast-t8
+    returns
+    returns-2)
