@@ -11,7 +11,7 @@ use Rattle.lists.specs.Sums.{tally}
 use Rattle.lists.specs.Written.{written}
 use Rattle.contour.specs.Points.{coordinates, pairUp, AllInRange, cut}
 use Rattle.contour.specs.Contour.{Contour, contourOf}
-use Rattle.string_split.specs.Loops.{splitLoops}
+use Rattle.split_loops.specs.Loops.{splitLoops}
 use Rattle.slice_cut.specs.declared.Contours.{Contours}
 
 -- ---- contours

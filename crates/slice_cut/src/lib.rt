@@ -1,5 +1,5 @@
 // Walks cut into loops, and loops made contours: each with its role, and turned round where it must be.
-use string_split::LoopTotals;
+use split_loops::LoopTotals;
 ghost use mathlib.Core.Path.{_≡_};
 ghost use mathlib.Core.List.{map, flatten};
 ghost use Prim.Native.Nat.{_*_, _≤_};
@@ -7,9 +7,9 @@ ghost use lib.ListN.{length};
 ghost use Rattle.lists.specs.Sums.{tally};
 ghost use Rattle.lists.specs.Written.{written};
 ghost use Rattle.contour.specs.Points.{coordinates, pairUp};
-ghost use Rattle.string_split.specs.Loops.{splitLoops};
-ghost use Rattle.string_split.specs.Run.{loopTotals};
-ghost use Rattle.string_split.specs.Splitting.{Working, Splittable};
+ghost use Rattle.split_loops.specs.Loops.{splitLoops};
+ghost use Rattle.split_loops.specs.Splitting.{loopTotals};
+ghost use Rattle.split_loops.specs.Splitting.{Working, Splittable};
 ghost use Rattle.contour.specs.Contour.{contourOf};
 ghost use Rattle.slice_cut.specs.Cutting.{walkContours, pointsOf, rolesOf, counts, Holds, pathsIn, cutWalks, Stand};
 
@@ -64,7 +64,7 @@ fn cut_walk(
     ensures { λ r. ⌜ (r ≡ loopTotals (splitLoops «min_area» (pairUp (now (walk .entry)))))
         × Holds (walkContours clockwise «min_area» direction (pairUp (now (walk .entry)))) (now (points .entry)) (now (lengths .entry)) (now (roles .entry)) (now (points .exit)) (now (lengths .exit)) (now (roles .exit)) ⌝ }
 {
-    let found = string_split::split_loops(
+    let found = split_loops::split_loops(
         walk,
         min_area,
         heads,
@@ -155,12 +155,12 @@ pub fn cut_walks(
     ensures { λ r. ⌜ (r ≡ counts (cutWalks clockwise «min_area» (pathsIn (now (walks .entry)) (now («walk_lengths» .entry))) (now (directions .entry))))
         × Holds (cutWalks clockwise «min_area» (pathsIn (now (walks .entry)) (now («walk_lengths» .entry))) (now (directions .entry))) (now (points .entry)) (now (lengths .entry)) (now (roles .entry)) (now (points .exit)) (now (lengths .exit)) (now (roles .exit)) ⌝ }
 {
-    if walks.len() <= string_split::SMALL_COORDINATES {
-        let mut heads = [0u16; string_split::SMALL_HEADS];
-        let mut nexts = [0u16; string_split::SMALL];
-        let mut seen = [0i32; string_split::SMALL_COORDINATES];
-        let mut numbers = [0u16; string_split::SMALL];
-        let mut buffer = [0i32; string_split::SMALL_COORDINATES];
+    if walks.len() <= split_loops::SMALL_COORDINATES {
+        let mut heads = [0u16; split_loops::SMALL_HEADS];
+        let mut nexts = [0u16; split_loops::SMALL];
+        let mut seen = [0i32; split_loops::SMALL_COORDINATES];
+        let mut numbers = [0u16; split_loops::SMALL];
+        let mut buffer = [0i32; split_loops::SMALL_COORDINATES];
         return cut_all(
             walks,
             walk_lengths,
@@ -177,11 +177,11 @@ pub fn cut_walks(
             roles,
         );
     }
-    let mut heads = [0u16; string_split::HEADS];
-    let mut nexts = [0u16; string_split::MOST];
-    let mut seen = [0i32; string_split::COORDINATES];
-    let mut numbers = [0u16; string_split::MOST];
-    let mut buffer = [0i32; string_split::COORDINATES];
+    let mut heads = [0u16; split_loops::HEADS];
+    let mut nexts = [0u16; split_loops::MOST];
+    let mut seen = [0i32; split_loops::COORDINATES];
+    let mut numbers = [0u16; split_loops::MOST];
+    let mut buffer = [0i32; split_loops::COORDINATES];
     cut_all(
         walks,
         walk_lengths,

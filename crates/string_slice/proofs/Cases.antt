@@ -33,7 +33,7 @@ use Rattle.moves.specs.Steps.{asDrawn, way, other, fitting}
 use Rattle.moves.specs.Moves.{remains, taken, takenAll, bitsRemaining, over}
 use Rattle.moves.specs.Begins.{firstRemaining, bothMoves, begins}
 use Rattle.bin_store.specs.Sightings.{isSighted, numberOf, sight}
-use Rattle.string_split.specs.Loops.{closed, bufferPoint, bufferPoints, rest, allLoops, splitLoops}
+use Rattle.split_loops.specs.Loops.{closed, bufferPoint, bufferPoints, rest, allLoops, splitLoops}
 use Rattle.slice_walk.specs.Walk.{rotated, isWide, isNearer, moveFrom, nearest, findNearest, till, walkFrom, walksFrom, walks, directionOf, walkPoints}
 use Rattle.string_slice.specs.declared.Sliced.the-variants.{Done, Refused}
 use Rattle.contour.specs.Contour.{contour, contourOf}

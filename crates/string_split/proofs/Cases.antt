@@ -13,7 +13,7 @@ use Rattle.refusal.specs.Order.{firstFrom, first}
 use Rattle.refusal.specs.Asked.{wrongLength, tooShort}
 use Rattle.bin_store.specs.Sightings.{isSighted, numberOf, sight}
 use Rattle.string_split.specs.declared.Loops.the-variants.{Done, Refused}
-use Rattle.string_split.specs.Loops.{closed, bufferPoint, bufferPoints, rest, allLoops, splitLoops}
+use Rattle.split_loops.specs.Loops.{closed, bufferPoint, bufferPoints, rest, allLoops, splitLoops}
 use Rattle.string_split.specs.Run.{outOfRangeAt, splitVerdict, lists, outcome, splitOutcome}
 
 abbrev A : Point

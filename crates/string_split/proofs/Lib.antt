@@ -1,5 +1,2 @@
-pub mod Splitting
 pub mod Run
 pub mod Cases
-pub mod Fits
-pub mod OnePoint

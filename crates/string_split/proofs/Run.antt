@@ -19,7 +19,7 @@ use Rattle.refusal.specs.Asked.{wrongLength, Lent, lent, tooShort}
 use Rattle.refusal.proofs.Order.{first-none, accepted-then, accepted-if}
 use Rattle.refusal.proofs.Asked.{few-entries, whole-entries, all-long}
 use Rattle.string_split.specs.Run.{outOfRangeAt, splitVerdict}
-use Rattle.string_split.specs.Splitting.{Splittable}
+use Rattle.split_loops.specs.Splitting.{Splittable}
 
 -- no refusal by place: all are in range
 in-range : (b : Bool) → _≡_ {A = ℕ} (cond b 0 3) 0 → b ≡ true

@@ -13,10 +13,10 @@ use Rattle.refusal.specs.declared.Verdict.{Verdict}
 use Rattle.refusal.specs.declared.Verdict.the-variants as verdict-is
 use Rattle.refusal.specs.Order.{refuseIf, first, _then_}
 use Rattle.refusal.specs.Asked.{wrongLength, lent, tooShort}
-use Rattle.string_split.specs.declared.buffer.LoopTotals.{LoopTotals}
+use Rattle.split_loops.specs.Loops.{splitLoops}
+use Rattle.split_loops.specs.Splitting.{loopTotals}
 use Rattle.string_split.specs.declared.Loops.{Loops}
 use Rattle.string_split.specs.declared.Loops.the-variants.{Done, Refused}
-use Rattle.string_split.specs.Loops.{splitLoops}
 
 -- ---- refusals
 -- 3, at the point's place
@@ -31,10 +31,6 @@ splitVerdict points out lengths =
     then first (outOfRangeAt (pairUp points)) (length (pairUp points))
 
 -- ---- the run
--- how many loops and points there are
-abbrev pub loopTotals : List (List Point) → LoopTotals
-loopTotals loops = record { loops = length loops; points = length (flatten loops) }
-
 -- 01's number, place and values for what it answers
 pub record Told : Type 0 where
   pub number : ℕ

@@ -1,30 +1,11 @@
-// Loops: a list of points cut at each that it comes back to.
-// `split` has no `requires`: any numbers and any lengths of lent lists get an answer. `split_loops` is the same for points that are known to be good, in working
-// memory that is lent.
-mod buffer;
-
-pub use buffer::LoopTotals;
-pub use buffer::split_loops;
+// The split run: any numbers and any lengths of lent lists get an answer.
 use refusal::Verdict;
+use split_loops::LoopTotals;
 ghost use mathlib.Core.Path.{_≡_};
 ghost use lib.ListN.{length};
 ghost use Rattle.refusal.specs.Order.{first};
 ghost use Rattle.contour.specs.Points.{pairUp};
 ghost use Rattle.string_split.specs.Run.{outOfRangeAt, splitVerdict, lists, outcome, splitOutcome};
-
-// How many points are split at most, how many coordinates these have, and how many bins there are for them: one more, so that there is always one.
-pub const MOST: usize = 2048;
-
-pub const COORDINATES: usize = 2 * MOST;
-
-pub const HEADS: usize = MOST + 1;
-
-// The same for as many points as a small drawing has ends.
-pub const SMALL: usize = 2 * segm::SMALL;
-
-pub const SMALL_COORDINATES: usize = 2 * SMALL;
-
-pub const SMALL_HEADS: usize = SMALL + 1;
 
 // What a split run answers: what it found, or a refusal's number and place.
 pub enum Loops {
@@ -52,7 +33,7 @@ fn check_split(points: &[i32], out: usize, lengths: usize) -> Verdict
     ensures { λ r. ⌜ r ≡ splitVerdict (now (points .entry)) out lengths ⌝ }
 {
     let n = points.len() / 2;
-    if refusal::is_wrong_length(points.len(), 2, MOST) {
+    if refusal::is_wrong_length(points.len(), 2, split_loops::MOST) {
         return Verdict::Refused(2, 0);
     }
     if refusal::is_short(out, 2, n) | refusal::is_short(lengths, 1, n) {
@@ -69,13 +50,13 @@ pub fn split(points: &[i32], min_area: u64, out: &mut [i32], lengths: &mut [u32]
     if let Verdict::Refused(number, place) = check_split(points, out.len(), lengths.len()) {
         return Loops::Refused(number, place);
     }
-    if points.len() <= SMALL_COORDINATES {
-        let mut heads = [0u16; SMALL_HEADS];
-        let mut nexts = [0u16; SMALL];
-        let mut seen = [0i32; SMALL_COORDINATES];
-        let mut numbers = [0u16; SMALL];
-        let mut buffer = [0i32; SMALL_COORDINATES];
-        return Loops::Done(split_loops(
+    if points.len() <= split_loops::SMALL_COORDINATES {
+        let mut heads = [0u16; split_loops::SMALL_HEADS];
+        let mut nexts = [0u16; split_loops::SMALL];
+        let mut seen = [0i32; split_loops::SMALL_COORDINATES];
+        let mut numbers = [0u16; split_loops::SMALL];
+        let mut buffer = [0i32; split_loops::SMALL_COORDINATES];
+        return Loops::Done(split_loops::split_loops(
             points,
             min_area,
             &mut heads,
@@ -87,12 +68,12 @@ pub fn split(points: &[i32], min_area: u64, out: &mut [i32], lengths: &mut [u32]
             lengths,
         ));
     }
-    let mut heads = [0u16; HEADS];
-    let mut nexts = [0u16; MOST];
-    let mut seen = [0i32; COORDINATES];
-    let mut numbers = [0u16; MOST];
-    let mut buffer = [0i32; COORDINATES];
-    Loops::Done(split_loops(
+    let mut heads = [0u16; split_loops::HEADS];
+    let mut nexts = [0u16; split_loops::MOST];
+    let mut seen = [0i32; split_loops::COORDINATES];
+    let mut numbers = [0u16; split_loops::MOST];
+    let mut buffer = [0i32; split_loops::COORDINATES];
+    Loops::Done(split_loops::split_loops(
         points,
         min_area,
         &mut heads,

@@ -30,7 +30,7 @@ use Rattle.clip_walk.specs.Walk.{goesOn, follow, pathFrom, pathsFrom, walk}
 use Rattle.clip_paths.specs.Paths.{through, finished, pathPoints, clipPaths, stepsFrom, stepsOfPath, stepsOf, travelOf, totals}
 use Rattle.string_clip.specs.Run.{clipOutcome}
 use Rattle.bin_store.specs.Sightings.{isSighted, numberOf, sight}
-use Rattle.string_split.specs.Loops.{closed, bufferPoint, bufferPoints, rest, allLoops, splitLoops}
+use Rattle.split_loops.specs.Loops.{closed, bufferPoint, bufferPoints, rest, allLoops, splitLoops}
 use Rattle.string_split.specs.Run as split
 use Rattle.slice_walk.specs.Walk.{rotated, isWide, isNearer, moveFrom, nearest, findNearest, till, walkFrom, walksFrom, walks, directionOf, walkPoints}
 use Rattle.contour.specs.Contour.{contourOf}

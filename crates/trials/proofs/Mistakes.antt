@@ -21,7 +21,7 @@ use Rattle.moves.specs.Begins.{firstRemaining, bothMoves, begins}
 use Rattle.clip_walk.specs.Walk.{goesOn, follow, pathFrom, pathsFrom, walk}
 use Rattle.clip_paths.specs.Paths.{through, finished, pathPoints, clipPaths}
 use Rattle.bin_store.specs.Sightings.{isSighted, numberOf, sight}
-use Rattle.string_split.specs.Loops.{closed, bufferPoint, bufferPoints, rest, allLoops}
+use Rattle.split_loops.specs.Loops.{closed, bufferPoint, bufferPoints, rest, allLoops}
 use Rattle.trials.specs.Mistakes.{forgetful, metToo, fillsToo, Mistakes}
 
 pub mistakes : Mistakes

@@ -30,7 +30,7 @@ use Rattle.string_slice.specs.Contours.{sliceContours}
 use Rattle.string_slice.specs.Run as slice
 use Rattle.string_split.specs.declared.Loops.{Loops}
 use Rattle.string_split.specs.declared.Loops.the-variants as loops-are
-use Rattle.string_split.specs.Loops.{splitLoops}
+use Rattle.split_loops.specs.Loops.{splitLoops}
 use Rattle.string_split.specs.Run as split
 use Rattle.text.specs.declared.Reading.{Reading}
 use Rattle.text.specs.declared.Reading.the-variants as text-is

@@ -22,7 +22,7 @@ use Rattle.ray.specs.Ray.{fills}
 use Rattle.build.specs.declared.filter.Filter.the-variants.{OutsideIncluded, OutsideExcluded}
 use Rattle.clip_paths.specs.Paths.{clipPaths}
 use Rattle.bin_store.specs.Sightings.{Sighting, numberOf, sight}
-use Rattle.string_split.specs.Loops.{Buffered, buffered, bufferPoint, rest, allLoops}
+use Rattle.split_loops.specs.Loops.{Buffered, buffered, bufferPoint, rest, allLoops}
 use Rattle.trials.specs.Trials.{line}
 
 abbrev at : ℤ → ℤ → Point

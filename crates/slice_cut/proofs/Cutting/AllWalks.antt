@@ -13,7 +13,7 @@ use Rattle.lists.specs.Written.{written}
 use Rattle.lists.proofs.Written.{written-part}
 use Rattle.contour.specs.Points.{coordinates}
 use Rattle.contour.proofs.Points.Coordinates.{length-coordinates}
-use Rattle.string_split.specs.Loops.{splitLoops}
+use Rattle.split_loops.specs.Loops.{splitLoops}
 use Rattle.contour.specs.Contour.{Contour, contourOf}
 use Rattle.slice_cut.specs.Cutting.{walkContours, pointsOf, rolesOf, counts, Holds, cutWalks}
 use Rattle.slice_cut.proofs.Cutting.ManyContours.{numbersOf, numbers-++, points-++, points-stay, walks-fit, walks-few, one-walk-more}

@@ -12,7 +12,7 @@ use Rattle.lists.proofs.Members.{in-left, in-right}
 use Rattle.lists.proofs.Sums.{tally-take, tally-part}
 use Rattle.contour.specs.Points.{pairUp, cut, AllInRange}
 use Rattle.contour.proofs.Points.Coordinates.{pairUp-take, pairUp-drop, length-pairs}
-use Rattle.string_split.specs.Splitting.{Splittable}
+use Rattle.split_loops.specs.Splitting.{Splittable}
 use Rattle.slice_cut.specs.Cutting.{pathsIn, Stand}
 
 -- ---- points cut by lengths

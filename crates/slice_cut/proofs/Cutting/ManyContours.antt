@@ -15,8 +15,8 @@ use Rattle.lists.proofs.Written.{written-more, written-past, written-at}
 use Rattle.lists.proofs.Entries.{flatten-++}
 use Rattle.contour.specs.Points.{coordinates}
 use Rattle.contour.proofs.Points.Coordinates.{length-coordinates, coordinates-++}
-use Rattle.string_split.specs.Loops.{splitLoops}
-use Rattle.string_split.proofs.Fits.{loops-fit, loops-few}
+use Rattle.split_loops.specs.Loops.{splitLoops}
+use Rattle.split_loops.proofs.Fits.{loops-fit, loops-few}
 use Rattle.contour.specs.Contour.{Contour, contourOf}
 use Rattle.slice_cut.specs.Cutting.{walkContours, pointsOf, rolesOf, cutWalks}
 use Rattle.contour.proofs.Contour.OneContour.{contour-length}

@@ -11,10 +11,10 @@ use Rattle.geom.specs.declared.Point.{Point}
 use Rattle.lists.specs.Sums.{tally}
 use Rattle.contour.specs.Points.{pairUp}
 use Rattle.contour.proofs.Points.Coordinates.{length-pairs}
-use Rattle.string_split.specs.declared.buffer.LoopTotals.{LoopTotals}
-use Rattle.string_split.specs.Loops.{splitLoops}
-use Rattle.string_split.specs.Run.{loopTotals}
-use Rattle.string_split.proofs.Fits.{loops-fit, loops-few}
+use Rattle.split_loops.specs.declared.buffer.LoopTotals.{LoopTotals}
+use Rattle.split_loops.specs.Loops.{splitLoops}
+use Rattle.split_loops.specs.Splitting.{loopTotals}
+use Rattle.split_loops.proofs.Fits.{loops-fit, loops-few}
 use Rattle.slice_cut.specs.Cutting.{walkContours, pathsIn, Stand, Holds}
 use Rattle.slice_cut.proofs.Cutting.InLists.{length-cut, points-passed, points-in-all, next-place, path-few, path-fits, path-is, length-path, splittable}
 use Rattle.slice_cut.proofs.Cutting.AllWalks.{Cut, none-cut, points-fit, contours-fit, cut-more, all-cut}

@@ -9,9 +9,9 @@ use lib.IntN.{ℤ}
 use Rattle.geom.specs.declared.Point.{Point}
 use Rattle.contour.specs.Points.{pairUp, Writes}
 use Rattle.contour.proofs.Points.Coordinates.{length-pairs}
-use Rattle.string_split.specs.declared.buffer.LoopTotals.{LoopTotals}
-use Rattle.string_split.specs.Loops.{splitLoops}
-use Rattle.string_split.proofs.Fits.{loops-fit, loops-few, loops-near}
+use Rattle.split_loops.specs.declared.buffer.LoopTotals.{LoopTotals}
+use Rattle.split_loops.specs.Loops.{splitLoops}
+use Rattle.split_loops.proofs.Fits.{loops-fit, loops-few, loops-near}
 use Rattle.slice_cut.specs.Cutting.{walkContours, Stand}
 use Rattle.slice_cut.proofs.Cutting.OneWalk.{loops-stand, contours-hold}
 use Rattle.slice_cut.proofs.cut_walk.Statement.{statement}

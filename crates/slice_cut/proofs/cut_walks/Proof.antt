@@ -2,7 +2,7 @@
 use borrow.Author.Needs.{needs}
 use native.Mathlib.Omega.{arith}
 use Rattle.lists.specs.Sums.{tally}
-use Rattle.string_split.proofs.Splitting.{small-working, any-working}
+use Rattle.split_loops.proofs.Splitting.{small-working, any-working}
 use Rattle.slice_cut.proofs.cut_walks.Statement.{statement}
 use Rattle.slice_cut.proofs.cut_walks.Tie as tie
 

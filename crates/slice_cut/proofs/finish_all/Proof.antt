@@ -13,7 +13,7 @@ use Rattle.lists.specs.Sums.{tally}
 use Rattle.lists.specs.Written.{written}
 use Rattle.contour.specs.Points.{coordinates, pairUp}
 use Rattle.contour.proofs.Points.Coordinates.{length-pairs}
-use Rattle.string_split.specs.Splitting.{Splittable}
+use Rattle.split_loops.specs.Splitting.{Splittable}
 use Rattle.contour.specs.Contour.{contourOf}
 use Rattle.slice_cut.specs.Cutting.{rolesOf, pathsIn}
 use Rattle.slice_cut.proofs.Cutting.InLists.{length-cut, points-passed, next-place, path-few, path-fits, path-is, length-path, splittable}

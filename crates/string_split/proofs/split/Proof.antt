@@ -10,12 +10,13 @@ use Rattle.geom.specs.declared.Point.{Point}
 use Rattle.contour.specs.Points.{pairUp, Writes}
 use Rattle.contour.proofs.Points.Coordinates.{length-pairs}
 use Rattle.refusal.specs.declared.Verdict.{Verdict}
-use Rattle.string_split.specs.declared.buffer.LoopTotals.{LoopTotals}
+use Rattle.split_loops.specs.declared.buffer.LoopTotals.{LoopTotals}
 use Rattle.string_split.specs.declared.Loops.the-variants.{Done}
-use Rattle.string_split.specs.Loops.{splitLoops}
-use Rattle.string_split.specs.Run.{loopTotals, Lists, lists, outcome, answered, splitOutcome}
+use Rattle.split_loops.specs.Loops.{splitLoops}
+use Rattle.split_loops.specs.Splitting.{loopTotals}
+use Rattle.string_split.specs.Run.{Lists, lists, outcome, answered, splitOutcome}
 use Rattle.string_split.proofs.Run.{AcceptedSplit, accepted-split}
-use Rattle.string_split.proofs.Splitting.{small-working, any-working}
+use Rattle.split_loops.proofs.Splitting.{small-working, any-working}
 use Rattle.string_split.proofs.split.Statement.{statement}
 use Rattle.string_split.proofs.split.Tie as tie
 

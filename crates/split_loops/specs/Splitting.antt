@@ -7,7 +7,7 @@ use lib.IntN.{ℤ}
 use Rattle.geom.specs.declared.Point.{Point}
 use Rattle.lists.specs.Written.{written}
 use Rattle.contour.specs.Points.{coordinates, pairUp, AllInRange}
-use Rattle.string_split.specs.declared.buffer.LoopTotals.{LoopTotals}
+use Rattle.split_loops.specs.declared.buffer.LoopTotals.{LoopTotals}
 
 -- the first n points of a list of numbers
 abbrev pub firstPoints : ℕ → List ℤ → List Point
@@ -34,3 +34,7 @@ pub record Splittable (points : List ℤ) : Type 0 where
   pub whole : length points % 2 ≡ 0
   pub few : length points ≤ 4096
   pub near : AllInRange (pairUp points)
+
+-- how many loops and points there are
+abbrev pub loopTotals : List (List Point) → LoopTotals
+loopTotals loops = record { loops = length loops; points = length (flatten loops) }

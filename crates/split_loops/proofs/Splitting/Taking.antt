@@ -16,12 +16,11 @@ use Rattle.lists.proofs.Members.{keep-++, length-keep}
 use Rattle.contour.specs.Points.{coordinates, origin, AllInRange, Writes}
 use Rattle.contour.specs.Area.{isLarge}
 use Rattle.bin_store.specs.Sightings.{Sighting, numberOf, sight}
-use Rattle.string_split.specs.declared.buffer.LoopTotals.{LoopTotals}
-use Rattle.string_split.specs.Loops.{Buffered, buffered, bufferPoint, bufferPoints}
-use Rattle.string_split.specs.Run.{loopTotals}
-use Rattle.string_split.specs.Splitting.{Adds}
-use Rattle.string_split.proofs.Splitting.{totals-on, writes-on}
-use Rattle.string_split.proofs.Fits.{Fit, buffer-fit, fit-on, buffer-near, length-flatten-keep}
+use Rattle.split_loops.specs.declared.buffer.LoopTotals.{LoopTotals}
+use Rattle.split_loops.specs.Loops.{Buffered, buffered, bufferPoint, bufferPoints}
+use Rattle.split_loops.specs.Splitting.{loopTotals, Adds}
+use Rattle.split_loops.proofs.Splitting.{totals-on, writes-on}
+use Rattle.split_loops.proofs.Fits.{Fit, buffer-fit, fit-on, buffer-near, length-flatten-keep}
 
 -- after i points the loops of these are done, and the memory and the buffer decide the others
 pub record Taking (least : ℕ) (points : List Point) (out₀ : List ℤ) (lengths₀ : List ℕ) (memory : List Sighting) (buffer : List Point) (out : List ℤ) (lengths : List ℕ) (found : LoopTotals) (i : ℕ) : Type 0 where

@@ -17,7 +17,7 @@ use Rattle.contour.proofs.Area.{near-all}
 use Rattle.contour.specs.Points.{AllInRange}
 use Rattle.contour.specs.Area.{isLarge}
 use Rattle.bin_store.specs.Sightings.{Sighting, numberOf, sight}
-use Rattle.string_split.specs.Loops.{closed, Buffered, buffered, bufferPoint, bufferPoints, rest, allLoops, splitLoops}
+use Rattle.split_loops.specs.Loops.{closed, Buffered, buffered, bufferPoint, bufferPoints, rest, allLoops, splitLoops}
 
 -- ---- how many
 -- the loops' points and the buffer's are at most n, and every loop has points

@@ -11,9 +11,8 @@ ghost use Rattle.lists.specs.Members.{keep};
 ghost use Rattle.contour.specs.Points.{pairUp, AllInRange, Writes};
 ghost use Rattle.contour.specs.Area.{isLarge};
 ghost use Rattle.bin_store.specs.Bins.{Binned};
-ghost use Rattle.string_split.specs.Loops.{bufferPoint, bufferPoints, rest, splitLoops};
-ghost use Rattle.string_split.specs.Run.{loopTotals};
-ghost use Rattle.string_split.specs.Splitting.{firstPoints, Adds, Working, Splittable};
+ghost use Rattle.split_loops.specs.Loops.{bufferPoint, bufferPoints, rest, splitLoops};
+ghost use Rattle.split_loops.specs.Splitting.{loopTotals, firstPoints, Adds, Working, Splittable};
 
 // How many loops and points were written.
 pub struct LoopTotals {

@@ -10,11 +10,11 @@ use Rattle.lists.specs.Members.{keep}
 use Rattle.contour.specs.Points.{pairUp}
 use Rattle.contour.specs.Area.{isLarge}
 use Rattle.contour.proofs.Points.Coordinates.{length-pairs}
-use Rattle.string_split.specs.Splitting.{Adds}
-use Rattle.string_split.proofs.Splitting.{adds-none}
-use Rattle.string_split.proofs.OnePoint.{no-rest, one-rest}
-use Rattle.string_split.proofs.buffer.add_rest.Statement.{statement}
-use Rattle.string_split.proofs.buffer.add_rest.Tie as tie
+use Rattle.split_loops.specs.Splitting.{Adds}
+use Rattle.split_loops.proofs.Splitting.{adds-none}
+use Rattle.split_loops.proofs.OnePoint.{no-rest, one-rest}
+use Rattle.split_loops.proofs.buffer.add_rest.Statement.{statement}
+use Rattle.split_loops.proofs.buffer.add_rest.Tie as tie
 
 returns : tie.Need-returns
 unfolding keep

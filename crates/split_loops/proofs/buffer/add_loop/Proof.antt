@@ -11,11 +11,11 @@ use Rattle.geom.specs.declared.Point.{Point}
 use Rattle.lists.specs.Members.{keep}
 use Rattle.contour.specs.Points.{pairUp}
 use Rattle.contour.specs.Area.{isLarge}
-use Rattle.string_split.specs.declared.buffer.LoopTotals.{LoopTotals}
-use Rattle.string_split.specs.Splitting.{Adds}
-use Rattle.string_split.proofs.Splitting.{keep-one, adds-none, adds-one}
-use Rattle.string_split.proofs.buffer.add_loop.Statement.{statement}
-use Rattle.string_split.proofs.buffer.add_loop.Tie as tie
+use Rattle.split_loops.specs.declared.buffer.LoopTotals.{LoopTotals}
+use Rattle.split_loops.specs.Splitting.{Adds}
+use Rattle.split_loops.proofs.Splitting.{keep-one, adds-none, adds-one}
+use Rattle.split_loops.proofs.buffer.add_loop.Statement.{statement}
+use Rattle.split_loops.proofs.buffer.add_loop.Tie as tie
 
 is-large-requires : tie.Need-is-large-requires
 is-large-requires c κs = search needs

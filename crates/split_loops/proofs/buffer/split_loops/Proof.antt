@@ -14,14 +14,13 @@ use Rattle.contour.specs.Points.{pairUp, AllInRange, Writes}
 use Rattle.contour.specs.Area.{isLarge}
 use Rattle.contour.proofs.Points.Coordinates.{length-pairs, pairUp-take}
 use Rattle.bin_store.specs.Bins.{Binned}
-use Rattle.string_split.specs.declared.buffer.LoopTotals.{LoopTotals}
-use Rattle.string_split.specs.Loops.{Buffered, bufferPoints, rest, allLoops, splitLoops}
-use Rattle.string_split.specs.Run.{loopTotals}
-use Rattle.string_split.specs.Splitting.{Splittable}
-use Rattle.string_split.proofs.Splitting.{totals-on, writes-on}
-use Rattle.string_split.proofs.Fits.{buffers-fit, buffers-near, length-flatten-keep}
-use Rattle.string_split.proofs.buffer.split_loops.Statement.{statement}
-use Rattle.string_split.proofs.buffer.split_loops.Tie as tie
+use Rattle.split_loops.specs.declared.buffer.LoopTotals.{LoopTotals}
+use Rattle.split_loops.specs.Loops.{Buffered, bufferPoints, rest, allLoops, splitLoops}
+use Rattle.split_loops.specs.Splitting.{loopTotals, Splittable}
+use Rattle.split_loops.proofs.Splitting.{totals-on, writes-on}
+use Rattle.split_loops.proofs.Fits.{buffers-fit, buffers-near, length-flatten-keep}
+use Rattle.split_loops.proofs.buffer.split_loops.Statement.{statement}
+use Rattle.split_loops.proofs.buffer.split_loops.Tie as tie
 
 add-bins : tie.Need-add-bins
 add-bins c = search needs

@@ -10,15 +10,14 @@ use lib.IntN.{ℤ, pos}
 use Rattle.geom.specs.declared.Point.{Point}
 use Rattle.contour.specs.Points.{pairUp, coordinates, Writes}
 use Rattle.contour.proofs.Points.Coordinates.{pairUp-take, pairUp-drop, length-pairs, pairs-set, coordinates-pairs}
-use Rattle.string_split.specs.Splitting.{firstPoints, Adds, Working}
+use Rattle.split_loops.specs.Splitting.{firstPoints, Adds, Working, loopTotals}
 use native.Mathlib.Numerals.{add-one}
 use Rattle.lists.specs.Members.{keep}
 use Rattle.lists.specs.Written.{written}
 use Rattle.lists.proofs.Written.{part-back}
 use Rattle.lists.proofs.Entries.{flatten-++}
 use Rattle.contour.proofs.Points.Written.{writes-more}
-use Rattle.string_split.specs.declared.buffer.LoopTotals.{LoopTotals}
-use Rattle.string_split.specs.Run.{loopTotals}
+use Rattle.split_loops.specs.declared.buffer.LoopTotals.{LoopTotals}
 pub mod Taking
 
 -- ---- the first points

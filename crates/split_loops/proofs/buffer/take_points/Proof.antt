@@ -19,14 +19,13 @@ use Rattle.contour.proofs.Points.Coordinates.{length-pairs}
 use Rattle.bin_store.specs.Sightings.{Sighting, numberOf, sight}
 use Rattle.bin_store.specs.Bins.{memory, Binned}
 use Rattle.bin_store.proofs.Bins.Items.{none-sighted}
-use Rattle.string_split.specs.declared.buffer.LoopTotals.{LoopTotals}
-use Rattle.string_split.specs.Loops.{Buffered, bufferPoint}
-use Rattle.string_split.specs.Run.{loopTotals}
-use Rattle.string_split.specs.Splitting.{firstPoints, Adds}
-use Rattle.string_split.proofs.OnePoint.{length-buffered}
-use Rattle.string_split.proofs.Splitting.Taking.{Taking, none-taken, few-points, few-loops, taken-more, all-taken}
-use Rattle.string_split.proofs.buffer.take_points.Statement.{statement}
-use Rattle.string_split.proofs.buffer.take_points.Tie as tie
+use Rattle.split_loops.specs.declared.buffer.LoopTotals.{LoopTotals}
+use Rattle.split_loops.specs.Loops.{Buffered, bufferPoint}
+use Rattle.split_loops.specs.Splitting.{loopTotals, firstPoints, Adds}
+use Rattle.split_loops.proofs.OnePoint.{length-buffered}
+use Rattle.split_loops.proofs.Splitting.Taking.{Taking, none-taken, few-points, few-loops, taken-more, all-taken}
+use Rattle.split_loops.proofs.buffer.take_points.Statement.{statement}
+use Rattle.split_loops.proofs.buffer.take_points.Tie as tie
 
 record State (least : ℕ) (points : List Point) (heads₀ nexts₀ : List ℕ) (seen₀ : List ℤ) (numbers₀ : List ℕ) (buffer₀ out₀ : List ℤ) (lengths₀ heads nexts : List ℕ) (seen : List ℤ) (numbers : List ℕ) (buffer out : List ℤ) (lengths : List ℕ) (found : LoopTotals) (count len i : ℕ) : Type 0 where
   taking : Taking least points out₀ lengths₀ (memory count seen numbers) (firstPoints len buffer) out lengths found i

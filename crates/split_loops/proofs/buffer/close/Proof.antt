@@ -11,13 +11,13 @@ use Rattle.geom.specs.declared.Point.{Point}
 use Rattle.lists.specs.Members.{keep}
 use Rattle.contour.specs.Points.{pairUp, AllInRange}
 use Rattle.contour.specs.Area.{isLarge}
-use Rattle.string_split.specs.Loops.{bufferPoint}
-use Rattle.string_split.specs.Splitting.{firstPoints, Adds, Splittable}
-use Rattle.string_split.proofs.Splitting.{adds-none, length-firstPoints, put-firstPoints, part-firstPoints}
-use Rattle.string_split.proofs.Fits.{near-more, near-drop}
-use Rattle.string_split.proofs.OnePoint.{buffer-front, none-closed, one-closed}
-use Rattle.string_split.proofs.buffer.close.Statement.{statement}
-use Rattle.string_split.proofs.buffer.close.Tie as tie
+use Rattle.split_loops.specs.Loops.{bufferPoint}
+use Rattle.split_loops.specs.Splitting.{firstPoints, Adds, Splittable}
+use Rattle.split_loops.proofs.Splitting.{adds-none, length-firstPoints, put-firstPoints, part-firstPoints}
+use Rattle.split_loops.proofs.Fits.{near-more, near-drop}
+use Rattle.split_loops.proofs.OnePoint.{buffer-front, none-closed, one-closed}
+use Rattle.split_loops.proofs.buffer.close.Statement.{statement}
+use Rattle.split_loops.proofs.buffer.close.Tie as tie
 
 put-point-requires : tie.Need-put-point-requires
 put-point-requires c κs = search needs

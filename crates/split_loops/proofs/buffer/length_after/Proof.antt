@@ -2,8 +2,8 @@
 use borrow.Author.Needs.{needs}
 use borrow.Author.Tests.{lt-ltb, le-ltb}
 use native.Mathlib.Numerals.{add-one}
-use Rattle.string_split.proofs.buffer.length_after.Statement.{statement}
-use Rattle.string_split.proofs.buffer.length_after.Tie as tie
+use Rattle.split_loops.proofs.buffer.length_after.Statement.{statement}
+use Rattle.split_loops.proofs.buffer.length_after.Tie as tie
 
 add-result : tie.Need-add-result
 add-result c = search needs

@@ -9,7 +9,7 @@ use lib.ListN.{length, take, drop, length-append, length-drop}
 use lib.Seq.{length-take-le, take-append-le, drop-append-le, take-take}
 use borrow.Author.Tests.{ltb-true, lt-ltb, le-ltb}
 use Rattle.geom.specs.declared.Point.{Point}
-use Rattle.string_split.specs.Loops.{closed, Buffered, buffered, bufferPoint, rest}
+use Rattle.split_loops.specs.Loops.{closed, Buffered, buffered, bufferPoint, rest}
 
 module _ (number : ℕ) (buffer : List Point) (p : Point) where
   -- by the test

@@ -1,0 +1,3 @@
+pub mod Fits
+pub mod OnePoint
+pub mod Splitting

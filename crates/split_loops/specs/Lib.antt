@@ -1,0 +1,2 @@
+pub mod Loops
+pub mod Splitting
