@@ -1,6 +1,6 @@
 //! Each call on a thread with just as much stack as `overlay.h` says that it needs.
 
-use jumperclay::{clip, fills, slice, split, ClipRule, Direction, Rule, MOST_SEGMENTS, WIDTH};
+use jumperclay::{clip, fills, read, slice, split, ClipRule, Direction, Rule, MOST_SEGMENTS, WIDTH};
 use std::thread;
 
 /// Bytes, as said in `overlay.h`: of a small drawing, with up to 128 segments, and of any.
@@ -8,6 +8,7 @@ const FILLS: [usize; 2] = [26 << 10, 54 << 10];
 const CLIP: [usize; 2] = [29 << 10, 57 << 10];
 const SLICE: [usize; 2] = [73 << 10, 78 << 10];
 const SPLIT: [usize; 2] = [45 << 10; 2];
+const READ: usize = 1 << 10;
 /// What the thread and the safe function around the call take for themselves.
 const BESIDE: usize = 8 << 10;
 
@@ -60,4 +61,13 @@ fn points() {
         let points: Vec<i32> = (0..2 * segments as i32).flat_map(|k| [k % 7, k % 11]).collect();
         assert!(on_a_thread(SPLIT[size], move || split(&points, 0).is_ok()));
     }
+}
+
+#[test]
+fn texts() {
+    let drawing = squares(MOST_SEGMENTS);
+    let line = |numbers: &[i32]| numbers.iter().map(i32::to_string).collect::<Vec<_>>().join(",") + "\n";
+    let text: String = [line(&[1, 0, 1])].into_iter().chain(drawing.chunks(WIDTH).map(line)).collect();
+    let segments = on_a_thread(READ, move || read(text.as_bytes()).map(|text| text.segments));
+    assert_eq!(segments.ok(), Some(drawing));
 }

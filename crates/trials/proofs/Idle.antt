@@ -39,13 +39,13 @@ use Rattle.moves.specs.Begins.{firstRemaining, bothMoves, begins}
 use Rattle.clip_walk.specs.Walk.{goesOn, follow, pathFrom, pathsFrom, walk}
 use Rattle.clip_paths.specs.Paths.{through, finished, pathPoints, clipPaths, stepsFrom, stepsOfPath, stepsOf, travelOf, totals}
 use Rattle.string_clip.specs.Run.{Outcome, output, clipOutcome}
-use Rattle.clip_claim.specs.Claim.{Direction, along, drawn, travelled, ownSteps, ownTravel, times, enough, rayKeeps}
+use Rattle.clip_claim.specs.Claim.{Direction, along, drawn, travelled, ownSteps, ownTravel, times, enough, rayKeeps, InsideAndOutside}
 use Rattle.clip_claim.proofs.Claim.Together.{count-some}
 use Rattle.slice_walk.specs.Walk.{walks}
 use Rattle.string_slice.specs.declared.Sliced.the-variants as slice-is
 use Rattle.string_slice.specs.Contours.{sideBits, sliceContours}
 use Rattle.string_slice.specs.Run as slice
-use Rattle.trials.specs.Idle.{bare, along-it, Holds, Idle}
+use Rattle.trials.specs.Idle.{bare, upright, along-it, Holds, Idle}
 
 -- ---- the bare line
 the-segment : Segment
@@ -114,6 +114,25 @@ canned path differs inside outside e f h = go (h .once the-line is-drawn)
     go (inl (m, n)) = no-clash (none-counted (output inside) e σ) m
     go (inr (m, n)) = differs (its-own path own (rw (f, only-drawn the-line is-drawn) at n))
 
+-- ---- another line
+upright-step : (δ : Direction) → δ ∈ drawn (segments upright) → travelled δ .end .x ≡ pos 0
+unfolding drawn segments segmentsOf front count whole has travelled asDrawn
+upright-step δ (inl e) = ap (λ (ε : Direction). travelled ε .end .x) e
+
+other-line : (inside outside : Outcome) → Holds inside outside → ¬ InsideAndOutside (segments upright) (ruleOf (pos 1)) (pos 1) inside outside
+unfolding travelled asDrawn the-segment
+other-line inside outside h g = go (h .once the-line is-drawn)
+  where
+    σ : Step
+    σ = travelled the-line
+
+    clash : (σ ∈ stepsOf (output inside)) ⊎ (σ ∈ stepsOf (output outside)) → ⊥
+    clash m = let r = g .no-other σ m in omega (arith, ap natAbs (ap (λ (τ : Step). τ .end .x) (r .2) ∙ upright-step (r .0) (r .1)))
+
+    go : ((times σ (stepsOf (output inside)) ≡ 1) × (times σ (stepsOf (output outside)) ≡ 0)) ⊎ ((times σ (stepsOf (output inside)) ≡ 0) × (times σ (stepsOf (output outside)) ≡ 1)) → ⊥
+    go (inl (m, n)) = clash (inl (count-some σ (stepsOf (output inside)) (omega arith)))
+    go (inr (m, n)) = clash (inr (count-some σ (stepsOf (output outside)) (omega arith)))
+
 -- ---- 12
 -- no refusal from the input is 12
 not-twelve : (r : Run) (number place : ℕ) → Fits r number place → number ≢ 12
@@ -151,6 +170,7 @@ unfolding accepts eqZ within ltP eqP coordinate inRange cross between any sum ta
 idle = record {
   accepted = refl;
   no-cuts = λ inside outside e f. none-outside inside outside f;
+  canned = other-line;
   canned-inside = λ path n inside outside e f. none-outside inside outside f;
   canned-outside = canned;
   each-alone = λ e. omega (arith, ap (λ o. o .numbers .totals .paths) e);

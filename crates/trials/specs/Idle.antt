@@ -26,6 +26,10 @@ use Rattle.trials.specs.Trials.{line, clipOf, finds, verdictOn}
 abbrev pub bare : List ℤ
 bare = line (pos 0) (pos 0) (pos 2) (pos 0) (pos 1)
 
+-- another line, from (0,0) to (0,2)
+abbrev pub upright : List ℤ
+upright = line (pos 0) (pos 0) (pos 0) (pos 2) (pos 1)
+
 -- two lines, one going on where the other ends
 abbrev pub joined : List ℤ
 joined = line (pos 0) (pos 0) (pos 1) (pos 0) (pos 1) ++ line (pos 1) (pos 0) (pos 2) (pos 0) (pos 1)
@@ -44,7 +48,8 @@ pub record Idle : Type 0 where
   pub accepted : accepts bare (pos 1) (pos 0) (pos 1) ≡ true
   -- no cuts ever
   pub no-cuts : (inside outside : Outcome) → output inside ≡ [] → output outside ≡ [] → ¬ Holds inside outside
-  -- or one canned path: none but the line's own, inside or outside
+  -- or one canned path: no two outputs serve two drawings, and of this one none but the line's own path does, inside or outside
+  pub canned : (inside outside : Outcome) → Holds inside outside → ¬ InsideAndOutside (segments upright) (ruleOf (pos 1)) (pos 1) inside outside
   pub canned-inside : (path : List Point) → path ≢ along-it → (inside outside : Outcome) → output inside ≡ path ∷ [] → output outside ≡ [] → ¬ Holds inside outside
   pub canned-outside : (path : List Point) → path ≢ along-it → (inside outside : Outcome) → output inside ≡ [] → output outside ≡ path ∷ [] → ¬ Holds inside outside
   -- each segment handed back as a path of its own: the two lines are one path
