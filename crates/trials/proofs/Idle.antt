@@ -38,14 +38,15 @@ use Rattle.moves.specs.Moves.{Move, remains, taken, takenAll, bitsRemaining, ov
 use Rattle.moves.specs.Begins.{firstRemaining, bothMoves, begins}
 use Rattle.clip_walk.specs.Walk.{goesOn, follow, pathFrom, pathsFrom, walk}
 use Rattle.clip_paths.specs.Paths.{through, finished, pathPoints, clipPaths, stepsFrom, stepsOfPath, stepsOf, travelOf, totals}
-use Rattle.string_clip.specs.Run.{Outcome, output, clipOutcome}
+use Rattle.string_clip.specs.Run.{lists, Room, Outcome, output, clipOutcome}
 use Rattle.clip_claim.specs.Claim.{Direction, along, drawn, travelled, ownSteps, ownTravel, times, enough, rayKeeps, InsideAndOutside}
-use Rattle.clip_claim.proofs.Claim.Together.{count-some}
+use Rattle.clip_claim.proofs.Claim.Together.{count-some, insideAndOutside}
 use Rattle.slice_walk.specs.Walk.{walks}
 use Rattle.string_slice.specs.declared.Sliced.the-variants as slice-is
 use Rattle.string_slice.specs.Contours.{sideBits, sliceContours}
 use Rattle.string_slice.specs.Run as slice
-use Rattle.trials.specs.Idle.{bare, upright, along-it, Holds, Idle}
+use Rattle.trials.specs.Trials.{held, heldNumbers}
+use Rattle.trials.specs.Idle.{bare, upright, linePath, Holds, Idle}
 
 -- ---- the bare line
 the-segment : Segment
@@ -89,9 +90,18 @@ none-outside inside outside e h = go (h .once the-line is-drawn)
     go (inl (m, n)) = let z : true ≡ false = sym (h .by-the-ray the-line is-drawn .0 (count-some σ (stepsOf (output inside)) (omega arith))) ∙ not-kept in let y : _≡_ {A = ℕ} 0 1 = cc in omega arith
     go (inr (m, n)) = no-clash (none-counted (output outside) e σ) n
 
+-- ---- the runs themselves
+bare-accepted : accepts bare (pos 1) (pos 0) (pos 1) ≡ true
+unfolding accepts eqZ within ltP eqP coordinate inRange cross between any sum front segmentsOf count whole segments segmentAt total side parts inInterior sameEnds meetsWrongly endsInRange rises windingInRange bitsInRange fault faultAt meetingAt balance balances unbalancedAt wrongLength unknownChoice tooShort firstFrom first asked askedFirst drawingVerdict faultsOf meetingsOf unbalancedOf verdict clipRun
+bare-accepted = refl
+
+bare-room : Room bare (lists (heldNumbers 8) (held 2))
+unfolding segments segmentsOf front count whole upFrom
+bare-room = record { points-fit = omega arith; lengths-fit = omega arith }
+
 -- ---- a canned path
 -- a path of which each step is the line's, and one is, is the line
-its-own : (path : List Point) → ((σ : Step) → σ ∈ stepsOf (path ∷ []) → σ ≡ its-step) → times its-step (stepsOf (path ∷ [])) ≡ 1 → path ≡ along-it
+its-own : (path : List Point) → ((σ : Step) → σ ∈ stepsOf (path ∷ []) → σ ≡ its-step) → times its-step (stepsOf (path ∷ [])) ≡ 1 → path ≡ linePath
 unfolding stepsOf stepsOfPath stepsFrom times tally the-segment
 its-own [] own n = absurd (omega arith)
 its-own (p ∷ []) own n = absurd (omega arith)
@@ -101,7 +111,7 @@ its-own (p ∷ q ∷ r ∷ l) own n =
     let f = own (step q r) (inr (inl refl)) in
     absurd (omega (arith, ap (λ (σ : Step). natAbs (σ .end .x)) e, ap (λ (σ : Step). natAbs (σ .start .x)) f))
 
-canned : (path : List Point) → path ≢ along-it → (inside outside : Outcome) → output inside ≡ [] → output outside ≡ path ∷ [] → ¬ Holds inside outside
+canned : (path : List Point) → path ≢ linePath → (inside outside : Outcome) → output inside ≡ [] → output outside ≡ path ∷ [] → ¬ Holds inside outside
 canned path differs inside outside e f h = go (h .once the-line is-drawn)
   where
     σ : Step
@@ -168,7 +178,8 @@ moves-found numbers rule direction least ls found e place f = go (verdict r) ref
 pub idle : Idle
 unfolding accepts eqZ within ltP eqP coordinate inRange cross between any sum tally keep written upFrom front segmentsOf count whole segments segmentAt total coordinates side parts inInterior sameEnds meetsWrongly endsInRange rises windingInRange bitsInRange fault faultAt meetingAt balance balances unbalancedAt wrongLength unknownChoice tooShort firstFrom first asked askedFirst drawingVerdict faultsOf meetingsOf unbalancedOf verdict clipRun spans above clockwise met bottom top filled ruleOf fillOf fill sidesSet keepsSides keeps filterOf keptLinks node has clear asDrawn remains taken takenAll bitsRemaining firstRemaining bothMoves begins way over other fitting goesOn follow pathFrom pathsFrom walk through finished pathPoints clipPaths stepsFrom stepsOfPath stepsOf travelOf travel totals clipOutcome flatten drawn ownSteps ownTravel
 idle = record {
-  accepted = refl;
+  accepted = bare-accepted;
+  runs-hold = insideAndOutside bare (pos 1) (pos 1) bare-accepted _ _ bare-room bare-room .0;
   no-cuts = λ inside outside e f. none-outside inside outside f;
   canned = other-line;
   canned-inside = λ path n inside outside e f. none-outside inside outside f;

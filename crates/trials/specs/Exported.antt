@@ -1,7 +1,6 @@
 -- What C is handed, by worked cases: of each exported function a refusal and an answer, with no two of its numbers the same where the case allows it.
 use mathlib.Core.Path.{_≡_}
-use mathlib.Core.List.{List, [], _∷_, _++_, map}
-use Prim.Native.Nat.{ℕ}
+use mathlib.Core.List.{List, [], _∷_, _++_}
 use lib.ListN.{drop}
 use lib.IntN.{ℤ, pos, negsuc}
 use Rattle.decimal.proofs.Spelled.{bytes}

@@ -39,19 +39,20 @@ abbrev pub Holds : Outcome → Outcome → Type 0
 Holds inside outside = InsideAndOutside (segments bare) (ruleOf (pos 1)) (pos 1) inside outside
 
 -- the path along the line
-abbrev pub along-it : List Point
-along-it = record { x = pos 0; y = pos 0 } ∷ record { x = pos 2; y = pos 0 } ∷ []
+abbrev pub linePath : List Point
+linePath = record { x = pos 0; y = pos 0 } ∷ record { x = pos 2; y = pos 0 } ∷ []
 
 -- ---- the list
 pub record Idle : Type 0 where
-  -- the drawing is accepted, so the claim is made of it
+  -- the drawing is accepted, and of the two runs themselves the claim holds
   pub accepted : accepts bare (pos 1) (pos 0) (pos 1) ≡ true
+  pub runs-hold : Holds (clipOf (pos 0) 1 bare) (clipOf (pos 1) 1 bare)
   -- no cuts ever
   pub no-cuts : (inside outside : Outcome) → output inside ≡ [] → output outside ≡ [] → ¬ Holds inside outside
   -- or one canned path: no two outputs serve two drawings, and of this one none but the line's own path does, inside or outside
   pub canned : (inside outside : Outcome) → Holds inside outside → ¬ InsideAndOutside (segments upright) (ruleOf (pos 1)) (pos 1) inside outside
-  pub canned-inside : (path : List Point) → path ≢ along-it → (inside outside : Outcome) → output inside ≡ path ∷ [] → output outside ≡ [] → ¬ Holds inside outside
-  pub canned-outside : (path : List Point) → path ≢ along-it → (inside outside : Outcome) → output inside ≡ [] → output outside ≡ path ∷ [] → ¬ Holds inside outside
+  pub canned-inside : (path : List Point) → path ≢ linePath → (inside outside : Outcome) → output inside ≡ path ∷ [] → output outside ≡ [] → ¬ Holds inside outside
+  pub canned-outside : (path : List Point) → path ≢ linePath → (inside outside : Outcome) → output inside ≡ [] → output outside ≡ path ∷ [] → ¬ Holds inside outside
   -- each segment handed back as a path of its own: the two lines are one path
   pub each-alone : clipOf (pos 1) 2 joined ≢ finds 2 2 4 2 2 (pos 0 ∷ pos 0 ∷ pos 1 ∷ pos 0 ∷ pos 1 ∷ pos 0 ∷ pos 2 ∷ pos 0 ∷ []) (2 ∷ 2 ∷ [])
   -- an inside run holding all lines and an empty outside one: the ray fills neither side of the line
