@@ -142,8 +142,8 @@ fn check_ends(
 }
 
 // The verdict on a small drawing, unless something was refused before. An accepted drawing's nodes and top counts are left in the lists, which are working
-// memory of the run that comes; after a refusal they hold anything. What only the check needs it owns, by size: a run calls this one or the next, so that a small
-// drawing has only the memory of its size on the stack.
+// memory of the run that comes; after a refusal they hold anything. What only the check needs it owns, by size: a run calls this one or the next, so that of
+// this memory a small drawing has no more on the stack than it needs.
 pub fn check_small(
     before: Verdict,
     s: &[i32],
