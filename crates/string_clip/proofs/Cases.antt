@@ -62,7 +62,7 @@ abbrev thereAndBack : List ℤ
 thereAndBack = segment (pos 0) (pos 0) (pos 1) (pos 0) (pos 0) (pos 3)
 
 -- a square with a line on its bottom edge
-abbrev edged : List ℤ
+abbrev pub edged : List ℤ
 edged =
     segment (pos 0) (pos 0) (pos 0) (pos 2) (negsuc 0) (pos 0)
     ++ segment (pos 0) (pos 0) (pos 2) (pos 0) (pos 1) (pos 1)

@@ -13,7 +13,7 @@ use Rattle.geom.specs.Points.{eqP}
 use Rattle.lists.specs.Members.{keep}
 use Rattle.segm.specs.declared.Segment.{Segment}
 use Rattle.segm.specs.Segments.{Drawing, segments, total}
-use Rattle.segm.specs.CaseA.{segment, A}
+use Rattle.segm.specs.CaseA.{A}
 use Rattle.fill_rule.specs.declared.Rule.{Rule}
 use Rattle.fill_rule.specs.declared.Rule.the-variants.{NonZero}
 use Rattle.fill_rule.specs.FillRule.{fillOf}
@@ -23,24 +23,11 @@ use Rattle.build.specs.declared.filter.Filter.the-variants.{OutsideIncluded, Ou
 use Rattle.clip_paths.specs.Paths.{clipPaths}
 use Rattle.bin_store.specs.Sightings.{Sighting, numberOf, sight}
 use Rattle.split_loops.specs.Loops.{Buffered, buffered, bufferPoint, rest, allLoops}
-use Rattle.trials.specs.Trials.{line}
+use Rattle.string_clip.proofs.Cases.{edged}
+use Rattle.trials.specs.Trials.{forked}
 
 abbrev at : ℤ → ℤ → Point
 at x y = record { x = x; y = y }
-
--- ---- a line along the outline, boundary included
--- a square with a line on its bottom edge
-abbrev pub edged : List ℤ
-edged =
-    segment (pos 0) (pos 0) (pos 0) (pos 2) (negsuc 0) (pos 0)
-    ++ segment (pos 0) (pos 0) (pos 2) (pos 0) (pos 1) (pos 1)
-    ++ segment (pos 0) (pos 2) (pos 2) (pos 2) (negsuc 0) (pos 0)
-    ++ segment (pos 2) (pos 0) (pos 2) (pos 2) (pos 1) (pos 0)
-
--- ---- a walk at its first point
--- two lines that start at (0,0), the second drawn towards it
-abbrev pub forked : List ℤ
-forked = line (pos 0) (pos 0) (pos 2) (negsuc 0) (pos 1) ++ line (pos 0) (pos 0) (pos 2) (pos 1) (pos 2)
 
 -- ---- sightings after a cut
 -- A, B and so on
@@ -70,7 +57,7 @@ fillsToo rule d = map (λ (i : Segment). let bottom = total (metToo i) d in fill
 
 -- ---- the cases
 pub record Mistakes : Type 0 where
-  -- keeping edge lines outside with boundary included: only outside excluded keeps them
+  -- keeping edge lines outside with boundary included (a square with a line on its bottom edge): only outside excluded keeps them
   pub edge-not-kept : clipPaths NonZero OutsideIncluded (segments edged) ≡ []
   pub edge-kept : clipPaths NonZero OutsideExcluded (segments edged) ≡ (at (pos 0) (pos 0) ∷ at (pos 2) (pos 0) ∷ []) ∷ []
   -- extending a walk at its first point: the second line is no part of the first one's path

@@ -22,6 +22,10 @@ use Rattle.string_split.specs.Run as split
 abbrev pub line : ℤ → ℤ → ℤ → ℤ → ℤ → List ℤ
 line ax ay bx by bits = segment ax ay bx by (pos 0) bits
 
+-- two lines that start at (0,0), the second drawn towards it
+abbrev pub forked : List ℤ
+forked = line (pos 0) (pos 0) (pos 2) (negsuc 0) (pos 1) ++ line (pos 0) (pos 0) (pos 2) (pos 1) (pos 2)
+
 -- ---- runs
 -- lent lists, with something in them: n entries from 101 up
 abbrev pub held : ℕ → List ℕ
@@ -65,7 +69,7 @@ pub record Trials : Type 0 where
   pub backward : clipOf (pos 1) 2 (line (pos 0) (pos 0) (pos 1) (pos 0) (pos 2) ++ line (pos 1) (pos 0) (pos 2) (pos 0) (pos 2))
       ≡ finds 2 1 3 2 2 (pos 2 ∷ pos 0 ∷ pos 1 ∷ pos 0 ∷ pos 0 ∷ pos 0 ∷ []) (3 ∷ [])
   -- (0,0)-(2,-1) bits 1, (0,0)-(2,1) bits 2, outside: two paths, (0,0),(2,-1) and (2,1),(0,0)
-  pub two-paths : clipOf (pos 1) 2 (line (pos 0) (pos 0) (pos 2) (negsuc 0) (pos 1) ++ line (pos 0) (pos 0) (pos 2) (pos 1) (pos 2))
+  pub two-paths : clipOf (pos 1) 2 forked
       ≡ finds 2 2 4 2 6 (pos 0 ∷ pos 0 ∷ pos 2 ∷ negsuc 0 ∷ pos 2 ∷ pos 1 ∷ pos 0 ∷ pos 0 ∷ []) (2 ∷ 2 ∷ [])
   -- no segments: no paths, inside or outside
   pub nothing-inside : clipOf (pos 0) 0 [] ≡ finds 0 0 0 0 0 [] []
