@@ -3,8 +3,10 @@ use c_structs::Clip;
 use refusal::Verdict;
 ghost use mathlib.Core.Path.{_≡_};
 ghost use mathlib.Core.Bool.{true};
+ghost use lib.ListN.{length};
 ghost use Rattle.segm.specs.Segments.{segments};
 ghost use Rattle.checks.specs.Accepted.{Good};
+ghost use Rattle.checks.specs.Runs.{fillsRun, sliceRun, verdict};
 ghost use Rattle.string_clip.specs.Run.{lists};
 ghost use Rattle.measure.specs.Numbers.{verdictOf, checkNumbers, sweepNumber, returnedBoth, bothNumbers};
 
@@ -22,12 +24,11 @@ fn verdict_of(numbers: &[i32]) -> Verdict
     checks::check_clip(numbers, 0, 0, 0, 8 * segm::MOST, 2 * segm::MOST)
 }
 
-// The check alone.
-#[no_mangle]
-pub extern "C" fn measure_check(numbers: &[i32]) -> Check
-    ensures { λ r. ⌜ r ≡ checkNumbers (verdictOf (now (numbers .entry))) ⌝ }
+// The number and place of a verdict.
+fn check_of(v: Verdict) -> Check
+    ensures { λ r. ⌜ r ≡ checkNumbers v ⌝ }
 {
-    match verdict_of(numbers) {
+    match v {
         Verdict::Accepted => Check {
             number: 0,
             place: 0,
@@ -37,6 +38,41 @@ pub extern "C" fn measure_check(numbers: &[i32]) -> Check
             place: place as u64,
         },
     }
+}
+
+// The check alone.
+#[no_mangle]
+pub extern "C" fn measure_check(numbers: &[i32]) -> Check
+    ensures { λ r. ⌜ r ≡ checkNumbers (verdictOf (now (numbers .entry))) ⌝ }
+{
+    let v = verdict_of(numbers);
+    check_of(v)
+}
+
+// The same of a fills run with this list.
+#[no_mangle]
+pub extern "C" fn measure_check_fills(numbers: &[i32], rule: i32, fills: &[u8]) -> Check
+    ensures { λ r. ⌜ r ≡ checkNumbers (verdict (fillsRun (now (numbers .entry)) rule (length (now (fills .entry))))) ⌝ }
+{
+    let v = checks::check_fills(numbers, rule, fills.len());
+    check_of(v)
+}
+
+// The same of a slice run with these lists.
+#[no_mangle]
+pub extern "C" fn measure_check_slice(
+    numbers: &[i32],
+    rule: i32,
+    direction: i32,
+    points: &[i32],
+    lengths: &[u32],
+    roles: &[u8],
+) -> Check
+    ensures { λ r. ⌜ r ≡ checkNumbers (verdict (sliceRun (now (numbers .entry)) rule direction (length (now (points .entry))) (length (now (lengths .entry))) (length (now (roles .entry))))) ⌝ }
+{
+    let room = points.len();
+    let v = checks::check_slice(numbers, rule, direction, room, lengths.len(), roles.len());
+    check_of(v)
 }
 
 // What the sweep says of an accepted drawing.

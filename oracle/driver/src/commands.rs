@@ -2,7 +2,7 @@
 
 #[cfg(feature = "rust")]
 use crate::{bench, store};
-use crate::{cases, check, check_split, check_texts, stored, sweeps, theirs};
+use crate::{cases, check, check_split, check_texts, stored, stored_checks, sweeps, theirs};
 use std::path::Path;
 
 pub const USAGE: &str = "\
@@ -31,10 +31,14 @@ pub fn run(words: &[&str]) -> Option<bool> {
         ["check", options @ ..] => {
             let Options { seed, drawings, lists, texts } = options_of(options)?;
             println!("{}, seed {seed}", theirs::NOTE);
-            let stored =
-                [stored::replay(&stored::folder()), cases::check(&cases::folder()), sweeps::check(&sweeps::folder())];
+            let stored = [
+                stored::replay(&stored::folder()),
+                stored_checks::check(&stored::folder()),
+                cases::check(&cases::folder()),
+                sweeps::check(&sweeps::folder()),
+            ];
             let made = [check::check(seed, drawings), check_split::check(seed, lists), check_texts::check(seed, texts)];
-            Some(stored == [true; 3] && made == [true; 3])
+            Some(stored == [true; 4] && made == [true; 3])
         }
         ["lists", options @ ..] => {
             let Options { seed, lists, .. } = options_of(options)?;

@@ -55,6 +55,7 @@ mod split;
 #[cfg(feature = "rust")]
 mod store;
 mod stored;
+mod stored_checks;
 mod sweeps;
 mod table;
 mod tally;

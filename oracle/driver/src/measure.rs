@@ -1,4 +1,4 @@
-//! What the library exports for the driver alone: the check by itself, what cleared a drawing of wrong meetings, and both
+//! What the library exports for the driver alone: the checks by themselves, what cleared a drawing of wrong meetings, and both
 //! clip runs by one check.
 
 use crate::prose::Refusal;
@@ -8,8 +8,8 @@ use jumperclay::raw::Clipped;
 #[repr(C)]
 #[derive(Debug, Clone, Copy, PartialEq, Eq)]
 pub struct Verdict {
-    number: u64,
-    place: u64,
+    pub number: u64,
+    pub place: u64,
 }
 
 impl From<Option<Refusal>> for Verdict {
@@ -33,6 +33,25 @@ struct ClippedBoth {
 // be null, also where the length is 0.
 extern "C" {
     fn measure_check(segments: *const i32, segments_len: usize) -> Verdict;
+    fn measure_check_fills(
+        segments: *const i32,
+        segments_len: usize,
+        rule: i32,
+        fills: *const u8,
+        fills_len: usize,
+    ) -> Verdict;
+    fn measure_check_slice(
+        segments: *const i32,
+        segments_len: usize,
+        rule: i32,
+        direction: i32,
+        points: *const i32,
+        points_len: usize,
+        lengths: *const u32,
+        lengths_len: usize,
+        roles: *const u8,
+        roles_len: usize,
+    ) -> Verdict;
     fn measure_sweep(segments: *const i32, segments_len: usize) -> u64;
     fn measure_clip_both(
         segments: *const i32,
@@ -54,6 +73,38 @@ extern "C" {
 pub fn check(segments: &[i32]) -> Verdict {
     // SAFETY: the pointer is valid for the length.
     unsafe { measure_check(segments.as_ptr(), segments.len()) }
+}
+
+/// The verdict on a fills run with this list.
+pub fn check_fills(segments: &[i32], rule: i32, fills: &[u8]) -> Verdict {
+    // SAFETY: both pointers are valid for their lengths.
+    unsafe { measure_check_fills(segments.as_ptr(), segments.len(), rule, fills.as_ptr(), fills.len()) }
+}
+
+/// The verdict on a slice run with these lists.
+pub fn check_slice(
+    segments: &[i32],
+    rule: i32,
+    direction: i32,
+    points: &[i32],
+    lengths: &[u32],
+    roles: &[u8],
+) -> Verdict {
+    // SAFETY: all pointers are valid for their lengths.
+    unsafe {
+        measure_check_slice(
+            segments.as_ptr(),
+            segments.len(),
+            rule,
+            direction,
+            points.as_ptr(),
+            points.len(),
+            lengths.as_ptr(),
+            lengths.len(),
+            roles.as_ptr(),
+            roles.len(),
+        )
+    }
 }
 
 /// Whether the sweep alone cleared a drawing, or only the search over pairs.

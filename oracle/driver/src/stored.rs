@@ -20,8 +20,12 @@ pub fn folder() -> PathBuf {
     in_repository("oracle/stored")
 }
 
+pub fn questions(folder: &Path) -> io::Result<String> {
+    fs::read_to_string(folder.join(QUESTIONS))
+}
+
 fn read(folder: &Path) -> io::Result<(String, String)> {
-    Ok((fs::read_to_string(folder.join(QUESTIONS))?, fs::read_to_string(folder.join(ANSWERS))?))
+    Ok((questions(folder)?, fs::read_to_string(folder.join(ANSWERS))?))
 }
 
 pub fn fills_answer(number: u64, place: u64, fills: &[u8]) -> String {
