@@ -47,7 +47,9 @@ fn rooms(each: [usize; 3], segments: &[i32]) -> impl Iterator<Item = [usize; 3]>
         room[list] = room[list].saturating_sub(1);
         room
     };
-    [each.map(|each| each * MOST_SEGMENTS), just].into_iter().chain((0..each.len()).filter(move |&list| each[list] > 0).map(short))
+    [each.map(|each| each * MOST_SEGMENTS), just]
+        .into_iter()
+        .chain((0..each.len()).filter(move |&list| each[list] > 0).map(short))
 }
 
 fn of_fills(segments: &[i32], rule: i32, fills: usize) -> (Verdict, Verdict) {
