@@ -9,16 +9,17 @@
 
 enum { SEGMENTS = 9, NUMBERS = OVERLAY_WIDTH * SEGMENTS, NON_ZERO = 1 };
 
+/* The cut goes through flour of two lots, and at last through flour of none. */
 static const int32_t drawing[NUMBERS] = {
-    -5, 5,  0,  5,  0,  1, /* the cut, left of the square */
-    0,  0,  0,  5,  -1, 0, /* the square's left, lower half */
-    0,  0,  10, 0,  1,  0, /* its bottom */
-    0,  5,  0,  10, -1, 0, /* its left, upper half */
-    0,  5,  10, 5,  0,  1, /* the cut, inside */
-    0,  10, 10, 10, -1, 0, /* its top */
-    10, 0,  10, 5,  1,  0, /* its right, lower half */
-    10, 5,  10, 10, 1,  0, /* its right, upper half */
-    10, 5,  15, 5,  0,  1, /* the cut, right of the square */
+    -5, 5,  0,  5,  0,  1, 12, /* the cut, left of the square */
+    0,  0,  0,  5,  -1, 0, 0,  /* the square's left, lower half */
+    0,  0,  10, 0,  1,  0, 0,  /* its bottom */
+    0,  5,  0,  10, -1, 0, 0,  /* its left, upper half */
+    0,  5,  10, 5,  0,  1, 7,  /* the cut, inside */
+    0,  10, 10, 10, -1, 0, 0,  /* its top */
+    10, 0,  10, 5,  1,  0, 0,  /* its right, lower half */
+    10, 5,  10, 10, 1,  0, 0,  /* its right, upper half */
+    10, 5,  15, 5,  0,  1, 0,  /* the cut, right of the square */
 };
 
 static int refused(uint64_t number, uint64_t place) {
@@ -137,11 +138,13 @@ int main(void) {
     print_slice(0, 51);
     print_split(4);
     print_split(16777217);
-    print_text("1,0,1\n0,0,4,0,1,1\n0,0,4,4,-1,2\n4,0,4,4,1,0\n");
-    print_text("1,0,1\n0,0,4,0,1,1\n0,0,4,4,-1;2\n");
-    print_text("1,0,1\n0,0,2,0,0,1\n1,0,1,1,0,1\n");
+    print_text("1,0,1\n0,0,4,0,1,1,12\n0,0,4,4,-1,2,9999\n4,0,4,4,1,0,0\n");
+    print_text("1,0,1\n0,0,4,0,1,1,0\n0,0,4,4,-1;2,0\n");
+    print_text("1,0,1\n0,0,4,0,1,1\n");
+    print_text("1,0,1\n0,0,2,0,0,1,0\n1,0,1,1,0,1,0\n");
+    print_text("1,0,1\n0,0,2,0,0,1,0\n2,0,3,0,0,1,10000\n");
     print_text("7,0,1\n");
-    print_text("1,0,1\n0,0,1,0,0,1\n1,0,2,0,0,1\n2,0,3,0,0,1\n3,0,4,0,0,1\n4,0,5,0,0,1\n"
-               "5,0,6,0,0,1\n6,0,7,0,0,1\n7,0,8,0,0,1\n8,0,9,0,0,1\n9,0,10,0,0,1\n");
+    print_text("1,0,1\n0,0,1,0,0,1,0\n1,0,2,0,0,1,0\n2,0,3,0,0,1,0\n3,0,4,0,0,1,0\n4,0,5,0,0,1,0\n"
+               "5,0,6,0,0,1,0\n6,0,7,0,0,1,0\n7,0,8,0,0,1,0\n8,0,9,0,0,1,0\n9,0,10,0,0,1,0\n");
     return 0;
 }

@@ -1,24 +1,26 @@
 /* The string overlay for C, C++ and whatever reads C headers. Link with liboverlay.a, which
    `rt staticlib overlay` puts into target/staticlib.
 
-   A drawing is a list of segments, six numbers each: ax, ay, bx, by, winding, line bits. Point a is
-   less than b, by x and then y, and the segments come in order of their a. The winding is positive
+   A drawing is a list of segments, seven numbers each: ax, ay, bx, by, winding, line bits, lot. Point a
+   is less than b, by x and then y, and the segments come in order of their a. The winding is positive
    where the outline runs from a to b. Line bit 1 is a line drawn from a to b, bit 2 one from b to a.
+   The lot is that of the flour, 0 for none; no answer depends on it.
 
    Any numbers may be passed. What is refused, tried in this order; a place is that of a segment,
    from 0, and 0 where none is named:
-      2  the length is no multiple of six, or there are over 1,024 segments
+      2  the length is no multiple of seven, or there are over 1,024 segments
      10  an unknown choice
      11  a lent list is too short
       3  a coordinate is not from -16,777,216 to 16,777,216 (place)
       4  a is not less than b (place)
       5  the winding is not from -1,000 to 1,000 (place)
       6  the line bits are not from 0 to 3 (place)
+     13  the lot is not from 0 to 9,999 (place)
       7  a is less than the previous segment's a (place)
       8  two segments meet wrongly (place: the lower one's)
       9  the drawing does not balance (place: the lowest segment touching an unbalanced point)
      12  a slice walk finds no move
-   3 to 7 are tried segment by segment, the lowest number first within one. overlay_split takes points
+   3 to 7 and 13 are tried segment by segment, within one in the order above. overlay_split takes points
    instead of a drawing, and refuses by 2, 11 and 3 only; overlay_read takes a text, and refuses by 1
    and 11 only: as said there.
 
@@ -45,7 +47,7 @@ extern "C" {
 #endif
 
 /* How many numbers a segment has. */
-#define OVERLAY_WIDTH 6
+#define OVERLAY_WIDTH 7
 
 struct overlay_filled {
     uint64_t number; /* the refusal's, 0 on success */
@@ -122,8 +124,8 @@ struct overlay_text {
 };
 
 /* A comma text read: lines that end in LF, the first with the choices rule, invert and boundary, every
-   other one with the six numbers of a segment, commas between. `numbers` gets the segments' numbers. Half
-   as many entries as the text has bytes are always enough. What is refused, tried in this order:
+   other one with the seven numbers of a segment, commas between. `numbers` gets the segments' numbers.
+   Half as many entries as the text has bytes are always enough. What is refused, tried in this order:
       1  the text has a malformed line (place), or over 65,536 bytes (place 0)
      11  the list is too short for all its numbers */
 struct overlay_text overlay_read(const uint8_t *text, size_t text_len, int32_t *numbers,

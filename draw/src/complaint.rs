@@ -55,6 +55,7 @@ impl Complaint {
             Reason::LineBits => {
                 Self::of_words(format!("Its line bits are {}, and must be from 0 to 3.", segment.line_bits))
             }
+            Reason::Lot => Self::of_words(format!("Its lot is {}, and must be from 0 to 9,999.", segment.lot)),
             Reason::Order => of_order(segments, place),
             Reason::Meeting => of_meeting(segments, place),
             Reason::Balance => of_balance(segment, segments),
@@ -175,7 +176,7 @@ mod tests {
 
     /// A rectangle with this first line, and this for its last segment.
     fn complaint(choices: &str, last: &str) -> Complaint {
-        let text = format!("{choices}\n0,0,0,5,-1,0\n0,0,10,0,1,0\n0,5,10,5,-1,0\n{last}\n");
+        let text = format!("{choices}\n0,0,0,5,-1,0,0\n0,0,10,0,1,0,0\n0,5,10,5,-1,0,0\n{last}\n");
         let text = read(text.as_bytes()).unwrap();
         Complaint::new(text.clip().unwrap_err(), text.choices, &segments(&text.segments))
     }
@@ -189,31 +190,34 @@ mod tests {
 
     #[test]
     fn what_is_wrong_with_one_segment() {
-        named("10,0,99999999,5,1,0", &[3], 0, "Its bx is 99999999, and must be from -16,777,216 to 16,777,216.");
-        named("10,5,10,0,1,0", &[3], 2, "a is (10,5) and b is (10,0): exchanged they would be in order.");
-        named("10,5,10,5,1,0", &[3], 1, "Both ends are (10,5).");
-        named("10,0,10,5,-1001,0", &[3], 0, "Its winding is -1001, and must be from -1,000 to 1,000.");
-        named("10,0,10,5,1,4", &[3], 0, "Its line bits are 4, and must be from 0 to 3.");
+        named("10,0,99999999,5,1,0,0", &[3], 0, "Its bx is 99999999, and must be from -16,777,216 to 16,777,216.");
+        named("10,5,10,0,1,0,0", &[3], 2, "a is (10,5) and b is (10,0): exchanged they would be in order.");
+        named("10,5,10,5,1,0,0", &[3], 1, "Both ends are (10,5).");
+        named("10,0,10,5,-1001,0,0", &[3], 0, "Its winding is -1001, and must be from -1,000 to 1,000.");
+        named("10,0,10,5,1,4,0", &[3], 0, "Its line bits are 4, and must be from 0 to 3.");
+        named("10,0,10,5,1,0,10000", &[3], 0, "Its lot is 10000, and must be from 0 to 9,999.");
+        named("10,0,10,5,1,4,-1", &[3], 0, "Its line bits are 4, and must be from 0 to 3.");
+        named("0,4,10,5,1,0,-1", &[3], 0, "Its lot is -1, and must be from 0 to 9,999.");
     }
 
     #[test]
     fn what_is_wrong_with_two() {
-        named("0,4,10,5,1,0", &[3, 2], 2, "Its a is (0,4), and that of segment 2 is (0,5).");
-        named("5,-1,5,6,1,0", &[1, 3], 1, "It crosses segment 3 at about (5.00,0.00).");
-        named("5,0,5,2,1,0", &[1, 3], 1, "It meets segment 3 at (5,0), strictly between the ends of one.");
-        named("0,5,10,5,1,0", &[2, 3], 2, "Segment 3 has the same ends: (0,5) and (10,5).");
+        named("0,4,10,5,1,0,0", &[3, 2], 2, "Its a is (0,4), and that of segment 2 is (0,5).");
+        named("5,-1,5,6,1,0,0", &[1, 3], 1, "It crosses segment 3 at about (5.00,0.00).");
+        named("5,0,5,2,1,0,0", &[1, 3], 1, "It meets segment 3 at (5,0), strictly between the ends of one.");
+        named("0,5,10,5,1,0,0", &[2, 3], 2, "Segment 3 has the same ends: (0,5) and (10,5).");
     }
 
     #[test]
     fn what_does_not_balance() {
         let words =
             "At (10,0) the windings that start there make 2 (2 of segment 3), those that end there 1 (1 of segment 1).";
-        named("10,0,10,5,2,0", &[1], 1, words);
+        named("10,0,10,5,2,0,0", &[1], 1, words);
     }
 
     #[test]
     fn unknown_choices() {
-        let complaint = complaint("4,0,-2", "10,0,10,5,1,0");
+        let complaint = complaint("4,0,-2", "10,0,10,5,1,0,0");
         let words =
             ["The choice rule is 4, and must be from 0 to 3.", "The choice boundary is -2, and must be from 0 to 1."];
         assert_eq!(complaint.words, words);

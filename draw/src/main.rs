@@ -87,7 +87,9 @@ mod tests {
             let mut text = format!("{},{},{}\n", self.below(5), self.below(2), self.below(2));
             for _ in 0..self.below(9) {
                 let [ax, ay, bx, by] = [0; 4].map(|_| self.number());
-                text += &format!("{ax},{ay},{bx},{by},{},{}\n", self.below(3) as i64 - 1, self.below(4));
+                let (winding, line_bits) = (self.below(3) as i64 - 1, self.below(4));
+                let lot = [0, 0, 0, 0, 0, 7, 12, 12, 9999, 10_000][self.below(10)];
+                text += &format!("{ax},{ay},{bx},{by},{winding},{line_bits},{lot}\n");
             }
             text.into_bytes()
         }
@@ -121,7 +123,7 @@ mod tests {
 
     #[test]
     fn the_longest_texts_give_a_picture() {
-        let mut text = [b"1,0,1\n", "0,0,1,0,0,1\n".repeat(5500).as_bytes()].concat();
+        let mut text = [b"1,0,1\n", "0,0,1,0,0,1,0\n".repeat(4700).as_bytes()].concat();
         is_picture(&text);
         text.truncate(jumperclay::MOST_BYTES);
         is_picture(&text);
@@ -131,8 +133,11 @@ mod tests {
     #[test]
     fn a_picture_tells_what_the_library_says() {
         let page = |text: &str| picture(text.as_bytes(), false);
-        assert!(page("1,0,1\n0,0,2,0,0,1\n1,0,1,1,0,1\n").contains("segment 0: it and a later segment meet wrongly"));
-        assert!(page("1,0,1\n0,0,2,0,0\n").contains("refused,1,2"));
+        assert!(
+            page("1,0,1\n0,0,2,0,0,1,0\n1,0,1,1,0,1,0\n").contains("segment 0: it and a later segment meet wrongly")
+        );
+        assert!(page("1,0,1\n0,0,2,0,0,1,10000\n").contains("segment 0: the lot is out of range"));
+        assert!(page("1,0,1\n0,0,2,0,0,1\n").contains("refused,1,2"));
         assert!(page("1,0,1\n").contains("The drawing has no segments"));
     }
 }

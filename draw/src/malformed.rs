@@ -80,10 +80,11 @@ mod tests {
 
     #[test]
     fn what_is_wrong_with_a_line() {
-        assert_eq!(fault(b"0,0,1,0,0,1", WIDTH), "It does not end in LF.");
+        assert_eq!(fault(b"0,0,1,0,0,1,0", WIDTH), "It does not end in LF.");
         assert_eq!(fault(b"\n", WIDTH), "It is empty.");
         assert_eq!(fault(b"1,0\n", CHOICES), "It has 2 fields, and 3 are due.");
-        assert_eq!(fault(b"0,0,1,0,-0,1\n", WIDTH), "Field 5 is no number of at most nine digits: -0");
+        assert_eq!(fault(b"0,0,1,0,0,1\n", WIDTH), "It has 6 fields, and 7 are due.");
+        assert_eq!(fault(b"0,0,1,0,-0,1,0\n", WIDTH), "Field 5 is no number of at most nine digits: -0");
         assert_eq!(fault(b"0,0,1\r\n", CHOICES), "Field 3 is no number of at most nine digits: 1\\r");
     }
 
@@ -95,7 +96,7 @@ mod tests {
 
     #[test]
     fn lines_are_read_one_by_one() {
-        assert_eq!(numbers(b"0,0,1,0,0,1\n"), [0, 0, 1, 0, 0, 1]);
-        assert!(numbers(b"0,0,1,0,0\n").is_empty());
+        assert_eq!(numbers(b"0,0,1,0,0,1,7\n"), [0, 0, 1, 0, 0, 1, 7]);
+        assert!(numbers(b"0,0,1,0,0,1\n").is_empty());
     }
 }

@@ -10,7 +10,7 @@ pub fn first_met(segments: &[Segment], lower: usize) -> Option<usize> {
 }
 
 fn meet_wrongly(one: Segment, other: Segment) -> bool {
-    let bare = |segment: Segment| Segment { winding: 0, line_bits: 0, ..segment }.numbers();
+    let bare = |segment: Segment| Segment { winding: 0, line_bits: 0, lot: 0, ..segment }.numbers();
     let both = [bare(one), bare(other)].concat();
     fills(&both, Rule::EvenOdd).is_err_and(|refusal| refusal.reason == Reason::Meeting)
 }
@@ -76,7 +76,7 @@ mod tests {
 
     /// Two segments by x and y of their ends.
     fn two([ax, ay, bx, by, cx, cy, dx, dy]: [i32; 8]) -> [Segment; 2] {
-        [((ax, ay), (bx, by)), ((cx, cy), (dx, dy))].map(|(a, b)| Segment { a, b, winding: 0, line_bits: 0 })
+        [((ax, ay), (bx, by)), ((cx, cy), (dx, dy))].map(|(a, b)| Segment { a, b, winding: 0, line_bits: 0, lot: 0 })
     }
 
     fn meeting(ends: [i32; 8]) -> Meeting {

@@ -9,6 +9,7 @@ pub struct Segment {
     pub b: Point,
     pub winding: i32,
     pub line_bits: i32,
+    pub lot: i32,
 }
 
 pub fn segments(numbers: &[i32]) -> Vec<Segment> {
@@ -18,12 +19,12 @@ pub fn segments(numbers: &[i32]) -> Vec<Segment> {
 impl Segment {
     fn new(numbers: &[i32]) -> Self {
         let point = |at: usize| (numbers[at], numbers[at + 1]);
-        Self { a: point(0), b: point(2), winding: numbers[4], line_bits: numbers[5] }
+        Self { a: point(0), b: point(2), winding: numbers[4], line_bits: numbers[5], lot: numbers[6] }
     }
 
     /// As a drawing has them.
     pub fn numbers(self) -> [i32; WIDTH] {
-        [self.a.0, self.a.1, self.b.0, self.b.1, self.winding, self.line_bits]
+        [self.a.0, self.a.1, self.b.0, self.b.1, self.winding, self.line_bits, self.lot]
     }
 
     pub fn ends(self) -> [Point; 2] {
@@ -32,6 +33,11 @@ impl Segment {
 
     pub fn is_outline(self) -> bool {
         self.winding != 0
+    }
+
+    /// The lot of a line, where it has one.
+    pub fn line_lot(self) -> Option<i32> {
+        (self.line_bits != 0 && self.lot != 0).then_some(self.lot)
     }
 
     /// The coordinates by name that are out of range.

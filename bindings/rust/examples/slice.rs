@@ -2,19 +2,19 @@
 
 use jumperclay::{slice, slice_into, Direction, Refusal, Rule, WIDTH};
 
-/// Six numbers for each segment: ax, ay, bx, by, winding, line bits.
+/// Seven numbers for each segment: ax, ay, bx, by, winding, line bits, lot.
 const DRAWING: [i32; 11 * WIDTH] = [
-    0, 0, 0, 9, -1, 0, // the square's left
-    0, 0, 7, 0, 1, 0, // its bottom
-    0, 9, 9, 9, -1, 0, // its top
-    3, 3, 3, 6, 1, 0, // the hole's left
-    3, 3, 6, 3, -1, 0, // its bottom
-    3, 6, 6, 6, 1, 0, // its top
-    6, 3, 6, 6, -1, 0, // its right
-    7, 0, 9, 0, 1, 0, // the rest of the square's bottom
-    7, 0, 9, 2, 0, 1, // a cut that takes a corner off
-    9, 0, 9, 2, 1, 0, // the square's right, up to the cut
-    9, 2, 9, 9, 1, 0, // and from there
+    0, 0, 0, 9, -1, 0, 0, // the square's left
+    0, 0, 7, 0, 1, 0, 0, // its bottom
+    0, 9, 9, 9, -1, 0, 0, // its top
+    3, 3, 3, 6, 1, 0, 0, // the hole's left
+    3, 3, 6, 3, -1, 0, 0, // its bottom
+    3, 6, 6, 6, 1, 0, 0, // its top
+    6, 3, 6, 6, -1, 0, 0, // its right
+    7, 0, 9, 0, 1, 0, 0, // the rest of the square's bottom
+    7, 0, 9, 2, 0, 1, 0, // a cut that takes a corner off
+    9, 0, 9, 2, 1, 0, 0, // the square's right, up to the cut
+    9, 2, 9, 9, 1, 0, 0, // and from there
 ];
 
 fn main() -> Result<(), Refusal> {

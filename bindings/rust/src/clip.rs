@@ -57,7 +57,7 @@ pub(crate) fn clip_by(segments: &[i32], choices: Choices) -> Result<Clip, Refusa
 /// // One line and no dough, drawn from b to a.
 /// let (mut points, mut lengths) = ([99; 8], [99; 2]);
 /// let outside = ClipRule { invert: true, boundary_included: true };
-/// let totals = clip_into(&[0, 0, 1, 0, 0, 2], Rule::NonZero, outside, &mut points, &mut lengths)?;
+/// let totals = clip_into(&[0, 0, 1, 0, 0, 2, 0], Rule::NonZero, outside, &mut points, &mut lengths)?;
 /// assert_eq!((totals.paths, totals.points, totals.steps, totals.travel), (1, 2, 1, 1));
 /// assert_eq!(points, [1, 0, 0, 0, 99, 99, 99, 99]);
 /// assert_eq!(lengths, [2, 99]);

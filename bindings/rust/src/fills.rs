@@ -16,7 +16,7 @@ pub fn fills(segments: &[i32], rule: Rule) -> Result<Vec<u8>, Refusal> {
 ///
 /// // One line and no dough.
 /// let mut list = [99; 3];
-/// assert_eq!(fills_into(&[0, 0, 1, 0, 0, 1], Rule::NonZero, &mut list)?, 1);
+/// assert_eq!(fills_into(&[0, 0, 1, 0, 0, 1, 0], Rule::NonZero, &mut list)?, 1);
 /// assert_eq!(list, [4, 99, 99]);
 /// # Ok::<(), jumperclay::Refusal>(())
 /// ```

@@ -1,8 +1,9 @@
 //! The string overlay, over a library whose every function is proved.
 //!
-//! A drawing is a list of segments, six numbers each ([`WIDTH`]): `ax, ay, bx, by, winding, line bits`. Point a is
-//! less than b, by x and then y, and the segments come in order of their a. The winding is positive
+//! A drawing is a list of segments, seven numbers each ([`WIDTH`]): `ax, ay, bx, by, winding, line bits, lot`. Point a
+//! is less than b, by x and then y, and the segments come in order of their a. The winding is positive
 //! where the outline runs from a to b. Line bit 1 is a line drawn from a to b, bit 2 one from b to a.
+//! The lot is that of the flour, 0 for none; no answer depends on it.
 //!
 //! Any numbers may be passed: a drawing is either answered or refused, with the reason and the place. [`fills`], [`clip`],
 //! [`slice()`], [`split`] and [`read`] own their lists; the forms that end in `_into` write to lent ones.
@@ -10,17 +11,17 @@
 //! ```
 //! use jumperclay::{clip, fills, slice, ClipRule, Direction, Rule};
 //!
-//! // A square cut in two by a line that sticks out on both sides.
+//! // A square cut in two by a line that sticks out on both sides. The line goes through flour of lots 12 and 7.
 //! let drawing = [
-//!     -5, 5, 0, 5, 0, 1,
-//!     0, 0, 0, 5, -1, 0,
-//!     0, 0, 10, 0, 1, 0,
-//!     0, 5, 0, 10, -1, 0,
-//!     0, 5, 10, 5, 0, 1,
-//!     0, 10, 10, 10, -1, 0,
-//!     10, 0, 10, 5, 1, 0,
-//!     10, 5, 10, 10, 1, 0,
-//!     10, 5, 15, 5, 0, 1,
+//!     -5, 5, 0, 5, 0, 1, 12,
+//!     0, 0, 0, 5, -1, 0, 0,
+//!     0, 0, 10, 0, 1, 0, 0,
+//!     0, 5, 0, 10, -1, 0, 0,
+//!     0, 5, 10, 5, 0, 1, 7,
+//!     0, 10, 10, 10, -1, 0, 0,
+//!     10, 0, 10, 5, 1, 0, 0,
+//!     10, 5, 10, 10, 1, 0, 0,
+//!     10, 5, 15, 5, 0, 1, 0,
 //! ];
 //! assert_eq!(fills(&drawing, Rule::NonZero)?, [4, 2, 1, 2, 7, 2, 1, 1, 4]);
 //!
@@ -75,7 +76,7 @@ pub enum Rule {
 }
 
 /// How many numbers a segment has.
-pub const WIDTH: usize = 6;
+pub const WIDTH: usize = 7;
 
 /// No drawing has more segments than this.
 pub const MOST_SEGMENTS: usize = 1024;

@@ -9,7 +9,7 @@ pub enum Reason {
     Line,
     /// 1, of a text: it has over 65,536 bytes.
     TextLength,
-    /// 2: the length is no multiple of six, or there are over 1,024 segments.
+    /// 2: the length is no multiple of seven, or there are over 1,024 segments.
     Length,
     /// 3: a coordinate is not from -16,777,216 to 16,777,216.
     Coordinate,
@@ -19,6 +19,8 @@ pub enum Reason {
     Winding,
     /// 6: the line bits are not from 0 to 3.
     LineBits,
+    /// 13, looked for directly after 6: the lot is not from 0 to 9,999.
+    Lot,
     /// 7: a is less than the previous segment's a.
     Order,
     /// 8: two segments meet wrongly.
@@ -38,12 +40,13 @@ pub enum Reason {
 }
 
 impl Reason {
-    const OF_DRAWINGS: [Self; 11] = [
+    const OF_DRAWINGS: [Self; 12] = [
         Self::Length,
         Self::Coordinate,
         Self::Ends,
         Self::Winding,
         Self::LineBits,
+        Self::Lot,
         Self::Order,
         Self::Meeting,
         Self::Balance,
@@ -68,6 +71,7 @@ impl Reason {
             Self::Choice => 10,
             Self::ShortList => 11,
             Self::NoMove => 12,
+            Self::Lot => 13,
         }
     }
 
@@ -75,12 +79,13 @@ impl Reason {
         match self {
             Self::Line => "it is malformed",
             Self::TextLength => "the text has over 65,536 bytes",
-            Self::Length => "the length is no multiple of six, or there are over 1,024 segments",
+            Self::Length => "the length is no multiple of seven, or there are over 1,024 segments",
             Self::PointsLength => "the length is odd, or there are over 2,048 points",
             Self::Coordinate | Self::PointCoordinate => "a coordinate is out of range",
             Self::Ends => "a is not less than b",
             Self::Winding => "the winding is out of range",
             Self::LineBits => "the line bits are out of range",
+            Self::Lot => "the lot is out of range",
             Self::Order => "a is less than the previous segment's a",
             Self::Meeting => "it and a later segment meet wrongly",
             Self::Balance => "the drawing does not balance at one of its ends",

@@ -40,7 +40,7 @@ pub fn slice(segments: &[i32], rule: Rule, direction: Direction, min_area: u64) 
 /// use jumperclay::{slice_into, Direction, Rule};
 ///
 /// // A triangle.
-/// let drawing = [0, 0, 4, 0, 1, 0, 0, 0, 4, 4, -1, 0, 4, 0, 4, 4, 1, 0];
+/// let drawing = [0, 0, 4, 0, 1, 0, 0, 0, 0, 4, 4, -1, 0, 0, 4, 0, 4, 4, 1, 0, 0];
 /// let (mut points, mut lengths, mut roles) = ([99; 12], [99; 6], [99; 6]);
 /// let (rule, direction) = (Rule::NonZero, Direction::CounterClockwise);
 /// let totals = slice_into(&drawing, rule, direction, 8, &mut points, &mut lengths, &mut roles)?;

@@ -55,7 +55,7 @@ impl Text {
     /// use jumperclay::read;
     ///
     /// // The rule is unknown, and the drawing is too long: the length is looked at first.
-    /// let text = "9,0,1\n".to_string() + &"0,0,1,0,0,1\n".repeat(1025);
+    /// let text = "9,0,1\n".to_string() + &"0,0,1,0,0,1,0\n".repeat(1025);
     /// assert_eq!(read(text.as_bytes())?.clip().unwrap_err().number(), 2);
     /// # Ok::<(), jumperclay::Refusal>(())
     /// ```
@@ -64,17 +64,17 @@ impl Text {
     }
 }
 
-/// Reads a comma text: lines that end in LF, first `rule,invert,boundary`, then six numbers for each segment.
+/// Reads a comma text: lines that end in LF, first `rule,invert,boundary`, then seven numbers for each segment.
 ///
 /// ```
 /// use jumperclay::read;
 ///
-/// let text = read(b"1,1,1\n0,0,1,0,0,2\n")?;
+/// let text = read(b"1,1,1\n0,0,1,0,0,2,12\n")?;
 /// assert_eq!(text.choices.invert, 1);
-/// assert_eq!(text.segments, [0, 0, 1, 0, 0, 2]);
+/// assert_eq!(text.segments, [0, 0, 1, 0, 0, 2, 12]);
 /// assert_eq!(text.clip()?.paths, [[(1, 0), (0, 0)]]);
 ///
-/// assert_eq!(read(b"1,1,1\n0,0,1,0,0,2").unwrap_err().to_string(), "line 2: it is malformed");
+/// assert_eq!(read(b"1,1,1\n0,0,1,0,0,2\n").unwrap_err().to_string(), "line 2: it is malformed");
 /// # Ok::<(), jumperclay::Refusal>(())
 /// ```
 pub fn read(text: &[u8]) -> Result<Text, Refusal> {
@@ -92,14 +92,14 @@ pub fn read(text: &[u8]) -> Result<Text, Refusal> {
 /// ```
 /// use jumperclay::{read_into, Reason};
 ///
-/// let text = b"1,0,1\n0,0,1,0,0,1\n";
-/// let mut list = [99; 8];
-/// assert_eq!(read_into(text, &mut list)?.1, 6);
-/// assert_eq!(list, [0, 0, 1, 0, 0, 1, 99, 99]);
+/// let text = b"1,0,1\n0,0,1,0,0,1,0\n";
+/// let mut list = [99; 9];
+/// assert_eq!(read_into(text, &mut list)?.1, 7);
+/// assert_eq!(list, [0, 0, 1, 0, 0, 1, 0, 99, 99]);
 ///
-/// let mut list = [99; 5];
+/// let mut list = [99; 6];
 /// assert_eq!(read_into(text, &mut list).unwrap_err().reason, Reason::ShortList);
-/// assert_eq!(list, [99; 5]);
+/// assert_eq!(list, [99; 6]);
 /// # Ok::<(), jumperclay::Refusal>(())
 /// ```
 pub fn read_into(text: &[u8], segments: &mut [i32]) -> Result<(Choices, usize), Refusal> {

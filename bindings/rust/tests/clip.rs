@@ -36,17 +36,17 @@ fn lines_on_the_boundary() {
 
 #[test]
 fn a_line_drawn_both_ways() {
-    clipped(&[0, 0, 1, 0, 0, 3], OUTSIDE, [&[(0, 0), (1, 0), (0, 0)]], 2);
+    clipped(&[0, 0, 1, 0, 0, 3, 0], OUTSIDE, [&[(0, 0), (1, 0), (0, 0)]], 2);
 }
 
 #[test]
 fn a_path_drawn_backward() {
-    clipped(&[0, 0, 1, 0, 0, 2, 1, 0, 2, 0, 0, 2], OUTSIDE, [&[(2, 0), (1, 0), (0, 0)]], 2);
+    clipped(&[0, 0, 1, 0, 0, 2, 0, 1, 0, 2, 0, 0, 2, 0], OUTSIDE, [&[(2, 0), (1, 0), (0, 0)]], 2);
 }
 
 #[test]
 fn two_paths() {
-    let drawing = [0, 0, 2, -1, 0, 1, 0, 0, 2, 1, 0, 2];
+    let drawing = [0, 0, 2, -1, 0, 1, 0, 0, 0, 2, 1, 0, 2, 0];
     clipped(&drawing, OUTSIDE, [&[(0, 0), (2, -1)], &[(2, 1), (0, 0)]], 6);
 }
 
@@ -58,7 +58,7 @@ fn no_segments() {
 
 #[test]
 fn refused() {
-    let meeting = [0, 0, 2, 0, 0, 1, 1, 0, 1, 1, 0, 1];
+    let meeting = [0, 0, 2, 0, 0, 1, 0, 1, 0, 1, 1, 0, 1, 0];
     let refusal = clip(&meeting, Rule::NonZero, INSIDE).unwrap_err();
     assert_eq!(refusal, Refusal { reason: Reason::Meeting, place: 0 });
     assert_eq!(clip(&[0; WIDTH * (MOST_SEGMENTS + 1)], Rule::NonZero, INSIDE).unwrap_err().reason, Reason::Length);

@@ -14,6 +14,7 @@ const AX: usize = 0;
 const BY: usize = 3;
 const WINDING: usize = 4;
 const LINE_BITS: usize = 5;
+const LOT: usize = 6;
 
 /// Case A with one number of a segment changed.
 fn changed(segment: usize, at: usize, number: i32) -> [i32; A.len()] {
@@ -38,7 +39,7 @@ fn no_segments() {
 
 #[test]
 fn one_number_too_many_or_one_segment() {
-    let sentence = "the length is no multiple of six, or there are over 1,024 segments";
+    let sentence = "the length is no multiple of seven, or there are over 1,024 segments";
     refused(&A[..A.len() - 1], Reason::Length, 0, sentence);
     assert_eq!(fills(&A[..A.len() - 1], Rule::NonZero).unwrap_err().number(), 2);
     refused(&[0; WIDTH * (MOST_SEGMENTS + 1)], Reason::Length, 0, sentence);
@@ -51,13 +52,14 @@ fn one_number_out_of_range() {
     refused(&changed(1, BY, 0), Reason::Ends, 1, "segment 1: a is not less than b");
     refused(&changed(1, WINDING, -1001), Reason::Winding, 1, "segment 1: the winding is out of range");
     refused(&changed(8, LINE_BITS, 4), Reason::LineBits, 8, "segment 8: the line bits are out of range");
+    refused(&changed(4, LOT, 10_000), Reason::Lot, 4, "segment 4: the lot is out of range");
 }
 
 #[test]
 fn segments_together() {
-    let meeting = [0, 0, 2, 0, 0, 0, 1, 0, 1, 1, 0, 0];
+    let meeting = [0, 0, 2, 0, 0, 0, 0, 1, 0, 1, 1, 0, 0, 0];
     refused(&meeting, Reason::Meeting, 0, "segment 0: it and a later segment meet wrongly");
-    let one = [0, 0, 1, 0, 1, 0];
+    let one = [0, 0, 1, 0, 1, 0, 0];
     refused(&one, Reason::Balance, 0, "segment 0: the drawing does not balance at one of its ends");
 }
 

@@ -3,8 +3,8 @@ mod common;
 use common::A;
 use jumperclay::{read, read_into, Choices, ClipRule, Reason, Refusal, Rule, Text, MOST_BYTES, WIDTH};
 
-const LINE: &str = "0,0,1,0,0,1\n";
-const NUMBERS: [i32; WIDTH] = [0, 0, 1, 0, 0, 1];
+const LINE: &str = "0,0,1,0,0,1,7\n";
+const NUMBERS: [i32; WIDTH] = [0, 0, 1, 0, 0, 1, 7];
 
 fn refused(text: &[u8], reason: Reason, place: usize, sentence: &str) {
     let refusal = read(text).unwrap_err();
@@ -32,16 +32,18 @@ fn no_segments() {
 fn a_bad_line() {
     refused(b"", Reason::Line, 1, "line 1: it is malformed");
     refused(b"1,0\n", Reason::Line, 1, "line 1: it is malformed");
-    for bad in ["0,0,1,0,0\n", "0,0,1,0,0,1", "0,0,1,0,-0,1\n", "0,0,1,0,0,1000000000\n", "\n", "0,0,1,0,0,1\r\n"] {
+    let fields = ["0,0,1,0,0,1\n", "0,0,1,0,0,1,7,0\n", "0,0,1,0,0,1,\n", "0,0,1,0,0,1,07\n", "\n"];
+    let others = ["0,0,1,0,0,1,7", "0,0,1,0,-0,1,7\n", "0,0,1,0,0,1,1000000000\n", "0,0,1,0,0,1,7\r\n"];
+    for bad in fields.iter().chain(&others) {
         refused(format!("1,0,1\n{LINE}{bad}").as_bytes(), Reason::Line, 3, "line 3: it is malformed");
     }
 }
 
 #[test]
 fn a_text_too_long_by_one() {
-    let mut text = [b"1,0,1\n", LINE.repeat(5461).as_bytes()].concat();
+    let mut text = [b"1,0,1\n", LINE.repeat(4681).as_bytes()].concat();
     text.truncate(MOST_BYTES);
-    refused(&text, Reason::Line, 5462, "line 5462: it is malformed");
+    refused(&text, Reason::Line, 4682, "line 4682: it is malformed");
     text.push(b'\n');
     refused(&text, Reason::TextLength, 0, "the text has over 65,536 bytes");
 }
@@ -73,7 +75,7 @@ fn a_list_too_short_is_left_untouched() {
 
 #[test]
 fn any_text_is_read_whole() {
-    let shortest = "0,0,0,0,0,0\n".repeat((MOST_BYTES - "0,0,0\n".len()) / (2 * WIDTH));
+    let shortest = "0,0,0,0,0,0,0\n".repeat((MOST_BYTES - "0,0,0\n".len()) / (2 * WIDTH));
     let text = read(format!("0,0,0\n{shortest}").as_bytes()).unwrap();
     assert_eq!(text.segments.len(), shortest.len() / 2);
     assert_eq!(text.clip().unwrap_err().reason, Reason::Length);

@@ -1,16 +1,17 @@
 use jumperclay::{Reason, Refusal};
 
 /// Every reason, its number and its sentence at place 7.
-const REASONS: [(Reason, u64, &str); 15] = [
+const REASONS: [(Reason, u64, &str); 16] = [
     (Reason::Line, 1, "line 7: it is malformed"),
     (Reason::TextLength, 1, "the text has over 65,536 bytes"),
-    (Reason::Length, 2, "the length is no multiple of six, or there are over 1,024 segments"),
+    (Reason::Length, 2, "the length is no multiple of seven, or there are over 1,024 segments"),
     (Reason::PointsLength, 2, "the length is odd, or there are over 2,048 points"),
     (Reason::Coordinate, 3, "segment 7: a coordinate is out of range"),
     (Reason::PointCoordinate, 3, "point 7: a coordinate is out of range"),
     (Reason::Ends, 4, "segment 7: a is not less than b"),
     (Reason::Winding, 5, "segment 7: the winding is out of range"),
     (Reason::LineBits, 6, "segment 7: the line bits are out of range"),
+    (Reason::Lot, 13, "segment 7: the lot is out of range"),
     (Reason::Order, 7, "segment 7: a is less than the previous segment's a"),
     (Reason::Meeting, 8, "segment 7: it and a later segment meet wrongly"),
     (Reason::Balance, 9, "segment 7: the drawing does not balance at one of its ends"),

@@ -7,8 +7,8 @@ use jumperclay::{
 
 /// A square with a square hole.
 const FRAME: [i32; 8 * WIDTH] = [
-    0, 0, 0, 9, -1, 0, 0, 0, 9, 0, 1, 0, 0, 9, 9, 9, -1, 0, 3, 3, 3, 6, 1, 0, 3, 3, 6, 3, -1, 0, 3, 6, 6, 6, 1, 0, 6,
-    3, 6, 6, -1, 0, 9, 0, 9, 9, 1, 0,
+    0, 0, 0, 9, -1, 0, 0, 0, 0, 9, 0, 1, 0, 0, 0, 9, 9, 9, -1, 0, 0, 3, 3, 3, 6, 1, 0, 0, 3, 3, 6, 3, -1, 0, 0, 3, 6,
+    6, 6, 1, 0, 0, 6, 3, 6, 6, -1, 0, 0, 9, 0, 9, 9, 1, 0, 0,
 ];
 
 fn outer(points: &[Point]) -> Contour {
@@ -56,8 +56,8 @@ fn no_segments() {
 #[test]
 fn turned_down() {
     refused(&[0; WIDTH * (MOST_SEGMENTS + 1)], Reason::Length, 0);
-    refused(&[0, 0, 2, 0, 0, 1, 1, 0, 1, 1, 0, 1], Reason::Meeting, 0);
-    refused(&[0, 0, 1, 0, 0, 0, 1, 0, 16_777_217, 0, 0, 0], Reason::Coordinate, 1);
+    refused(&[0, 0, 2, 0, 0, 1, 0, 1, 0, 1, 1, 0, 1, 0], Reason::Meeting, 0);
+    refused(&[0, 0, 1, 0, 0, 0, 0, 1, 0, 16_777_217, 0, 0, 0, 0], Reason::Coordinate, 1);
 }
 
 #[test]

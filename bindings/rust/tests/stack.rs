@@ -17,10 +17,11 @@ const EACH: usize = 4;
 /// Of a drawing.
 const SIZES: [usize; 2] = [128, MOST_SEGMENTS];
 
-/// Squares side by side, each with a line along its bottom.
+/// Squares side by side, each with a line along its bottom, of a lot of its own.
 fn squares(segments: usize) -> Vec<i32> {
     let square = |x: i32| {
-        [[x, 0, x, 2, -1, 0], [x, 0, x + 2, 0, 1, 1], [x, 2, x + 2, 2, -1, 0], [x + 2, 0, x + 2, 2, 1, 0]].concat()
+        [[x, 0, x, 2, -1, 0, 0], [x, 0, x + 2, 0, 1, 1, x], [x, 2, x + 2, 2, -1, 0, 0], [x + 2, 0, x + 2, 2, 1, 0, 0]]
+            .concat()
     };
     (0..segments / EACH).flat_map(|k| square(3 * k as i32)).collect()
 }

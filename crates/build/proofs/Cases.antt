@@ -11,7 +11,7 @@ use Rattle.lists.specs.Written.{written}
 use Rattle.segm.specs.Segments.{front, segmentsOf, count, whole, segments, segmentAt, total}
 use Rattle.meetings.specs.Meetings.{side, parts, inInterior, sameEnds, meetsWrongly}
 use Rattle.balance.specs.Balance.{balance, balances}
-use Rattle.faults.specs.Faults.{endsInRange, rises, windingInRange, bitsInRange, fault, faultAt, faultsOf}
+use Rattle.faults.specs.Faults.{endsInRange, rises, windingInRange, bitsInRange, lotInRange, fault, faultAt, faultsOf}
 use Rattle.drawing_check.specs.Drawing.{meetingAt, unbalancedAt, meetingsOf, unbalancedOf, drawingVerdict}
 use Rattle.refusal.specs.Asked.{wrongLength, unknownChoice, tooShort, askedFirst}
 use Rattle.refusal.specs.Order.{firstFrom, first}
@@ -73,7 +73,7 @@ pub record Cases : Type 0 where
   pub even-below : filled EvenOdd (negsuc 1) ≡ false
 
 pub cases : Cases
-unfolding eqZ within ltP eqP coordinate inRange cross between any sum written front segmentsOf count whole segments segmentAt total side parts inInterior sameEnds meetsWrongly endsInRange rises windingInRange bitsInRange fault faultAt meetingAt balance balances unbalancedAt wrongLength unknownChoice tooShort firstFrom first asked askedFirst drawingVerdict faultsOf meetingsOf unbalancedOf verdict fillsRun spans above clockwise met bottom top filled ruleOf fillOf fill fills fillsOutcome
+unfolding eqZ within ltP eqP coordinate inRange cross between any sum written front segmentsOf count whole segments segmentAt total side parts inInterior sameEnds meetsWrongly endsInRange rises windingInRange bitsInRange lotInRange fault faultAt meetingAt balance balances unbalancedAt wrongLength unknownChoice tooShort firstFrom first asked askedFirst drawingVerdict faultsOf meetingsOf unbalancedOf verdict fillsRun spans above clockwise met bottom top filled ruleOf fillOf fill fills fillsOutcome
 cases = record {
   unknown-rule = refl;
   one-short = refl;

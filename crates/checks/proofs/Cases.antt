@@ -5,13 +5,13 @@ use lib.IntN.{ℤ, pos, negsuc}
 use Rattle.geom.specs.Points.{eqZ, within, ltP, eqP, coordinate, inRange, cross, between}
 use Rattle.lists.specs.Members.{any}
 use Rattle.lists.specs.Sums.{sum}
-use Rattle.segm.specs.CaseA.{segment, A}
+use Rattle.segm.specs.CaseA.{lotSegment, segment, A}
 use Rattle.segm.specs.Segments.{front, segmentsOf, count, whole, segments, segmentAt, total}
 use Rattle.meetings.specs.Meetings.{side, parts, inInterior, sameEnds, meetsWrongly}
 use Rattle.balance.specs.Balance.{balance, balances}
 use Rattle.refusal.specs.declared.Verdict.{Verdict}
 use Rattle.refusal.specs.declared.Verdict.the-variants.{Accepted, Refused}
-use Rattle.faults.specs.Faults.{endsInRange, rises, windingInRange, bitsInRange, fault, faultAt, faultsOf}
+use Rattle.faults.specs.Faults.{endsInRange, rises, windingInRange, bitsInRange, lotInRange, fault, faultAt, faultsOf}
 use Rattle.drawing_check.specs.Drawing.{meetingAt, meetingsOf, unbalancedAt, unbalancedOf, drawingVerdict}
 use Rattle.refusal.specs.Order.{firstFrom, first}
 use Rattle.refusal.specs.Asked.{wrongLength, unknownChoice, tooShort, askedFirst}
@@ -20,6 +20,11 @@ use Rattle.checks.specs.Runs.{fillsRun, clipRun, sliceRun, asked, verdic
 -- a clip run under nonzero, inside, boundary included, with lists for three segments
 abbrev clip : List ℤ → Verdict
 clip numbers = verdict (clipRun numbers (pos 1) (pos 0) (pos 1) 24 6)
+
+-- three lines in a row, of these lots
+abbrev chain : (first middle last : ℤ) → List ℤ
+chain first middle last =
+    lotSegment (pos 0) (pos 0) (pos 1) (pos 0) (pos 0) (pos 1) first ++ lotSegment (pos 1) (pos 0) (pos 2) (pos 0) (pos 0) (pos 1) middle ++ lotSegment (pos 2) (pos 0) (pos 3) (pos 0) (pos 0) (pos 1) last
 
 pub record Cases : Type 0 where
   -- x 16,777,216 is taken, 16,777,217 is not
@@ -32,6 +37,13 @@ pub record Cases : Type 0 where
   pub four-before-five : clip (segment (pos 1) (pos 0) (pos 1) (pos 0) (pos 1001) (pos 0)) ≡ Refused 4 0
   pub six-before-eight : clip (segment (pos 0) (pos 0) (pos 2) (pos 0) (pos 0) (pos 0) ++ segment (pos 1) (pos 0) (pos 1) (pos 1) (pos 0) (pos 0) ++ segment (pos 3) (pos 0) (pos 4) (pos 0) (pos 0) (pos 4)) ≡ Refused 6 2
   pub eight-before-nine : clip (segment (pos 0) (pos 0) (pos 2) (pos 0) (pos 1) (pos 0) ++ segment (pos 1) (pos 0) (pos 1) (pos 1) (pos 0) (pos 0)) ≡ Refused 8 0
+  -- lots 0 to 9,999 are taken, at the first, a middle and the last place; 6 before 13 before 7 within one segment
+  pub lot-9999 : clip (chain (pos 9999) (pos 0) (pos 9999)) ≡ Accepted
+  pub lot-10000-first : clip (chain (pos 10000) (pos 10000) (negsuc 0)) ≡ Refused 13 0
+  pub lot-below-middle : clip (chain (pos 0) (negsuc 0) (pos 10000)) ≡ Refused 13 1
+  pub lot-10000-last : clip (chain (pos 1) (pos 2) (pos 10000)) ≡ Refused 13 2
+  pub six-before-thirteen : clip (lotSegment (pos 0) (pos 0) (pos 1) (pos 0) (pos 0) (pos 4) (pos 10000)) ≡ Refused 6 0
+  pub thirteen-before-seven : clip (segment (pos 0) (pos 1) (pos 2) (pos 2) (pos 0) (pos 0) ++ lotSegment (pos 0) (pos 0) (pos 2) (pos 0) (pos 0) (pos 0) (negsuc 0)) ≡ Refused 13 1
   -- equal starts are taken, falling ones are not
   pub equal-starts : clip (segment (pos 0) (pos 0) (pos 2) (pos 2) (pos 0) (pos 0) ++ segment (pos 0) (pos 0) (pos 2) (pos 0) (pos 0) (pos 0)) ≡ Accepted
   pub falling-starts : clip (segment (pos 0) (pos 1) (pos 2) (pos 2) (pos 0) (pos 0) ++ segment (pos 0) (pos 0) (pos 2) (pos 0) (pos 0) (pos 0)) ≡ Refused 7 1
@@ -54,7 +66,7 @@ pub record Cases : Type 0 where
   pub roles-short : verdict (sliceRun A (pos 2) (pos 1) 36 18 17) ≡ Refused 11 0
 
 pub cases : Cases
-unfolding fillsRun clipRun sliceRun verdict asked askedFirst wrongLength unknownChoice tooShort first firstFrom drawingVerdict faultsOf meetingsOf unbalancedOf faultAt meetingAt unbalancedAt fault endsInRange rises windingInRange bitsInRange balance balances meetsWrongly parts inInterior sameEnds side total any sum front segmentsOf count whole segments segmentAt eqZ within ltP eqP coordinate inRange cross between
+unfolding fillsRun clipRun sliceRun verdict asked askedFirst wrongLength unknownChoice tooShort first firstFrom drawingVerdict faultsOf meetingsOf unbalancedOf faultAt meetingAt unbalancedAt fault endsInRange rises windingInRange bitsInRange lotInRange balance balances meetsWrongly parts inInterior sameEnds side total any sum front segmentsOf count whole segments segmentAt eqZ within ltP eqP coordinate inRange cross between
 cases = record {
   on-the-limit = refl;
   past-the-limit = refl;
@@ -63,6 +75,12 @@ cases = record {
   four-before-five = refl;
   six-before-eight = refl;
   eight-before-nine = refl;
+  lot-9999 = refl;
+  lot-10000-first = refl;
+  lot-below-middle = refl;
+  lot-10000-last = refl;
+  six-before-thirteen = refl;
+  thirteen-before-seven = refl;
   equal-starts = refl;
   falling-starts = refl;
   touched = refl;

@@ -11,7 +11,7 @@ use Rattle.geom.specs.Points.{ltP}
 use Rattle.refusal.specs.Order.{isAccepted}
 use Rattle.refusal.specs.Asked.{wrongLength, Choice, unknownChoice, Lent, tooShort}
 use Rattle.segm.specs.Segments.{Drawing, width, count, segments, segmentAt}
-use Rattle.faults.specs.Faults.{endsInRange, rises, windingInRange, bitsInRange}
+use Rattle.faults.specs.Faults.{endsInRange, rises, windingInRange, bitsInRange, lotInRange}
 use Rattle.faults.specs.Faultless.{Faultless}
 use Rattle.meetings.specs.Meetings.{meetsWrongly, NoneMeetWrongly}
 use Rattle.balance.specs.Balance.{balance, balances}
@@ -30,6 +30,7 @@ module _ (r : Run) where
     not-rising : (i : ℕ) → i < length d → rises (segmentAt d i) ≡ false → Fits 4 i
     winding-out : (i : ℕ) → i < length d → windingInRange (segmentAt d i) ≡ false → Fits 5 i
     bits-out : (i : ℕ) → i < length d → bitsInRange (segmentAt d i) ≡ false → Fits 6 i
+    lot-out : (i : ℕ) → i < length d → lotInRange (segmentAt d i) ≡ false → Fits 13 i
     start-falls : (i : ℕ) → suc i < length d → ltP (segmentAt d (suc i) .a) (segmentAt d i .a) ≡ true → Fits 7 (suc i)
     wrong-meeting : (i j : ℕ) → i < j → j < length d → meetsWrongly (segmentAt d i) (segmentAt d j) ≡ true → Fits 8 i
     a-unbalanced : (i : ℕ) → i < length d → balances d (segmentAt d i .a) ≡ false → Fits 9 i
@@ -46,7 +47,7 @@ inputOf r = record { numbers = r .numbers; choices = r .choices; lists = [] }
 unfoldable pub accepts : List ℤ → ℤ → ℤ → ℤ → Bool
 accepts numbers rule invert boundary = isAccepted (verdict (inputOf (clipRun numbers rule invert boundary 0 0)))
 
--- what an accepted drawing has: what 2 to 7 leave, no two segments meet wrongly (8), and every point is balanced (9)
+-- what an accepted drawing has: what 2 to 7 and 13 leave, no two segments meet wrongly (8), and every point is balanced (9)
 pub record Good (d : Drawing) : Type 0 where
   pub faultless : Faultless d
   pub apart : NoneMeetWrongly d

@@ -7,17 +7,18 @@ use Prim.Native.Nat.{ℕ, _≤_}
 use native.Mathlib.Omega.{arith}
 use lib.ListN.{length, replicate, length-replicate}
 use lib.IntN.{ℤ, pos, natAbs}
-use Rattle.integers.proofs.Booleans.{both-l, both-r}
 use Rattle.integers.proofs.Order.{abs-up-to}
 use Rattle.geom.specs.declared.Point.{Point}
 use Rattle.geom.specs.Points.{within, inRange}
 use Rattle.geom.proofs.Points.{within-l, within-r, near-x, near-y}
 use Rattle.segm.specs.declared.Segment.{Segment}
 use Rattle.lists.specs.Members.{_∈_}
+use Rattle.lists.specs.Sums.{tally}
 use Rattle.segm.specs.Segments.{Drawing, width, segments, numbersOf, laid}
 use Rattle.segm.proofs.Segments.Laid.{segments-laid}
 use Rattle.lists.proofs.Members.{in-map}
-use Rattle.faults.specs.Faults.{endsInRange}
+use Rattle.faults.specs.Faultless.{Faultless}
+use Rattle.faults.proofs.Faultless.{ends-near}
 use Rattle.refusal.specs.declared.Verdict.the-variants.{Accepted}
 use Rattle.checks.specs.Runs.{verdict, ruleChoice, flagChoice, clipRun}
 use Rattle.refusal.specs.Asked.{upTo}
@@ -33,8 +34,10 @@ use Rattle.string_clip.proofs.Run.ReadBack.{read-back}
 use Rattle.string_clip.proofs.Run.Accepted.{accepted-outcome, room-long}
 use Rattle.text.specs.declared.Choices.{Choices}
 use Rattle.text.specs.Grammar.{Parsed, Drawn, parsed}
-use Rattle.text.specs.Writing.{choiceNumbers, writing}
-use Rattle.text.proofs.Writing.{AllSmall, fits, reads-back}
+use Rattle.text.specs.Writing.{choiceNumbers, writing, AllNineDigits}
+use Rattle.text.proofs.Writing.{lineMost, fits, reads-back}
+use Rattle.writing.specs.Lengths.{signedLength, lineLength, rowLength}
+use Rattle.writing.proofs.Lengths.{signed-most, unsigned-most}
 use Rattle.clip_print.specs.Printed.{linesOf, printed}
 use Rattle.clip_text.specs.Answer.{runOn, textOutcome, answerTo}
 
@@ -42,16 +45,41 @@ use Rattle.clip_text.specs.Answer.{runOn, textOutcome, answerTo}
 known : (n : ℕ) (z : ℤ) → within (pos 0) (pos n) z ≡ true → natAbs z ≤ n
 known n z e = abs-up-to n z (within-l (pos 0) (pos n) z e) (within-r (pos 0) (pos n) z e)
 
-module _ (s : Segment) where
-  small-segment : endsInRange s ≡ true → natAbs (s .winding) ≤ 1000 → natAbs (s .bits) ≤ 3 → (z : ℤ) → z ∈ numbersOf s → natAbs z ≤ 16777216
-  unfolding numbersOf endsInRange
-  small-segment e w b z (inl q) = rw q (near-x (s .a) (both-l (inRange (s .a)) (inRange (s .b)) e))
-  small-segment e w b z (inr (inl q)) = rw q (near-y (s .a) (both-l (inRange (s .a)) (inRange (s .b)) e))
-  small-segment e w b z (inr (inr (inl q))) = rw q (near-x (s .b) (both-r (inRange (s .a)) (inRange (s .b)) e))
-  small-segment e w b z (inr (inr (inr (inl q)))) = rw q (near-y (s .b) (both-r (inRange (s .a)) (inRange (s .b)) e))
-  small-segment e w b z (inr (inr (inr (inr (inl q))))) = rw q (omega (arith, w))
-  small-segment e w b z (inr (inr (inr (inr (inr (inl q)))))) = rw q (omega (arith, b))
-  small-segment e w b z (inr (inr (inr (inr (inr (inr m)))))) = absurd m
+module _ {d : Drawing} (f : Faultless d) (s : Segment) (m : s ∈ d) where
+  abbrev ends : (inRange (s .a) ≡ true) × (inRange (s .b) ≡ true)
+  ends = ends-near f s m
+
+  bits-small : natAbs (s .bits) ≤ 3
+  bits-small = abs-up-to 3 (s .bits) (f .bits s m .0) (f .bits s m .1)
+
+  lot-small : natAbs (s .lot) ≤ 9999
+  lot-small = abs-up-to 9999 (s .lot) (f .lots s m .0) (f .lots s m .1)
+
+  small-segment : (z : ℤ) → z ∈ numbersOf s → natAbs z ≤ 16777216
+  unfolding numbersOf
+  small-segment z (inl q) = rw q (near-x (s .a) (ends .0))
+  small-segment z (inr (inl q)) = rw q (near-y (s .a) (ends .0))
+  small-segment z (inr (inr (inl q))) = rw q (near-x (s .b) (ends .1))
+  small-segment z (inr (inr (inr (inl q)))) = rw q (near-y (s .b) (ends .1))
+  small-segment z (inr (inr (inr (inr (inl q))))) = rw q (omega (arith, f .winding s m))
+  small-segment z (inr (inr (inr (inr (inr (inl q)))))) = rw q (omega (arith, bits-small))
+  small-segment z (inr (inr (inr (inr (inr (inr (inl q))))))) = rw q (omega (arith, lot-small))
+  small-segment z (inr (inr (inr (inr (inr (inr (inr i))))))) = absurd i
+
+  -- its line
+  short-segment : rowLength (numbersOf s) ≤ lineMost
+  unfolding numbersOf rowLength lineLength tally
+  short-segment =
+      omega (
+        arith,
+        signed-most 7 (s .a .x) (omega (arith, near-x (s .a) (ends .0))),
+        signed-most 7 (s .a .y) (omega (arith, near-y (s .a) (ends .0))),
+        signed-most 7 (s .b .x) (omega (arith, near-x (s .b) (ends .1))),
+        signed-most 7 (s .b .y) (omega (arith, near-y (s .b) (ends .1))),
+        signed-most 3 (s .winding) (omega (arith, f .winding s m)),
+        unsigned-most 0 (s .bits) (f .bits s m .0) (omega (arith, bits-small)),
+        unsigned-most 3 (s .lot) (f .lots s m .0) (omega (arith, lot-small)),
+      )
 
 module _ (c : Choices) (d : Drawing) (e : accepts (laid d) (c .rule) (c .invert) (c .boundary) ≡ true) where
   good : Good d
@@ -61,24 +89,31 @@ module _ (c : Choices) (d : Drawing) (e : accepts (laid d) (c .rule) (c .invert)
   unfolding clipRun
   known-choice n z m = known n z (verdict-known _ (accepted-input (laid d) (c .rule) (c .invert) (c .boundary) e) (upTo (pos n) z) m)
 
-  small-choices : (z : ℤ) → z ∈ choiceNumbers c → natAbs z ≤ 16777216
+  small-choices : (z : ℤ) → z ∈ choiceNumbers c → natAbs z ≤ 3
   unfolding choiceNumbers
-  small-choices z (inl q) = rw q (omega (arith, known-choice 3 (c .rule) (inl refl)))
+  small-choices z (inl q) = rw q (known-choice 3 (c .rule) (inl refl))
   small-choices z (inr (inl q)) = rw q (omega (arith, known-choice 1 (c .invert) (inr (inl refl))))
   small-choices z (inr (inr (inl q))) = rw q (omega (arith, known-choice 1 (c .boundary) (inr (inr (inl refl)))))
   small-choices z (inr (inr (inr m))) = absurd m
 
-  small : AllSmall (choiceNumbers c ∷ map numbersOf d)
-  small r (inl q) z m = small-choices z (subst (λ (l : List ℤ). z ∈ l) q m)
-  small r (inr i) z m =
-      let f = in-map numbersOf r d i in
-      let s = f .0 in
-      let b = good .faultless .bits s (f .1) in
-      small-segment s (good .faultless .near s (f .1)) (good .faultless .winding s (f .1)) (abs-up-to 3 (s .bits) (b .0) (b .1)) z (subst (λ (l : List ℤ). z ∈ l) (f .2) m)
+  short-choices : rowLength (choiceNumbers c) ≤ lineMost
+  unfolding choiceNumbers rowLength lineLength tally
+  short-choices =
+      let most : (z : ℤ) → z ∈ choiceNumbers c → signedLength z ≤ 2 = λ z m. signed-most 0 z (omega (arith, small-choices z m)) in
+      omega (arith, most (c .rule) (inl refl), most (c .invert) (inr (inl refl)), most (c .boundary) (inr (inr (inl refl))))
+
+  nine-digits : AllNineDigits (choiceNumbers c ∷ map numbersOf d)
+  nine-digits r (inl q) z m = omega (arith, small-choices z (subst (λ (l : List ℤ). z ∈ l) q m))
+  nine-digits r (inr i) z m = let f = in-map numbersOf r d i in omega (arith, small-segment (good .faultless) (f .0) (f .1) z (subst (λ (l : List ℤ). z ∈ l) (f .2) m))
+
+  -- at most 53 bytes in a line
+  short-lines : (r : List ℤ) → r ∈ (choiceNumbers c ∷ map numbersOf d) → rowLength r ≤ lineMost
+  short-lines r (inl q) = rw q short-choices
+  short-lines r (inr i) = let f = in-map numbersOf r d i in rw (f .2) (short-segment (good .faultless) (f .0) (f .1))
 
   -- an accepted drawing has a text, which holds its choices and its numbers
   pub accepted-text : parsed width (writing c d) ≡ Drawn c (laid d)
-  accepted-text = reads-back c d (λ r i z m. omega (arith, small r i z m)) (fits c d (good .faultless .few) small)
+  accepted-text = reads-back c d nine-digits (fits c d (good .faultless .few) short-lines)
 
   -- lists for 1,024 segments are long enough for it
   accepted-clip : (ls : Lists) → length (ls .points) ≡ 8192 → length (ls .lengths) ≡ 2048 → verdict (runOf (laid d) (c .rule) (c .invert) (c .boundary) ls) ≡ Accepted

@@ -10,6 +10,7 @@ use borrow.Author.Tests.{ltb-true, ltb-false, leb-true, eqb-true, eqb-false, lt-
 use lib.Dec.{eqb, leb, ltb, lit<, eqb·suc-zero}
 use lib.ListN.{length}
 use lib.IntN.{ℤ, pos, negsuc, natAbs}
+use lib.Signed.{_≤ℤ_}
 use Rattle.integers.proofs.Booleans.{both, both-l, both-r, neither, nor-l, nor-r}
 use Rattle.lists.specs.Members.{_∈_}
 use Rattle.decimal.specs.declared.Field.the-variants.{Number, Malformed}
@@ -217,6 +218,12 @@ pub signed-short : (j : ℕ) (z : ℤ) → natAbs z < 10 ^ suc j → length (sig
 unfolding signed decimal
 signed-short j (pos n) h = omega (arith, length-below (wrote 20 n []) j h)
 signed-short j (negsuc n) h = omega (arith, length-below (wrote 20 (suc n) []) j h)
+
+-- without a minus
+pub unsigned-short : (j : ℕ) (z : ℤ) → pos 0 ≤ℤ z → natAbs z < 10 ^ suc j → length (signed z) ≤ suc j
+unfolding signed decimal
+unsigned-short j (pos n) l h = omega (arith, length-below (wrote 20 n []) j h)
+unsigned-short j (negsuc n) l h = absurd (omega arith)
 
 pub signed-bytes : (z : ℤ) (x : ℕ) → x ∈ signed z → 45 ≤ x
 unfolding signed decimal

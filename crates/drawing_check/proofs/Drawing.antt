@@ -83,7 +83,7 @@ drawing-passed d e =
     let e₈ = accepted-then (meetingsOf d) _ (e₃ .1) in
     record { faultless = e₃ .0; apart = e₈ .0; balanced = e₈ .1 }
 
--- ---- 3 to 7 were looked for, unless something was refused before: f is what came of it
+-- ---- 3 to 7 and 13 were looked for, unless something was refused before: f is what came of it
 module _ (before : Verdict) (d : Drawing) {f : Verdict} (e : f ≡ (before then faultsOf d)) where
   in-turn : (before then drawingVerdict d) ≡ (f then meetingsOf d then unbalancedOf d)
   unfolding drawingVerdict

@@ -1,4 +1,4 @@
--- The verdict on a drawing alone: refusals 3 to 9, each at the place of a segment. A place with nothing wrong has the number 0.
+-- The verdict on a drawing alone: refusals 3 to 9 and 13, each at the place of a segment. A place with nothing wrong has the number 0.
 use mathlib.Core.Bool.{_&&_, cond}
 use Prim.Native.Nat.{ℕ, suc}
 use lib.ListN.{length, drop}
@@ -26,6 +26,6 @@ unbalancedAt d i = cond (balances d (segmentAt d i .a) && balances d (segmentAt 
 unfoldable pub unbalancedOf : Drawing → Verdict
 unbalancedOf d = first (unbalancedAt d) (length d)
 
--- 3 to 7 by place, then 8, then 9
+-- 3 to 7 and 13 by place, then 8, then 9
 unfoldable pub drawingVerdict : Drawing → Verdict
 drawingVerdict d = faultsOf d then meetingsOf d then unbalancedOf d

@@ -1,4 +1,5 @@
-// The verdict on a drawing alone, refusals 3 to 9, unless something was refused before; and what an accepted drawing leaves for a run: its nodes and top counts.
+// The verdict on a drawing alone, refusals 3 to 9 and 13, unless something was refused before; and what an accepted drawing leaves for a run: its nodes and top
+// counts.
 use refusal::Verdict;
 use segm::Segment;
 ghost use mathlib.Core.Path.{_≡_};
@@ -120,8 +121,8 @@ fn find_by_ends(
     find_unbalanced(s, &nodes[..e], sums)
 }
 
-// Refusals 8 and 9 of a drawing that 2 to 7 leave: its ends are ordered for it. All lists are working memory; an accepted drawing's nodes and top counts are left
-// in those before `keys`.
+// Refusals 8 and 9 of a drawing that 2 to 7 and 13 leave: its ends are ordered for it. All lists are working memory; an accepted drawing's nodes and top counts
+// are left in those before `keys`.
 fn check_ends(
     s: &[i32],
     flat: &mut [u16],

@@ -1,4 +1,4 @@
--- A drawing in which 2 to 7 find nothing is faultless; its segments by place.
+-- A drawing in which 2 to 7 and 13 find nothing is faultless; its segments by place.
 use mathlib.Core.Path.{_≡_, ap, subst, _∙_}
 use mathlib.Core.List.{[], _∷_}
 use mathlib.Core.Logic.{_⊎_, inl, inr}
@@ -17,7 +17,7 @@ use Rattle.refusal.specs.declared.Verdict.the-variants.{Accepted}
 use Rattle.segm.specs.declared.Segment.{Segment}
 use Rattle.segm.specs.Segments.{Drawing, nowhere, segmentAt}
 use Rattle.segm.proofs.Segments.{everywhere}
-use Rattle.faults.specs.Faults.{endsInRange, rises, windingInRange, bitsInRange, faultsOf}
+use Rattle.faults.specs.Faults.{endsInRange, rises, windingInRange, bitsInRange, lotInRange, faultsOf}
 use Rattle.faults.specs.Faultless.{Proper, Faultless}
 use Rattle.faults.proofs.Faults.{NoFault, no-fault-at}
 
@@ -51,13 +51,14 @@ rising-starts d at = rising-pairs d (neighbours d (λ i l. let k : suc i - 1 ≡
 
 -- ---- the law
 pub faultless : (d : Drawing) → length d ≤ 1024 → faultsOf d ≡ Accepted → Faultless d
-unfolding segmentAt rises bitsInRange
+unfolding segmentAt rises bitsInRange lotInRange
 faultless d few e = record {
   few = few;
   near = everywhere d (λ s. endsInRange s ≡ true) (λ i l. at i l .ends);
   proper = everywhere d (λ s. ltP (s .a) (s .b) ≡ true) (λ i l. at i l .order);
   winding = everywhere d _ (λ i l. winding-bound (segmentAt d i) (at i l .winding));
   bits = everywhere d _ (λ i l. (within-l (pos 0) (pos 3) (segmentAt d i .bits) (at i l .bits), within-r (pos 0) (pos 3) (segmentAt d i .bits) (at i l .bits)));
+  lots = everywhere d _ (λ i l. (within-l (pos 0) (pos 9999) (segmentAt d i .lot) (at i l .lot), within-r (pos 0) (pos 9999) (segmentAt d i .lot) (at i l .lot)));
   rising = rising-starts d at;
 }
   where

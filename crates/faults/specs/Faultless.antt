@@ -1,4 +1,4 @@
--- What refusals 2 to 7 leave of a drawing.
+-- What refusals 2 to 7 and 13 leave of a drawing.
 use mathlib.Core.Path.{_≡_}
 use mathlib.Core.Bool.{true, false}
 use Prim.Native.Nat.{_≤_}
@@ -17,11 +17,12 @@ pub record Proper (s : Segment) : Type 0 where
   pub near-b : inRange (s .b) ≡ true
   pub rises : ltP (s .a) (s .b) ≡ true
 
--- a drawing that 2 to 7 leave
+-- a drawing that 2 to 7 and 13 leave
 pub record Faultless (d : Drawing) : Type 0 where
   pub few : length d ≤ 1024
   pub near : (s : Segment) → s ∈ d → endsInRange s ≡ true
   pub proper : (s : Segment) → s ∈ d → ltP (s .a) (s .b) ≡ true
   pub winding : (s : Segment) → s ∈ d → natAbs (s .winding) ≤ 1000
   pub bits : (s : Segment) → s ∈ d → (pos 0 ≤ℤ s .bits) × (s .bits ≤ℤ pos 3)
+  pub lots : (s : Segment) → s ∈ d → (pos 0 ≤ℤ s .lot) × (s .lot ≤ℤ pos 9999)
   pub rising : Pairs (λ s t. ltP (t .a) (s .a) ≡ false) d

@@ -1,4 +1,4 @@
-// Refusals 3 to 7: what can be wrong with one segment, by place.
+// Refusals 3 to 7 and 13: what can be wrong with one segment, by place.
 use geom::Point;
 use refusal::Verdict;
 use segm::Segment;
@@ -7,7 +7,7 @@ ghost use Rattle.refusal.specs.Order.{_then_};
 ghost use Rattle.segm.specs.Segments.{segments};
 ghost use Rattle.faults.specs.Faults.{fault, faultsOf};
 
-// The lowest of refusals 3 to 7 that fits t, where the segment before it starts at p; 0 for none.
+// The first of refusals 3, 4, 5, 6, 13, 7 that fits t, where the segment before it starts at p; 0 for none.
 fn fault(p: Point, t: Segment) -> u32
     ensures { λ r. ⌜ r ≡ fault p t ⌝ }
 {
@@ -24,6 +24,9 @@ fn fault(p: Point, t: Segment) -> u32
     }
     if !geom::is_within(0, 3, t.bits) {
         return 6;
+    }
+    if !geom::is_within(0, 9999, t.lot) {
+        return 13;
     }
     if geom::less(a, p) {
         return 7;

@@ -18,8 +18,8 @@
 //   an end;
 // - ends on one x are one event: what ends there leaves before anything enters, so it is no neighbour of what starts there.
 //
-// Names: `s` is the drawing, six numbers a segment; `flat` its ends in order of x, then y (of n segments, end e below n is the a of segment e, and n + i the b
-// of segment i); `list[..used]` has the places of the open segments; `tops` a top count for each place; `passed` ends and `started` segments are behind the
+// Names: `s` is the drawing, seven numbers a segment; `flat` its ends in order of x, then y (of n segments, end e below n is the a of segment e, and n + i the
+// b of segment i); `list[..used]` has the places of the open segments; `tops` a top count for each place; `passed` ends and `started` segments are behind the
 // sweep; `near` and `guess` are places of the list to look at first; `clear` says that all tests were passed so far.
 use open_list::Status;
 ghost use mathlib.Core.Path.{_≡_};

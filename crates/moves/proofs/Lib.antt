@@ -5,3 +5,4 @@ pub mod Worth
 pub mod Moves
 pub mod Begins
 pub mod ByEnd
+pub mod SameEnds

@@ -1,16 +1,17 @@
--- The fills of a drawing: how their parts are read back, how large they are, and that line bits count for their own four-fold part only.
-use mathlib.Core.Path.{_≡_, refl, sym, ap, ap₂, subst, _∙_}
+-- The fills of a drawing: how their parts are read back, how large they are, that line bits count for their own four-fold part only, and lots not at all.
+use mathlib.Core.Path.{_≡_, refl, sym, ap, ap₂, subst, _∙_, fun-ext}
 use mathlib.Core.List.{[], _∷_, map, map-map}
 use mathlib.Core.Logic.{inl, inr}
 use mathlib.Core.Bool.{cond}
 use Prim.Native.Nat.{ℕ, _+_, _*_, _/_, _%_, _<_}
 use native.Mathlib.Omega.{arith}
 use lib.ListN.{length, length-map}
-use lib.IntN.{pos, natAbs}
+use lib.IntN.{pos, natAbs, _+ℤ_}
 use Rattle.segm.specs.declared.Segment.{Segment}
 use Rattle.lists.specs.Members.{_∈_}
-use Rattle.segm.specs.Segments.{Drawing, total, withBits}
-use Rattle.lists.proofs.Sums.{sum-map}
+use Rattle.segm.specs.Segments.{Drawing, withBits}
+use Rattle.segm.specs.Lots.{unlotted}
+use Rattle.segm.proofs.Segments.{total-map}
 use Rattle.meetings.specs.Meetings.{side}
 use Rattle.fill_rule.specs.declared.Rule.{Rule}
 use Rattle.fill_rule.specs.FillRule.{filled, fillOf}
@@ -18,7 +19,6 @@ use Rattle.fill_rule.proofs.Parts.{bits-abs, top-part, bottom-part, line-part, 
 use Rattle.checks.specs.Accepted.{Good}
 use Rattle.strip.specs.Strip.{spans, above, clockwise}
 use Rattle.ray.specs.Ray.{met, bottom, top, fill, fills}
-use Rattle.ray.proofs.Counts.{adds}
 
 -- ---- the parts of a fill
 module _ (rule : Rule) (d : Drawing) (i : Segment) where
@@ -60,8 +60,8 @@ plain = withBits (pos 0)
 
 module _ (d : Drawing) (i : Segment) where
   bottom-plain : bottom (map plain d) (plain i) ≡ bottom d i
-  unfolding bottom total met spans above clockwise side
-  bottom-plain = sum-map (adds (plain i)) plain d
+  unfolding bottom met spans above clockwise side
+  bottom-plain = total-map d plain (met (plain i)) (met i) (λ s. refl)
 
   pub fill-plain : (rule : Rule) → fill rule d i ≡ fill rule (map plain d) (plain i) + 4 * natAbs (i .bits)
   unfolding fill fillOf top
@@ -85,3 +85,12 @@ sides-plain rule d = go d ∙ sym (ap (map sides) (map-map (fill rule (map plain
 -- two drawings that differ in line bits alone have the same sides filled
 pub sides-alike : (rule : Rule) (d e : Drawing) → map plain d ≡ map plain e → map sides (fills rule d) ≡ map sides (fills rule e)
 sides-alike rule d e q = sides-plain rule d ∙ ap (λ (l : Drawing). map sides (fills rule l)) q ∙ sym (sides-plain rule e)
+
+-- ---- lots do not count
+pub fill-unlotted : (rule : Rule) (d : Drawing) (i : Segment) → fill rule (map unlotted d) (unlotted i) ≡ fill rule d i
+unfolding fill top bottom met spans above clockwise side
+fill-unlotted rule d i = ap (λ z. fillOf rule (z +ℤ i .winding) z (i .bits)) (total-map d unlotted (met (unlotted i)) (met i) (λ s. refl))
+
+pub fills-unlotted : (rule : Rule) (d : Drawing) → fills rule (map unlotted d) ≡ fills rule d
+unfolding fills
+fills-unlotted rule d = map-map (fill rule (map unlotted d)) unlotted d ∙ ap (λ (f : Segment → ℕ). map f d) (fun-ext (fill-unlotted rule d))

@@ -1,1 +1,2 @@
 pub mod Segments
+pub mod Lots

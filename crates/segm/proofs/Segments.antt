@@ -1,6 +1,6 @@
 -- Segments by place, and what a sum of windings depends on.
 use mathlib.Core.Path.{_≡_, refl, sym, _∙_, ap, ap₂, subst}
-use mathlib.Core.List.{List, _++_}
+use mathlib.Core.List.{List, _++_, map}
 use mathlib.Core.Bool.{Bool, true, false, _&&_}
 use Prim.Native.Nat.{ℕ, zero, suc, _+_, _*_, _<_, _≤_}
 use native.Mathlib.Omega.{arith}
@@ -12,7 +12,7 @@ use Rattle.lists.specs.Members.{_∈_}
 use Rattle.lists.specs.Sums.{only}
 use Rattle.segm.specs.Segments.{Drawing, width, front, segmentsOf, count, segments, nowhere, segmentAt, total}
 use Rattle.lists.proofs.Members.{in-at, stands}
-use Rattle.lists.proofs.Sums.{sum-cong, sum-zero, sum-split, sum-trade, sum-++}
+use Rattle.lists.proofs.Sums.{sum-cong, sum-zero, sum-split, sum-trade, sum-++, sum-map}
 pub mod Laid
 
 length-segmentsOf : (n : ℕ) (l : List ℤ) → length (segmentsOf n l) ≡ n
@@ -95,6 +95,11 @@ module _ (d : Drawing) where
   pub total-cong : (P Q : Segment → Bool) → ((s : Segment) → s ∈ d → P s ≡ Q s) → total P d ≡ total Q d
   unfolding total
   total-cong P Q h = sum-cong d (λ s m. only-cong (s .winding) (h s m))
+
+  -- segments altered, and a test that says the same of them
+  pub total-map : (g : Segment → Segment) (P Q : Segment → Bool) → ((s : Segment) → only (P (g s)) (g s .winding) ≡ only (Q s) (s .winding)) → total P (map g d) ≡ total Q d
+  unfolding total
+  total-map g P Q h = sum-map (λ s. only (P s) (s .winding)) g d ∙ sum-cong d (λ s m. h s)
 
   pub total-none : (P : Segment → Bool) → ((s : Segment) → s ∈ d → P s ≡ false) → total P d ≡ pos 0
   unfolding total

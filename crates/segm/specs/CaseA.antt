@@ -2,9 +2,13 @@
 use mathlib.Core.List.{List, [], _∷_, _++_}
 use lib.IntN.{ℤ, pos, negsuc}
 
--- one segment: ax, ay, bx, by, winding, line bits
+-- one segment: ax, ay, bx, by, winding, line bits, lot
+abbrev pub lotSegment : ℤ → ℤ → ℤ → ℤ → ℤ → ℤ → ℤ → List ℤ
+lotSegment ax ay bx by winding bits lot = ax ∷ ay ∷ bx ∷ by ∷ winding ∷ bits ∷ lot ∷ []
+
+-- one of no lot
 abbrev pub segment : ℤ → ℤ → ℤ → ℤ → ℤ → ℤ → List ℤ
-segment ax ay bx by winding bits = ax ∷ ay ∷ bx ∷ by ∷ winding ∷ bits ∷ []
+segment ax ay bx by winding bits = lotSegment ax ay bx by winding bits (pos 0)
 
 -- case A
 abbrev pub A : List ℤ

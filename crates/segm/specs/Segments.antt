@@ -13,9 +13,9 @@ use Rattle.lists.specs.Sums.{sum, only}
 abbrev pub Drawing : Type 0
 Drawing = List Segment
 
--- a segment is six numbers: ax, ay, bx, by, winding, line bits
+-- a segment is seven numbers: ax, ay, bx, by, winding, line bits, lot
 abbrev pub width : ℕ
-width = 6
+width = 7
 
 -- the segment at the front of a list of numbers
 unfoldable pub front : List ℤ → Segment
@@ -24,11 +24,16 @@ front l = record {
   b = record { x = getD l 2 (pos 0); y = getD l 3 (pos 0) };
   winding = getD l 4 (pos 0);
   bits = getD l 5 (pos 0);
+  lot = getD l 6 (pos 0);
 }
 
 -- s with other line bits
 abbrev pub withBits : ℤ → Segment → Segment
-withBits bits s = record { a = s .a; b = s .b; winding = s .winding; bits = bits }
+withBits bits s = record { a = s .a; b = s .b; winding = s .winding; bits = bits; lot = s .lot }
+
+-- s with another lot
+abbrev pub withLot : ℤ → Segment → Segment
+withLot lot s = record { a = s .a; b = s .b; winding = s .winding; bits = s .bits; lot = lot }
 
 -- n segments, one after the other
 unfoldable pub segmentsOf : ℕ → List ℤ → Drawing
@@ -49,7 +54,7 @@ segments l = segmentsOf (count l) l
 
 -- the numbers of a segment, in their order
 unfoldable pub numbersOf : Segment → List ℤ
-numbersOf s = s .a .x ∷ s .a .y ∷ s .b .x ∷ s .b .y ∷ s .winding ∷ s .bits ∷ []
+numbersOf s = s .a .x ∷ s .a .y ∷ s .b .x ∷ s .b .y ∷ s .winding ∷ s .bits ∷ s .lot ∷ []
 
 -- the numbers of segments, one after the other
 unfoldable pub laid : Drawing → List ℤ
@@ -58,7 +63,7 @@ laid (s ∷ d) = numbersOf s ++ laid d
 
 -- what stands at no place: all numbers 0
 abbrev pub nowhere : Segment
-nowhere = record { a = record { x = pos 0; y = pos 0 }; b = record { x = pos 0; y = pos 0 }; winding = pos 0; bits = pos 0 }
+nowhere = record { a = record { x = pos 0; y = pos 0 }; b = record { x = pos 0; y = pos 0 }; winding = pos 0; bits = pos 0; lot = pos 0 }
 
 -- the segment at place i, from 0
 unfoldable pub segmentAt : Drawing → ℕ → Segment

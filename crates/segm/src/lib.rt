@@ -7,16 +7,18 @@ ghost use Prim.Native.Nat.{_+_, _*_, _≤_, _<_};
 ghost use lib.ListN.{length, take, drop};
 ghost use Rattle.segm.specs.Segments.{width, count, segments, segmentAt, numbersOf};
 
-// A segment from a to b, a being the lesser. The winding is positive when the outline runs from a to b. Of the line bits, 1 is a line drawn from a to b and 2 one from b to a.
+// A segment from a to b, a being the lesser. The winding is positive when the outline runs from a to b. Of the line bits, 1 is a line drawn from a to b and 2 one
+// from b to a. The lot is that of the flour, 0 for none.
 pub struct Segment {
     pub a: Point,
     pub b: Point,
     pub winding: i32,
     pub bits: i32,
+    pub lot: i32,
 }
 
 // How many numbers a segment has.
-pub const WIDTH: usize = 6;
+pub const WIDTH: usize = 7;
 
 // How many segments a drawing has at most.
 pub const MOST: usize = 1024;
@@ -53,6 +55,7 @@ pub fn segment_in(s: &[i32], i: usize) -> Segment
         b: b,
         winding: s[k + 4],
         bits: s[k + 5],
+        lot: s[k + 6],
     }
 }
 
@@ -67,6 +70,7 @@ pub fn segment_at(s: &[i32], i: usize) -> Segment
             b: o,
             winding: 0,
             bits: 0,
+            lot: 0,
         };
     }
     segment_in(s, i)
@@ -86,10 +90,12 @@ pub fn put(s: &mut [i32], i: usize, t: Segment)
     let by = b.y;
     let winding = t.winding;
     let bits = t.bits;
+    let lot = t.lot;
     s[k] = ax;
     s[k + 1] = ay;
     s[k + 2] = bx;
     s[k + 3] = by;
     s[k + 4] = winding;
     s[k + 5] = bits;
+    s[k + 6] = lot;
 }

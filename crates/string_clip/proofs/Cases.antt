@@ -15,7 +15,7 @@ use Rattle.segm.specs.Segments.{front, segmentsOf, count, whole, segments, segm
 use Rattle.meetings.specs.Meetings.{side, parts, inInterior, sameEnds, meetsWrongly}
 use Rattle.refusal.specs.declared.Verdict.the-variants.{Accepted}
 use Rattle.balance.specs.Balance.{balance, balances}
-use Rattle.faults.specs.Faults.{endsInRange, rises, windingInRange, bitsInRange, fault, faultAt, faultsOf}
+use Rattle.faults.specs.Faults.{endsInRange, rises, windingInRange, bitsInRange, lotInRange, fault, faultAt, faultsOf}
 use Rattle.drawing_check.specs.Drawing.{meetingAt, unbalancedAt, meetingsOf, unbalancedOf, drawingVerdict}
 use Rattle.refusal.specs.Asked.{wrongLength, unknownChoice, tooShort, askedFirst}
 use Rattle.refusal.specs.Order.{firstFrom, first}
@@ -100,7 +100,7 @@ pub record Cases : Type 0 where
   pub accepted-A : accepts A (pos 1) (pos 0) (pos 1) ≡ true
 
 pub cases : Cases
-unfolding accepts clipRun verdict asked askedFirst drawingVerdict faultsOf meetingsOf unbalancedOf wrongLength unknownChoice tooShort first firstFrom faultAt meetingAt unbalancedAt fault endsInRange rises windingInRange bitsInRange balance balances meetsWrongly parts inInterior sameEnds side total any sum tally keep written upFrom front segmentsOf count whole segments segmentAt eqZ within ltP eqP coordinate inRange cross between spans above clockwise met bottom top filled ruleOf fillOf fill sidesSet keepsSides keeps filterOf keptLinks node has clear asDrawn remains taken takenAll bitsRemaining firstRemaining bothMoves begins way over other fitting goesOn follow pathFrom pathsFrom walk through finished pathPoints clipPaths stepsFrom stepsOfPath stepsOf travelOf travel totals coordinates flatten clipOutcome
+unfolding accepts clipRun verdict asked askedFirst drawingVerdict faultsOf meetingsOf unbalancedOf wrongLength unknownChoice tooShort first firstFrom faultAt meetingAt unbalancedAt fault endsInRange rises windingInRange bitsInRange lotInRange balance balances meetsWrongly parts inInterior sameEnds side total any sum tally keep written upFrom front segmentsOf count whole segments segmentAt eqZ within ltP eqP coordinate inRange cross between spans above clockwise met bottom top filled ruleOf fillOf fill sidesSet keepsSides keeps filterOf keptLinks node has clear asDrawn remains taken takenAll bitsRemaining firstRemaining bothMoves begins way over other fitting goesOn follow pathFrom pathsFrom walk through finished pathPoints clipPaths stepsFrom stepsOfPath stepsOf travelOf travel totals coordinates flatten clipOutcome
 cases = record {
   inside-A = λ xs ns. refl;
   outside-A = λ xs ns. refl;

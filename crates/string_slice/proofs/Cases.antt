@@ -17,7 +17,7 @@ use Rattle.contour.specs.Points.{coordinates}
 use Rattle.contour.specs.Area.{crossProduct, around, shoelace, isClockwise, isLarge}
 use Rattle.meetings.specs.Meetings.{side, parts, inInterior, sameEnds, meetsWrongly}
 use Rattle.balance.specs.Balance.{balance, balances}
-use Rattle.faults.specs.Faults.{endsInRange, rises, windingInRange, bitsInRange, fault, faultAt, faultsOf}
+use Rattle.faults.specs.Faults.{endsInRange, rises, windingInRange, bitsInRange, lotInRange, fault, faultAt, faultsOf}
 use Rattle.drawing_check.specs.Drawing.{meetingAt, unbalancedAt, meetingsOf, unbalancedOf, drawingVerdict}
 use Rattle.refusal.specs.Asked.{wrongLength, unknownChoice, tooShort, askedFirst}
 use Rattle.refusal.specs.Order.{firstFrom, first}
@@ -87,7 +87,7 @@ pub record Cases : Type 0 where
   pub all-dropped : sliceContours NonZero true 82 (segments holed) ≡ some []
 
 pub cases : Cases
-unfolding any sum tally keep written upFrom front segmentsOf count whole segments segmentAt total eqZ within ltP eqP coordinate inRange cross between endsInRange rises windingInRange bitsInRange fault faultAt meetingAt balance balances unbalancedAt meetsWrongly parts inInterior sameEnds side wrongLength unknownChoice tooShort firstFrom first asked askedFirst drawingVerdict faultsOf meetingsOf unbalancedOf verdict sliceRun spans above clockwise met bottom top filled ruleOf fillOf fill fills coordinates crossProduct around shoelace isClockwise isLarge node has clear asDrawn remains taken takenAll bitsRemaining firstRemaining bothMoves begins way over other fitting isSighted numberOf sight closed bufferPoint bufferPoints rest allLoops splitLoops rotated isWide isNearer moveFrom nearest findNearest till walkFrom walksFrom walks directionOf walkPoints sideBits contourOf walkContours allContours sliceContours sliceOutcome flatten
+unfolding any sum tally keep written upFrom front segmentsOf count whole segments segmentAt total eqZ within ltP eqP coordinate inRange cross between endsInRange rises windingInRange bitsInRange lotInRange fault faultAt meetingAt balance balances unbalancedAt meetsWrongly parts inInterior sameEnds side wrongLength unknownChoice tooShort firstFrom first asked askedFirst drawingVerdict faultsOf meetingsOf unbalancedOf verdict sliceRun spans above clockwise met bottom top filled ruleOf fillOf fill fills coordinates crossProduct around shoelace isClockwise isLarge node has clear asDrawn remains taken takenAll bitsRemaining firstRemaining bothMoves begins way over other fitting isSighted numberOf sight closed bufferPoint bufferPoints rest allLoops splitLoops rotated isWide isNearer moveFrom nearest findNearest till walkFrom walksFrom walks directionOf walkPoints sideBits contourOf walkContours allContours sliceContours sliceOutcome flatten
 cases = record {
   case-A = refl;
   roles-short = refl;

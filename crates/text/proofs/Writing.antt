@@ -4,7 +4,7 @@ use mathlib.Core.Bool.{Bool, true, false, cond}
 use mathlib.Core.List.{List, [], _∷_, _++_, map, flatten}
 use mathlib.Core.Logic.{inl, inr}
 use mathlib.Core.Option.{Option, none, some}
-use Prim.Native.Nat.{ℕ, zero, suc, _*_, _%_, _<_, _≤_}
+use Prim.Native.Nat.{ℕ, zero, suc, _+_, _*_, _%_, _<_, _≤_}
 use native.Mathlib.Omega.{arith}
 use borrow.Author.Tests.{eq-eqb, le-ltb}
 use lib.Dec.{eqb, ltb}
@@ -21,11 +21,11 @@ use Rattle.decimal.specs.declared.Field.the-variants.{Number, Malformed}
 use Rattle.decimal.specs.Decimal.{NineDigits, fieldOf, signed}
 use Rattle.text.specs.Grammar.{pieces, andRest, row, fieldsIn, RowsFound, Bad, Rows, andLines, rowsFrom, BadLine, Drawn, choicesOf, parsedRows, mostBytes, parsed}
 use Rattle.writing.specs.Lines.{joined, textOf}
-use Rattle.writing.specs.Lengths.{signedLength, rowLength, textLength}
+use Rattle.writing.specs.Lengths.{rowLength, textLength}
 use Rattle.text.specs.Writing.{choiceNumbers, writing, AllNineDigits}
-use Rattle.decimal.proofs.Decimal.{field-signed, signed-field, signed-short}
+use Rattle.decimal.proofs.Decimal.{field-signed, signed-field}
 use Rattle.writing.proofs.Lines.{field-bytes, line-bytes, text-cons}
-use Rattle.writing.proofs.Lengths.{length-signed, length-text, line-short}
+use Rattle.writing.proofs.Lengths.{length-text}
 use Rattle.text.proofs.Grammar.Pieces.{pieces-few, joined-pieces, pieces-cut, pieces-joined}
 use Rattle.text.proofs.Storing.StoredRows.{differ, row-length, lines-next, fields-later}
 
@@ -203,29 +203,12 @@ pub one-text : (s t : List ℕ) (c : Choices) (numbers : List ℤ) → parsed wi
 one-text s t c numbers p q = only-writing s c numbers p ∙ sym (only-writing t c numbers q)
 
 -- ---- a bound on the length of a text
--- at most eight digits
-abbrev pub AllSmall : List (List ℤ) → Type 0
-AllSmall rows = (r : List ℤ) → r ∈ rows → (z : ℤ) → z ∈ r → natAbs z ≤ 16777216
+-- a line of an accepted drawing: four coordinates of a minus and eight digits, a winding of a minus and four digits, line bits of one digit, a lot of four, and
+-- a byte after each
+abbrev pub lineMost : ℕ
+lineMost = 4 * 10 + 6 + 2 + 5
 
--- a line of such numbers: a sign and eight digits each, what stands after each, and LF
-abbrev lineMost : ℕ
-lineMost = suc (width * 10)
-
-short-row : (r : List ℤ) → length r ≤ width → ((z : ℤ) → z ∈ r → natAbs z ≤ 16777216) → rowLength r ≤ lineMost
-unfolding rowLength
-short-row r k h = omega (arith, line-short 9 (map signedLength r) short, length-map r signedLength)
-  where
-    short : (n : ℕ) → n ∈ map signedLength r → n ≤ 9
-    short n m = let f = in-map signedLength n r m in omega (arith, f .2, length-signed (f .0), signed-short 7 (f .0) (omega (arith, h (f .0) (f .1))))
-
-short-rows : (rows : List (List ℤ)) → ((r : List ℤ) → r ∈ rows → length r ≤ width) → AllSmall rows → textLength rows ≤ length rows * lineMost
-unfolding textLength
-short-rows rows k h = tally-bound rowLength lineMost rows (λ r m. short-row r (k r m) (h r m))
-
-pub fits : (c : Choices) (d : Drawing) → length d ≤ 1024 → AllSmall (choiceNumbers c ∷ map numbersOf d) → length (writing c d) ≤ mostBytes
-unfolding writing
-fits c d n h = omega (arith, length-text (choiceNumbers c ∷ map numbersOf d), short-rows (choiceNumbers c ∷ map numbersOf d) narrow h, length-map d numbersOf)
-  where
-    narrow : (r : List ℤ) → r ∈ (choiceNumbers c ∷ map numbersOf d) → length r ≤ width
-    narrow r (inl e) = unfold choiceNumbers in omega (arith, ap length e)
-    narrow r (inr m) = let s = in-map numbersOf r d m in unfold numbersOf in omega (arith, ap length (s .2))
+-- 1,024 such lines and the choices before them
+pub fits : (c : Choices) (d : Drawing) → length d ≤ 1024 → ((r : List ℤ) → r ∈ (choiceNumbers c ∷ map numbersOf d) → rowLength r ≤ lineMost) → length (writing c d) ≤ mostBytes
+unfolding writing textLength
+fits c d n h = omega (arith, length-text (choiceNumbers c ∷ map numbersOf d), tally-bound rowLength lineMost (choiceNumbers c ∷ map numbersOf d) h, length-map d numbersOf)

@@ -18,14 +18,14 @@ use Rattle.segm.specs.Segments.{front, segmentsOf, count, whole, segments, segm
 use Rattle.contour.specs.Points.{coordinates}
 use Rattle.meetings.specs.Meetings.{side, parts, inInterior, sameEnds, meetsWrongly}
 use Rattle.balance.specs.Balance.{balance, balances}
-use Rattle.faults.specs.Faults.{endsInRange, rises, windingInRange, bitsInRange, fault, faultAt, faultsOf}
+use Rattle.faults.specs.Faults.{endsInRange, rises, windingInRange, bitsInRange, lotInRange, fault, faultAt, faultsOf}
 use Rattle.refusal.specs.declared.Verdict.{Verdict}
 use Rattle.refusal.specs.declared.Verdict.the-variants as verdict-is
 use Rattle.refusal.specs.Asked.{wrongLength, unknownChoice, tooShort, askedFirst}
 use Rattle.refusal.specs.Order.{firstFrom, first}
 use Rattle.drawing_check.specs.Drawing.{meetingAt, unbalancedAt, meetingsOf, unbalancedOf, drawingVerdict}
 use Rattle.checks.specs.Runs.{Run, asked, verdict, clipRun}
-use Rattle.checks.specs.Accepted.{accepts, Fits, wrong-length, coordinate-out, not-rising, winding-out, bits-out, start-falls, wrong-meeting, a-unbalanced, b-unbalanced, unknown-choice, too-short}
+use Rattle.checks.specs.Accepted.{accepts, Fits, wrong-length, coordinate-out, not-rising, winding-out, bits-out, lot-out, start-falls, wrong-meeting, a-unbalanced, b-unbalanced, unknown-choice, too-short}
 use Rattle.checks.proofs.Runs.Listed.{refused-fits}
 use Rattle.fill_rule.specs.FillRule.{filled, ruleOf, fillOf}
 use Rattle.strip.specs.Strip.{spans, above, clockwise}
@@ -50,7 +50,7 @@ use Rattle.trials.specs.Idle.{bare, upright, linePath, Holds, Idle}
 
 -- ---- the bare line
 the-segment : Segment
-the-segment = record { a = record { x = pos 0; y = pos 0 }; b = record { x = pos 2; y = pos 0 }; winding = pos 0; bits = pos 1 }
+the-segment = record { a = record { x = pos 0; y = pos 0 }; b = record { x = pos 2; y = pos 0 }; winding = pos 0; bits = pos 1; lot = pos 0 }
 
 -- its one drawn line direction, and its step
 abbrev the-line : Direction
@@ -92,7 +92,7 @@ none-outside inside outside e h = go (h .once the-line is-drawn)
 
 -- ---- the runs themselves
 bare-accepted : accepts bare (pos 1) (pos 0) (pos 1) ≡ true
-unfolding accepts eqZ within ltP eqP coordinate inRange cross between any sum front segmentsOf count whole segments segmentAt total side parts inInterior sameEnds meetsWrongly endsInRange rises windingInRange bitsInRange fault faultAt meetingAt balance balances unbalancedAt wrongLength unknownChoice tooShort firstFrom first asked askedFirst drawingVerdict faultsOf meetingsOf unbalancedOf verdict clipRun
+unfolding accepts eqZ within ltP eqP coordinate inRange cross between any sum front segmentsOf count whole segments segmentAt total side parts inInterior sameEnds meetsWrongly endsInRange rises windingInRange bitsInRange lotInRange fault faultAt meetingAt balance balances unbalancedAt wrongLength unknownChoice tooShort firstFrom first asked askedFirst drawingVerdict faultsOf meetingsOf unbalancedOf verdict clipRun
 bare-accepted = refl
 
 bare-room : Room bare (lists (heldNumbers 8) (held 2))
@@ -154,6 +154,7 @@ not-twelve r number place f e = go f e
     go (not-rising i m h) e = omega arith
     go (winding-out i m h) e = omega arith
     go (bits-out i m h) e = omega arith
+    go (lot-out i m h) e = omega arith
     go (start-falls i m h) e = omega arith
     go (wrong-meeting i j m n h) e = omega arith
     go (a-unbalanced i m h) e = omega arith
@@ -176,7 +177,7 @@ moves-found numbers rule direction least ls found e place f = go (verdict r) ref
 
 -- ---- the list
 pub idle : Idle
-unfolding accepts eqZ within ltP eqP coordinate inRange cross between any sum tally keep written upFrom front segmentsOf count whole segments segmentAt total coordinates side parts inInterior sameEnds meetsWrongly endsInRange rises windingInRange bitsInRange fault faultAt meetingAt balance balances unbalancedAt wrongLength unknownChoice tooShort firstFrom first asked askedFirst drawingVerdict faultsOf meetingsOf unbalancedOf verdict clipRun spans above clockwise met bottom top filled ruleOf fillOf fill sidesSet keepsSides keeps filterOf keptLinks node has clear asDrawn remains taken takenAll bitsRemaining firstRemaining bothMoves begins way over other fitting goesOn follow pathFrom pathsFrom walk through finished pathPoints clipPaths stepsFrom stepsOfPath stepsOf travelOf travel totals clipOutcome flatten drawn ownSteps ownTravel
+unfolding accepts eqZ within ltP eqP coordinate inRange cross between any sum tally keep written upFrom front segmentsOf count whole segments segmentAt total coordinates side parts inInterior sameEnds meetsWrongly endsInRange rises windingInRange bitsInRange lotInRange fault faultAt meetingAt balance balances unbalancedAt wrongLength unknownChoice tooShort firstFrom first asked askedFirst drawingVerdict faultsOf meetingsOf unbalancedOf verdict clipRun spans above clockwise met bottom top filled ruleOf fillOf fill sidesSet keepsSides keeps filterOf keptLinks node has clear asDrawn remains taken takenAll bitsRemaining firstRemaining bothMoves begins way over other fitting goesOn follow pathFrom pathsFrom walk through finished pathPoints clipPaths stepsFrom stepsOfPath stepsOf travelOf travel totals clipOutcome flatten drawn ownSteps ownTravel
 idle = record {
   accepted = bare-accepted;
   runs-hold = insideAndOutside bare (pos 1) (pos 1) bare-accepted _ _ bare-room bare-room .0;

@@ -2,4 +2,5 @@ pub mod Computed
 pub mod Idle
 pub mod Mistakes
 pub mod Refusals
+pub mod Lots
 pub mod Exported

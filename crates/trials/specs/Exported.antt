@@ -33,6 +33,7 @@ pub record Exported : Type 0 where
   pub split-done : splitNumbers (pos 1 ∷ pos 1 ∷ pos 2 ∷ pos 1 ∷ pos 2 ∷ pos 3 ∷ pos 1 ∷ pos 1 ∷ []) 0 (splitLists (heldNumbers 8) (held 4))
       ≡ returnedSplit (record { number = 0; place = 0; loops = 1; points = 3 }) (splitLists (pos 2 ∷ pos 1 ∷ pos 2 ∷ pos 3 ∷ pos 1 ∷ pos 1 ∷ drop 6 (heldNumbers 8)) (3 ∷ drop 1 (held 4)))
   -- a bad line before a list too short
-  pub read-refused : readNumbers (bytes "4,-1,0\n0,0,2,0,0,x\n") [] ≡ returnedRead (record { number = 1; place = 2; count = 0; rule = pos 0; invert = pos 0; boundary = pos 0 }) []
-  pub read-done : readNumbers (bytes "4,-1,0\n0,0,2,0,0,3\n") (heldNumbers 7)
-      ≡ returnedRead (record { number = 0; place = 0; count = 6; rule = pos 4; invert = negsuc 0; boundary = pos 0 }) (pos 0 ∷ pos 0 ∷ pos 2 ∷ pos 0 ∷ pos 0 ∷ pos 3 ∷ drop 6 (heldNumbers 7))
+  pub read-refused : readNumbers (bytes "4,-1,0\n0,0,2,0,0,3,x\n") [] ≡ returnedRead (record { number = 1; place = 2; count = 0; rule = pos 0; invert = pos 0; boundary = pos 0 }) []
+  pub read-done : readNumbers (bytes "4,-1,0\n0,0,2,0,0,3,8\n") (heldNumbers 9)
+      ≡ returnedRead (record { number = 0; place = 0; count = 7; rule = pos 4; invert = negsuc 0; boundary = pos 0 })
+      (pos 0 ∷ pos 0 ∷ pos 2 ∷ pos 0 ∷ pos 0 ∷ pos 3 ∷ pos 8 ∷ drop 7 (heldNumbers 9))

@@ -7,12 +7,12 @@ use native.Mathlib.Omega.{arith}
 use borrow.Author.Tests.{lt-ltb, le-ltb}
 use lib.Dec.{ltb}
 use lib.ListN.{length, length-append}
-use lib.IntN.{ℤ, pos, negsuc}
-use Rattle.lists.specs.Members.{_∈_}
+use lib.IntN.{ℤ, pos, negsuc, natAbs}
+use lib.Signed.{_≤ℤ_}
 use Rattle.lists.specs.Sums.{tally}
-use Rattle.lists.proofs.Sums.{tally-map, tally-bound}
+use Rattle.lists.proofs.Sums.{tally-map}
 use Rattle.decimal.specs.Decimal.{digits, decimal, signed}
-use Rattle.decimal.proofs.Decimal.{decimal-short}
+use Rattle.decimal.proofs.Decimal.{decimal-short, signed-short, unsigned-short}
 use Rattle.writing.specs.Lines.{joined, lineOf, textOf}
 use Rattle.writing.specs.Lengths.{digitsUpTo, digitsIn, signedLength, lineLength, rowLength, textLength}
 
@@ -88,8 +88,10 @@ unfolding signedLength
 at-most-21 (pos n) = omega (arith, at-most-20 n)
 at-most-21 (negsuc n) = omega (arith, at-most-20 (suc n))
 
--- fields of at most k bytes
-pub line-short : (k : ℕ) (ns : List ℕ) → ((n : ℕ) → n ∈ ns → n ≤ k) → lineLength ns ≤ suc (length ns * suc k)
-unfolding lineLength
-line-short k [] h = omega arith
-line-short k (n ∷ ns) h = omega (arith, tally-bound suc (suc k) (n ∷ ns) (λ m i. omega (arith, h m i)))
+-- a number of j + 1 digits, with a minus or none
+pub signed-most : (j : ℕ) (z : ℤ) → natAbs z < 10 ^ suc j → signedLength z ≤ suc (suc j)
+signed-most j z h = omega (arith, length-signed z, signed-short j z h)
+
+-- one without a minus
+pub unsigned-most : (j : ℕ) (z : ℤ) → pos 0 ≤ℤ z → natAbs z < 10 ^ suc j → signedLength z ≤ suc j
+unsigned-most j z l h = omega (arith, length-signed z, unsigned-short j z l h)

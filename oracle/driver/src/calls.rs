@@ -15,8 +15,9 @@ pub enum Function {
 const FUNCTIONS: [&str; 3] = ["overlay_fills", "overlay_clip", "overlay_slice"];
 
 /// What must occur with each function: refusals, and one that fits before another that does.
-const REFUSALS: [u64; 10] = [2, 3, 4, 5, 6, 7, 8, 9, 10, 11];
-const ORDERS: [&str; 5] = ["2 before 10", "2 before 11", "10 before 11", "10 before 3 to 9", "11 before 3 to 9"];
+const REFUSALS: [u64; 11] = [2, 3, 4, 5, 6, 7, 8, 9, 10, 11, 13];
+const ORDERS: [&str; 5] =
+    ["2 before 10", "2 before 11", "10 before 11", "10 before 3 to 9 or 13", "11 before 3 to 9 or 13"];
 /// Need not occur: no walk of an accepted drawing is known to find no move.
 const NO_MOVE: u64 = 12;
 

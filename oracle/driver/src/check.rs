@@ -7,6 +7,7 @@ use crate::damage::damaged;
 use crate::generate::{Generator, JOINED, SCATTERED};
 use crate::placement;
 use crate::random::Random;
+use crate::refusals;
 use crate::shrink::shrunk;
 use crate::tally::{has_all, Tally};
 use crate::trials;
@@ -20,10 +21,11 @@ const LEAST_ACCEPTED: usize = 50_000;
 /// Damaged copies of each drawing; of one with many segments, one.
 const COPIES: usize = 2;
 
-/// Compares the trial drawings, this many others and their damaged copies. False where something differs or is missing.
+/// Compares the trial drawings, those with known faults, this many others and their damaged copies. False where
+/// something differs or is missing.
 pub fn check(seed: u64, drawings: usize) -> bool {
     let work = |block, tally: &mut Tally| match block {
-        0 => check_trials(seed, tally),
+        0 => check_fixed(seed, tally),
         _ => check_block(seed, block, tally),
     };
     let (tally, failure) = in_blocks(1 + drawings.div_ceil(BLOCK), work, Tally::merge);
@@ -43,10 +45,12 @@ fn is_enough(tally: &Tally, drawings: usize) -> bool {
     has_all(&tally.missing()) && !few
 }
 
-fn check_trials(seed: u64, tally: &mut Tally) -> Result<(), String> {
-    trials::slices().into_iter().enumerate().try_for_each(|(place, (_, numbers))| {
+fn check_fixed(seed: u64, tally: &mut Tally) -> Result<(), String> {
+    let trials = trials::slices().into_iter().map(|(_, numbers)| ("trial", numbers));
+    let faults = refusals::faults().into_iter().map(|numbers| ("known fault or limit", numbers));
+    trials.chain(faults).enumerate().try_for_each(|(place, (kind, numbers))| {
         let random = &mut Random::new(&[seed, place as u64]);
-        check_drawing("trial", &numbers, true, random, tally).map_err(|found| found.report())
+        check_drawing(kind, &numbers, true, random, tally).map_err(|found| found.report())
     })
 }
 

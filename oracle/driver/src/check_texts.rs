@@ -18,7 +18,7 @@ const BLOCK: usize = 100;
 pub const DEFAULT_TEXTS: usize = 3000;
 
 /// What a text must have been refused with. The lists that the program lends are always long enough.
-const REFUSALS: [u64; 10] = [1, 2, 3, 4, 5, 6, 7, 8, 9, 10];
+const REFUSALS: [u64; 11] = [1, 2, 3, 4, 5, 6, 7, 8, 9, 10, 13];
 
 /// Of longer ones the two ends are shown.
 const MOST_SHOWN: usize = 2000;

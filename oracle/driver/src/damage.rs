@@ -1,6 +1,6 @@
 //! Damaged copies of good drawings.
 
-use crate::drawing::{numbers, read, Segment, FARTHEST, MOST_SEGMENTS, MOST_WINDING, WIDTH};
+use crate::drawing::{numbers, read, Segment, FARTHEST, MOST_LOT, MOST_SEGMENTS, MOST_WINDING, WIDTH};
 use crate::random::Random;
 
 /// A copy damaged once to three times. Some are accepted all the same.
@@ -23,7 +23,7 @@ fn with_number(mut numbers: Vec<i32>, random: &mut Random) -> Vec<i32> {
     if numbers.is_empty() {
         return numbers;
     }
-    let limit = random.pick(&[FARTHEST, MOST_WINDING]);
+    let limit = random.pick(&[FARTHEST, MOST_WINDING, MOST_LOT]);
     let signed = random.pick(&[limit, limit + 1, 1, 2]) * random.pick(&[-1, 1]);
     let other = random.pick(&numbers);
     let place = random.below(numbers.len());
@@ -32,10 +32,12 @@ fn with_number(mut numbers: Vec<i32>, random: &mut Random) -> Vec<i32> {
     numbers
 }
 
-/// A length of no whole segments, or too many of them.
+/// A length of no whole segments, or too many of them; or all lots left out.
 fn with_length(mut numbers: Vec<i32>, random: &mut Random) -> Vec<i32> {
     if random.chance(5) {
         numbers.resize((MOST_SEGMENTS + random.pick(&[0, 1])) * WIDTH, 0);
+    } else if random.chance(20) {
+        numbers = numbers.chunks(WIDTH).flat_map(|segment| segment.iter().copied().take(WIDTH - 1)).collect();
     } else if random.chance(50) {
         numbers.extend((0..random.within(1, WIDTH as i32 - 1)).map(|_| 0));
     } else {
@@ -50,7 +52,7 @@ fn with_segments(drawing: Vec<i32>, random: &mut Random) -> Vec<i32> {
         return drawing;
     }
     let [one, other] = [(); 2].map(|()| random.below(segments.len()));
-    match random.below(8) {
+    match random.below(9) {
         0 => segments.swap(one, other),
         1 => segments.insert(one, segments[one]),
         2 => drop(segments.remove(one)),
@@ -58,6 +60,7 @@ fn with_segments(drawing: Vec<i32>, random: &mut Random) -> Vec<i32> {
         4 => segments[one].b = segments[other].b,
         5 => segments[one].winding = random.within(-2, 2),
         6 => insert_line(&mut segments, one, other),
+        7 => segments[one].lot = random.pick(&[-1, MOST_LOT, MOST_LOT + 1, i32::MIN, i32::MAX]),
         _ => aim_at_middle(&mut segments, one, other),
     }
     numbers(&segments)
@@ -70,7 +73,7 @@ fn reverse(segment: &mut Segment) {
 /// A line from one segment to another, in its place by a.
 fn insert_line(segments: &mut Vec<Segment>, one: usize, other: usize) {
     let (p, q) = (segments[one].a, segments[other].b);
-    let line = Segment { a: p.min(q), b: p.max(q), winding: 0, bits: 1 };
+    let line = Segment { a: p.min(q), b: p.max(q), winding: 0, bits: 1, lot: segments[one].lot };
     segments.insert(segments.partition_point(|old| old.a < line.a), line);
 }
 

@@ -24,12 +24,16 @@ const LONG: [&str; 8] = [
     "18446744073709551617",
 ];
 
+/// Lots at their limits and past them.
+const LOTS: [&str; 4] = ["-1", "0", "9999", "10000"];
+
 /// What is put before a line and what ends it.
-const AROUND: [(&str, &str); 11] = [
+const AROUND: [(&str, &str); 12] = [
     ("", "\r\n"),
     ("", ",\n"),
     (",", "\n"),
     ("", ",0\n"),
+    ("", ",0,0\n"),
     ("0,", "\n"),
     (" ", "\n"),
     ("", " \n"),
@@ -89,13 +93,14 @@ fn with_line(text: Vec<u8>, random: &mut Random) -> Vec<u8> {
     let mut lines: Vec<&[u8]> = text.split_inclusive(|&byte| byte == b'\n').collect();
     let [one, other] = [(); 2].map(|()| random.below(lines.len()));
     let changed;
-    match random.below(8) {
+    match random.below(9) {
         0 => lines.insert(one, lines[one]),
         1 => drop(lines.remove(one)),
         2 => lines.swap(one, other),
         3 => lines.insert(one, b"\n"),
         kind => {
-            changed = if kind < 6 { with_around(lines[one], random) } else { with_comma(lines[one], random) };
+            let change = [with_around, with_around, with_comma, with_comma, with_lot][kind - 4];
+            changed = change(lines[one], random);
             lines[one] = &changed;
         }
     }
@@ -123,6 +128,12 @@ fn with_comma(line: &[u8], random: &mut Random) -> Vec<u8> {
         2 => [before, b",,", after].concat(),
         _ => [before, after].concat(),
     }
+}
+
+/// Another last field, which is a segment's lot.
+fn with_lot(line: &[u8], random: &mut Random) -> Vec<u8> {
+    let from = line.iter().rposition(|&byte| byte == b',').map_or(0, |comma| comma + 1);
+    [&line[..from], random.pick(&LOTS).as_bytes(), b"\n"].concat()
 }
 
 /// The last LF missing, more at the end, a text cut anywhere, or all ends of lines others.

@@ -4,12 +4,13 @@ use crate::choices::Choices;
 use std::fmt::Write;
 
 /// How many numbers a segment has.
-pub const WIDTH: usize = 6;
+pub const WIDTH: usize = 7;
 pub const MOST_SEGMENTS: usize = 1024;
 /// Of a list to split.
 pub const MOST_POINTS: usize = 2048;
 pub const FARTHEST: i32 = 16_777_216;
 pub const MOST_WINDING: i32 = 1000;
+pub const MOST_LOT: i32 = 9999;
 
 /// Points compare by x, then y, as pairs do.
 pub type Point = (i32, i32);
@@ -20,6 +21,8 @@ pub struct Segment {
     pub b: Point,
     pub winding: i32,
     pub bits: i32,
+    /// 0 is no lot.
+    pub lot: i32,
 }
 
 impl Segment {
@@ -34,7 +37,8 @@ impl Segment {
 }
 
 pub fn read(numbers: &[i32]) -> Vec<Segment> {
-    let segment = |of: &[i32]| Segment { a: (of[0], of[1]), b: (of[2], of[3]), winding: of[4], bits: of[5] };
+    let segment =
+        |of: &[i32]| Segment { a: (of[0], of[1]), b: (of[2], of[3]), winding: of[4], bits: of[5], lot: of[6] };
     numbers.chunks_exact(WIDTH).map(segment).collect()
 }
 
@@ -48,7 +52,7 @@ pub fn flat(points: &[Point]) -> Vec<i32> {
 }
 
 pub fn numbers(segments: &[Segment]) -> Vec<i32> {
-    let numbers = |s: &Segment| -> [i32; WIDTH] { [s.a.0, s.a.1, s.b.0, s.b.1, s.winding, s.bits] };
+    let numbers = |s: &Segment| -> [i32; WIDTH] { [s.a.0, s.a.1, s.b.0, s.b.1, s.winding, s.bits, s.lot] };
     segments.iter().flat_map(numbers).collect()
 }
 

@@ -30,6 +30,7 @@ mod grow;
 mod lent;
 mod lines;
 mod loops;
+mod lots;
 mod marks;
 mod measure;
 mod nodes;
@@ -43,7 +44,8 @@ mod prose;
 mod random;
 mod ray;
 mod reader;
-#[cfg(feature = "rust")]
+// Without the Rust only some are tried, and none stored.
+#[cfg_attr(not(feature = "rust"), allow(dead_code))]
 mod refusals;
 mod shapes;
 #[cfg(feature = "rust")]

@@ -1,7 +1,8 @@
-//! Segments in the plane that do not meet wrongly, most of them before they have windings and bits.
+//! Segments in the plane that do not meet wrongly, most of them before they have windings, bits and lots.
 
 use crate::drawing::{numbers, Point, Segment};
 use crate::lines::Draw;
+use crate::lots;
 use crate::prose::meet_wrongly;
 use crate::random::Random;
 use crate::windings;
@@ -44,14 +45,16 @@ impl Plane {
         self.edges.iter().flat_map(|edge| [edge.a, edge.b])
     }
 
-    /// The edges in order of a, those of one a in any order, with these lines, and with balanced windings where none
-    /// are wound yet.
+    /// The edges in order of a, those of one a in any order, with these lines and any lots, and with balanced windings
+    /// where none are wound yet.
     pub fn drawing(mut self, draw: Draw, random: &mut Random) -> Vec<i32> {
         random.shuffle(&mut self.edges);
         if self.edges.iter().all(|edge| edge.winding == 0) {
             windings::balance(&mut self.edges, random);
         }
         draw(&mut self.edges, random);
+        // Apart, so that a drawing is the same but for its lots.
+        lots::scatter(&mut self.edges, &mut random.apart());
         self.edges.sort_by_key(|segment| segment.a);
         numbers(&self.edges)
     }
@@ -59,5 +62,5 @@ impl Plane {
 
 /// The segment between p and q, wound from p to q.
 fn edge(p: Point, q: Point, winding: i32) -> Segment {
-    Segment { a: p.min(q), b: p.max(q), winding: if p < q { winding } else { -winding }, bits: 0 }
+    Segment { a: p.min(q), b: p.max(q), winding: if p < q { winding } else { -winding }, bits: 0, lot: 0 }
 }

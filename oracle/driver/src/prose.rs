@@ -1,7 +1,7 @@
-//! Which runs are turned down, written from document 01's prose alone: a check independent of ours.
+//! Which runs are turned down, written from the prose of documents 01 and 02 alone: a check independent of ours.
 
 use crate::drawing::{
-    cross, difference, read, Point, Segment, FARTHEST, MOST_POINTS, MOST_SEGMENTS, MOST_WINDING, WIDTH,
+    cross, difference, read, Point, Segment, FARTHEST, MOST_LOT, MOST_POINTS, MOST_SEGMENTS, MOST_WINDING, WIDTH,
 };
 use crate::output::Room;
 use std::collections::HashMap;
@@ -15,7 +15,7 @@ pub struct Refusal {
 /// A drawing looked at once for all its runs.
 pub struct Checked {
     n: usize,
-    /// By 2, or by the first of 3 to 9 that fits.
+    /// By 2, or by the first of 3 to 9 and 13 that fits.
     pub refused: Option<Refusal>,
 }
 
@@ -27,8 +27,8 @@ impl Checked {
         Self { n, refused }
     }
 
-    /// The refusals of a run that fit, in the order 2, 10, 11 and 3 to 9: the first is due. Each choice comes with the
-    /// greatest known one, each length of a lent list with the entries needed for a segment.
+    /// The refusals of a run that fit, in the order 2, 10, 11, and the first of 3 to 9 and 13: the first is due. Each
+    /// choice comes with the greatest known one, each length of a lent list with the entries needed for a segment.
     pub fn refusals(&self, choices: &[(i32, i32)], lists: &[(usize, usize)]) -> Vec<Refusal> {
         let unknown = choices.iter().any(|&(choice, most)| !(0..=most).contains(&choice));
         let short = lists.iter().any(|&(lent, each)| lent < each * self.n);
@@ -68,29 +68,27 @@ fn of_segments(segments: &[Segment]) -> Option<Refusal> {
     fault(segments).or_else(|| wrong_meeting(segments)).or_else(|| imbalance(segments))
 }
 
-/// 3 to 7 by place, the lowest number first within one.
+/// 3 to 7 and 13 by place.
 fn fault(segments: &[Segment]) -> Option<Refusal> {
-    segments.iter().enumerate().find_map(|(place, segment)| {
-        let previous = place.checked_sub(1).map(|before| segments[before]);
-        let number = fault_of(segment, previous)?;
+    (0..segments.len()).find_map(|place| {
+        let &number = faults_at(segments, place).first()?;
         Some(Refusal { number, place: place as u64 })
     })
 }
 
-fn fault_of(s: &Segment, previous: Option<Segment>) -> Option<u64> {
-    if ![s.a.0, s.a.1, s.b.0, s.b.1].into_iter().all(in_range) {
-        Some(3)
-    } else if s.a >= s.b {
-        Some(4)
-    } else if !(-MOST_WINDING..=MOST_WINDING).contains(&s.winding) {
-        Some(5)
-    } else if !(0..=3).contains(&s.bits) {
-        Some(6)
-    } else if previous.is_some_and(|before| s.a < before.a) {
-        Some(7)
-    } else {
-        None
-    }
+/// Those of 3 to 7 and 13 that fit at a place, in the order in which they are tried: 13 directly after 6.
+pub fn faults_at(segments: &[Segment], place: usize) -> Vec<u64> {
+    let s = segments[place];
+    let previous = place.checked_sub(1).map(|before| segments[before]);
+    let faults = [
+        (3, ![s.a.0, s.a.1, s.b.0, s.b.1].into_iter().all(in_range)),
+        (4, s.a >= s.b),
+        (5, !(-MOST_WINDING..=MOST_WINDING).contains(&s.winding)),
+        (6, !(0..=3).contains(&s.bits)),
+        (13, !(0..=MOST_LOT).contains(&s.lot)),
+        (7, previous.is_some_and(|before| s.a < before.a)),
+    ];
+    faults.into_iter().filter(|&(_, fits)| fits).map(|(number, _)| number).collect()
 }
 
 /// 8 by lower, then upper place.

@@ -14,6 +14,11 @@ impl Random {
         random
     }
 
+    /// A stream of its own, which leaves this one as it is.
+    pub fn apart(&self) -> Self {
+        Self::new(&[self.0])
+    }
+
     pub fn next(&mut self) -> u64 {
         self.0 = self.0.wrapping_add(0x9e37_79b9_7f4a_7c15);
         let mut z = self.0;

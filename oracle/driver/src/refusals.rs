@@ -2,7 +2,7 @@
 //! and limits exactly met and passed by one. The lists are long enough in all of them.
 
 use crate::choices::{Choices, SliceChoices};
-use crate::drawing::{numbers, Point, Segment, FARTHEST, MOST_SEGMENTS, MOST_WINDING, WIDTH};
+use crate::drawing::{numbers, Point, Segment, FARTHEST, MOST_LOT, MOST_SEGMENTS, MOST_WINDING, WIDTH};
 use crate::trials::A;
 
 /// Rules with their drawings: the rule at its limits and past them.
@@ -19,8 +19,13 @@ pub fn slices() -> Vec<(SliceChoices, Vec<i32>)> {
 /// Choices with their drawings.
 pub fn clips() -> Vec<(Choices, Vec<i32>)> {
     let choices = choices().into_iter().chain(before_drawings());
-    let drawings = [by_place(), by_order(), lengths(), meetings(), limits(), rows()].concat();
+    let drawings = [by_place(), by_order(), lengths(), meetings(), limits(), lots(), rows()].concat();
     choices.chain(drawings.into_iter().map(|drawing| (KNOWN, drawing))).collect()
+}
+
+/// Those of the drawings that are about single segments: they are tried with every function.
+pub fn faults() -> Vec<Vec<i32>> {
+    [by_place(), by_order(), limits(), lots()].concat()
 }
 
 /// What a drawing is clipped by that has something to show by itself.
@@ -56,6 +61,7 @@ const BX: usize = 2;
 const BY: usize = 3;
 const WINDING: usize = 4;
 const BITS: usize = 5;
+const LOT: usize = 6;
 
 fn with(alterations: &[Alteration]) -> Vec<i32> {
     let mut numbers = A.to_vec();
@@ -78,6 +84,12 @@ fn by_place() -> Vec<Vec<i32>> {
         (0, BITS, 4),
         (4, BITS, -1),
         (8, BITS, 4),
+        (0, LOT, -1),
+        (4, LOT, -1),
+        (8, LOT, -1),
+        (0, LOT, MOST_LOT + 1),
+        (4, LOT, MOST_LOT + 1),
+        (8, LOT, MOST_LOT + 1),
         (1, AX, -6),
         (4, AY, 4),
         (8, AY, 4),
@@ -90,14 +102,28 @@ fn by_place() -> Vec<Vec<i32>> {
     alterations.map(|alteration| with(&[alteration])).into()
 }
 
-/// Which of two faults comes first: the lower number within a segment, the lower place among 3 to 7, all of 3 to 7
-/// before 8, 8 before 9.
+/// Which of two faults comes first: within a segment in the order 3, 4, 5, 6, 13, 7; the lower place among these; all
+/// of these before 8; 8 before 9.
 fn by_order() -> Vec<Vec<i32>> {
     let alterations = [
         [(4, AX, FARTHEST + 1), (4, BX, 0)],
         [(4, BX, 0), (4, WINDING, MOST_WINDING + 1)],
         [(4, WINDING, MOST_WINDING + 1), (4, BITS, 4)],
         [(4, BITS, 4), (4, AY, 4)],
+        [(4, AX, FARTHEST + 1), (4, LOT, -1)],
+        [(4, BX, 0), (4, LOT, MOST_LOT + 1)],
+        [(4, WINDING, MOST_WINDING + 1), (4, LOT, -1)],
+        [(4, BITS, 4), (4, LOT, MOST_LOT + 1)],
+        [(4, BITS, -1), (4, LOT, -1)],
+        [(4, LOT, MOST_LOT + 1), (4, AY, 4)],
+        [(8, LOT, -1), (8, AY, 4)],
+        [(3, LOT, MOST_LOT + 1), (4, AX, FARTHEST + 1)],
+        [(3, AX, FARTHEST + 1), (4, LOT, MOST_LOT + 1)],
+        [(3, LOT, -1), (4, AY, 4)],
+        [(4, AY, 4), (5, LOT, -1)],
+        [(3, LOT, i32::MAX), (4, LOT, i32::MIN)],
+        [(4, LOT, MOST_LOT + 1), (0, BX, 1)],
+        [(8, LOT, -1), (0, WINDING, 1)],
         [(1, AX, -6), (2, BX, FARTHEST + 1)],
         [(2, BITS, 4), (0, BX, 1)],
         [(8, WINDING, MOST_WINDING + 1), (0, WINDING, 1)],
@@ -110,20 +136,20 @@ fn by_order() -> Vec<Vec<i32>> {
 
 /// No numbers, and lengths of no whole segments.
 fn lengths() -> Vec<Vec<i32>> {
-    [0, 1, A.len() - 1].map(|length| A[..length].to_vec()).into()
+    [0, 1, WIDTH - 1, A.len() - 1].map(|length| A[..length].to_vec()).into()
 }
 
 // ---- one, two and three segments
 
 /// Two segments with a line each: the first one's is drawn from a, the second one's from b.
 fn two([a, b, c, d]: [Point; 4]) -> Vec<i32> {
-    let line = |a, b, bits| Segment { a, b, winding: 0, bits };
+    let line = |a, b, bits| Segment { a, b, winding: 0, bits, lot: 0 };
     numbers(&[line(a, b, 1), line(c, d, 2)])
 }
 
 /// A triangle's sides with these windings.
 fn triangle(windings: [i32; 3]) -> Vec<i32> {
-    let side = |a, b, winding| Segment { a, b, winding, bits: 0 };
+    let side = |a, b, winding| Segment { a, b, winding, bits: 0, lot: 0 };
     let [p, q, r] = [(0, 0), (2, 0), (2, 2)];
     numbers(&[side(p, q, windings[0]), side(p, r, windings[1]), side(q, r, windings[2])])
 }
@@ -149,13 +175,13 @@ fn meetings() -> Vec<Vec<i32>> {
 /// Numbers at their limits and past them.
 fn limits() -> Vec<Vec<i32>> {
     let one = [
-        [FARTHEST, 0, FARTHEST, 1, 0, 0],
-        [FARTHEST + 1, 0, FARTHEST + 1, 1, 0, 0],
-        [0, -FARTHEST, 0, 0, 0, 0],
-        [0, -FARTHEST - 1, 0, 0, 0, 0],
-        [0, 0, 1, 0, 0, 3],
-        [0, 0, 1, 0, 1, 0],
-        [i32::MIN, i32::MIN, i32::MAX, i32::MAX, i32::MAX, i32::MAX],
+        [FARTHEST, 0, FARTHEST, 1, 0, 0, 0],
+        [FARTHEST + 1, 0, FARTHEST + 1, 1, 0, 0, 0],
+        [0, -FARTHEST, 0, 0, 0, 0, 0],
+        [0, -FARTHEST - 1, 0, 0, 0, 0, 0],
+        [0, 0, 1, 0, 0, 3, 0],
+        [0, 0, 1, 0, 1, 0, 0],
+        [i32::MIN, i32::MIN, i32::MAX, i32::MAX, i32::MAX, i32::MAX, i32::MAX],
     ];
     let [from, to] = [(-FARTHEST, -FARTHEST), (FARTHEST, FARTHEST)];
     let [above, below] = [(-FARTHEST, FARTHEST), (FARTHEST, -FARTHEST)];
@@ -170,13 +196,21 @@ fn limits() -> Vec<Vec<i32>> {
     [&one.map(Vec::from)[..], &lines.map(two), &windings.map(triangle)].concat()
 }
 
+/// Lots of a line at their limits and past them; and on all segments of case A.
+fn lots() -> Vec<Vec<i32>> {
+    let lots = [1, MOST_LOT, MOST_LOT + 1, -1, i32::MAX, i32::MIN];
+    let a = |lot: fn(i32) -> i32| with(&[0, 1, 2, 3, 4, 5, 6, 7, 8].map(|place| (place, LOT, lot(place as i32))));
+    let of_a = [a(|_| MOST_LOT), a(|place| place), a(|place| MOST_LOT - 1000 * place)];
+    [&lots.map(|lot| vec![0, 0, 1, 0, 0, 1, lot])[..], &of_a].concat()
+}
+
 // ---- many segments
 
-/// So many segments in a row, apart from each other; the one at this place has this winding.
-fn row((n, place, winding): (usize, usize, i32)) -> Vec<i32> {
-    let segment = |i: i32| Segment { a: (2 * i, 0), b: (2 * i + 1, 0), winding: 0, bits: 0 };
+/// So many segments in a row, apart from each other; the one at this place has this winding and lot.
+fn row((n, place, winding, lot): (usize, usize, i32, i32)) -> Vec<i32> {
+    let segment = |i: i32| Segment { a: (2 * i, 0), b: (2 * i + 1, 0), winding: 0, bits: 0, lot: 0 };
     let mut segments: Vec<_> = (0..n as i32).map(segment).collect();
-    segments[place].winding = winding;
+    segments[place] = Segment { winding, lot, ..segments[place] };
     numbers(&segments)
 }
 
@@ -184,12 +218,13 @@ fn row((n, place, winding): (usize, usize, i32)) -> Vec<i32> {
 fn rows() -> Vec<Vec<i32>> {
     let last = MOST_SEGMENTS - 1;
     let rows = [
-        (MOST_SEGMENTS, 0, 0),
-        (MOST_SEGMENTS + 1, 0, 0),
-        (MOST_SEGMENTS, 0, 1),
-        (MOST_SEGMENTS, last / 2, 1),
-        (MOST_SEGMENTS, last, 1),
-        (MOST_SEGMENTS, last, MOST_WINDING + 1),
+        (MOST_SEGMENTS, 0, 0, 0),
+        (MOST_SEGMENTS + 1, 0, 0, 0),
+        (MOST_SEGMENTS, 0, 1, 0),
+        (MOST_SEGMENTS, last / 2, 1, 0),
+        (MOST_SEGMENTS, last, 1, 0),
+        (MOST_SEGMENTS, last, MOST_WINDING + 1, 0),
+        (MOST_SEGMENTS, last, 0, MOST_LOT + 1),
     ];
     rows.map(row).into()
 }

@@ -10,8 +10,8 @@ use std::collections::HashMap;
 /// How many smaller ones are tried at most.
 const TRIES: usize = 1000;
 
-/// Leaves out segments, windings and lines as long as some difference remains, not always the same one. Every rule
-/// and area is tried, however large the drawing.
+/// Leaves out segments, windings, lines and lots as long as some difference remains, not always the same one. Every
+/// rule and area is tried, however large the drawing.
 pub fn shrunk(found: Difference, random: &Random) -> Difference {
     let differs = |numbers: Vec<i32>| compare(&numbers, true, &mut random.clone(), &mut Tally::default()).err();
     smallest(found, |found| Box::new(smaller(&found.numbers)), differs)
@@ -41,14 +41,15 @@ pub fn shorter<T: Clone>(list: &[T], cuts: Vec<usize>) -> impl Iterator<Item = V
     runs.map(move |(from, to)| [&list[..cuts[from]], &list[cuts[to]..]].concat())
 }
 
-/// Runs of segments left out; then cycles of windings taken away; then lines.
+/// Runs of segments left out; then cycles of windings taken away; then lines; then lots.
 fn smaller(drawing: &[i32]) -> impl Iterator<Item = Vec<i32>> + '_ {
     let n = drawing.len() / WIDTH;
     let unwound = (0..n).filter_map(|place| without_cycle(read(drawing), place));
     let unlined = (0..n).flat_map(|place| [1, 2].map(|bit| (place, bit)));
     let unlined = unlined.filter_map(|(place, bit)| without_line(read(drawing), place, bit));
+    let lotless = (0..n).filter_map(|place| without_lot(read(drawing), place));
     let segments = (0..=n).map(|place| place * WIDTH).collect();
-    shorter(drawing, segments).chain(unwound).chain(unlined)
+    shorter(drawing, segments).chain(unwound).chain(unlined).chain(lotless)
 }
 
 /// Takes the winding of one segment away along a cycle through it, so that all points stay as they were.
@@ -76,6 +77,11 @@ fn without_line(mut segments: Vec<Segment>, place: usize, bit: i32) -> Option<Ve
     let set = segments[place].bits & bit != 0;
     segments[place].bits &= !bit;
     set.then(|| numbers(&segments))
+}
+
+fn without_lot(mut segments: Vec<Segment>, place: usize) -> Option<Vec<i32>> {
+    let lot = std::mem::take(&mut segments[place].lot);
+    (lot != 0).then(|| numbers(&segments))
 }
 
 /// For each point that wound segments join to the start, the segment by which it was reached.

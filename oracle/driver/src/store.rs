@@ -6,7 +6,7 @@ use crate::case::Case;
 use crate::choices::{known, known_but, unknown, Choices, SliceChoices, MOST, RULES, SLICE_MOST};
 use crate::counts::Counts;
 use crate::damage::damaged;
-use crate::drawing::{commas, pairs, MOST_POINTS, MOST_SEGMENTS};
+use crate::drawing::{commas, pairs, MOST_POINTS, MOST_SEGMENTS, WIDTH};
 use crate::generate::{accepted, Generator, JOINED, SCATTERED};
 use crate::loops::Loops;
 use crate::output::{Output, CLIP_EACH, SLICE_EACH};
@@ -48,10 +48,10 @@ fn kinds() -> [(usize, MakeLine); 13] {
 }
 
 /// What a run can be refused with that lends lists long enough.
-const NUMBERS: [u64; 9] = [2, 3, 4, 5, 6, 7, 8, 9, 10];
+const NUMBERS: [u64; 10] = [2, 3, 4, 5, 6, 7, 8, 9, 10, 13];
 
 /// Random lines stay short: those of drawings, and of lists of points.
-const MOST_NUMBERS: usize = 900;
+const MOST_NUMBERS: usize = 150 * WIDTH;
 const MOST_COORDINATES: usize = 150;
 
 pub fn store(seed: u64, folder: &Path) -> bool {

@@ -1,5 +1,5 @@
 //! The stored answers: a drawing or a list of points a line in one file, its answer in the same line of another.
-//! `f,rule,ax,ay,bx,by,winding,bits,...` has the answer `number,place,count,fill,...`,
+//! `f,rule,ax,ay,bx,by,winding,bits,lot,...` has the answer `number,place,count,fill,...`,
 //! `c,rule,invert,boundary,ax,...` has `number,place,paths,points,steps,travel,length,...,x,y,...`,
 //! `s,rule,direction,area,ax,...` has `number,place,contours,points,length,...,role,...,x,y,...`, and
 //! `l,area,x,y,...` has `number,place,loops,points,length,...,x,y,...`.

@@ -74,7 +74,9 @@ fn drawn(place: usize) -> String {
             break (numbers, fills);
         }
     };
-    let segments: Vec<_> = numbers.chunks_exact(WIDTH).map(|segment| format!("segment {}", words(segment))).collect();
+    // Without their lots, which no sweep looks at.
+    let segment = |of: &[i32]| format!("segment {}", words(&of[..WIDTH - 1]));
+    let segments: Vec<_> = numbers.chunks_exact(WIDTH).map(segment).collect();
     let fills: Vec<_> = fills.iter().map(|fill| format!("{fill} ∷ ")).collect();
     format!(
         "\nabbrev drawn{place} : Drawn\ndrawn{place} = record {{\n  rule = pos {rule};\n  numbers = {};\n  fills = {}[];\n}}\n",

@@ -3,9 +3,9 @@
 use crate::both;
 use crate::calls::{Call, Calls};
 use crate::choices::{Choices, SliceChoices};
-use crate::drawing::WIDTH;
+use crate::drawing::{read, Segment, MOST_LOT};
 use crate::marks;
-use crate::prose::Refusal;
+use crate::prose::{faults_at, Refusal};
 use crate::table::Table;
 
 #[derive(Default)]
@@ -13,6 +13,10 @@ pub struct Tally {
     generators: Table<&'static str, 2>,
     placements: Table<&'static str, 1>,
     sizes: Table<usize, 1>,
+    /// Accepted drawings by the lots that they have.
+    lots: Table<&'static str, 1>,
+    /// Refused drawings with two faults at one place.
+    faults: Table<&'static str, 1>,
     calls: Calls,
     /// Accepted drawings asked what cleared them of wrong meetings, and those that only the search over pairs did.
     asked: usize,
@@ -26,17 +30,41 @@ pub struct Tally {
     slice_marks: Table<&'static str, 1>,
 }
 
-/// What must occur: numbers of segments, filters and directions by each rule.
+/// What must occur: numbers of segments, lots, which of two faults at one place is due, filters and directions by each
+/// rule.
 const SIZES: [usize; 3] = [0, 1, 1024];
+const LOTS: [&str; 3] = ["no lot", "the greatest lot", "another lot"];
+const FAULTS: [&str; 5] = ["3 before 4", "4 before 5", "5 before 6", "6 before 13", "13 before 7"];
 const DIRECTIONS: [&str; 2] = ["counter-clockwise", "clockwise"];
 const FILTERS: [[&str; 2]; 2] = [["inside excluded", "inside included"], ["outside excluded", "outside included"]];
 
 impl Tally {
     pub fn add_drawing(&mut self, generator: &'static str, numbers: &[i32], refused: Option<Refusal>) {
         self.generators.add(generator, usize::from(refused.is_some()));
-        let n = numbers.len() / WIDTH;
-        if refused.is_none() && SIZES.contains(&n) {
-            self.sizes.add(n, 0);
+        let segments = read(numbers);
+        match refused {
+            Some(refusal) => self.add_faults(&segments, refusal),
+            None => self.add_accepted(&segments),
+        }
+    }
+
+    fn add_accepted(&mut self, segments: &[Segment]) {
+        if SIZES.contains(&segments.len()) {
+            self.sizes.add(segments.len(), 0);
+        }
+        let any = |is_one: fn(i32) -> bool| segments.iter().any(|segment| is_one(segment.lot));
+        let marks = [any(|lot| lot == 0), any(|lot| lot == MOST_LOT), any(|lot| 0 < lot && lot < MOST_LOT)];
+        self.lots.add_marks(LOTS, marks);
+    }
+
+    /// Of a refusal by a fault, where a second one fits at its place.
+    fn add_faults(&mut self, segments: &[Segment], Refusal { number, place }: Refusal) {
+        if !matches!(number, 3..=7 | 13) {
+            return;
+        }
+        if let [due, later, ..] = faults_at(segments, place as usize)[..] {
+            let order = format!("{due} before {later}");
+            FAULTS.into_iter().filter(|&name| name == order).for_each(|name| self.faults.add(name, 0));
         }
     }
 
@@ -77,6 +105,8 @@ impl Tally {
         self.generators.merge(other.generators);
         self.placements.merge(other.placements);
         self.sizes.merge(other.sizes);
+        self.lots.merge(other.lots);
+        self.faults.merge(other.faults);
         self.calls.merge(other.calls);
         self.asked += other.asked;
         self.searched += other.searched;
@@ -94,17 +124,21 @@ impl Tally {
     /// What should have occurred and did not.
     pub fn missing(&self) -> Vec<String> {
         let sizes = self.sizes.lacking(&SIZES).map(|size| format!("n = {size}"));
+        let lots = self.lots.lacking(&LOTS).map(|name| format!("{name} in an accepted drawing"));
+        let faults = self.faults.lacking(&FAULTS).map(|name| format!("refusal {name} at one place"));
         let choices = self.clips.lacking(FILTERS.as_flattened()).chain(self.slices.lacking(&DIRECTIONS));
         let marks = self.clip_marks.lacking(&marks::CLIP).chain(self.slice_marks.lacking(&marks::SLICE));
         let both = self.both.lacking(&both::CALLS).map(|name| format!("measure_clip_both with {name}"));
         let names = choices.chain(marks).map(|name| name.to_string());
-        self.calls.missing().into_iter().chain(sizes).chain(names).chain(both).collect()
+        self.calls.missing().into_iter().chain(sizes).chain(lots).chain(faults).chain(names).chain(both).collect()
     }
 
     pub fn print(&self) {
         self.generators.print("generator", ["accepted", "refused"]);
         self.placements.print("placement", ["drawings"]);
         self.sizes.print("segments", ["accepted"]);
+        self.lots.print("accepted drawings with", ["drawings"]);
+        self.faults.print("two faults at one place", ["drawings"]);
         self.calls.print();
         let (asked, searched) = (self.asked, self.searched);
         println!("{asked} accepted drawings cleared of wrong meetings, {searched} of them by the search over pairs\n");

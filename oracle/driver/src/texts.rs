@@ -3,7 +3,7 @@
 use crate::choices::{Choices, MOST};
 use crate::damage;
 use crate::damage_text::{damaged, ALPHABET};
-use crate::drawing::{comma_text, commas, MOST_SEGMENTS, WIDTH};
+use crate::drawing::{comma_text, commas, lines, MOST_SEGMENTS, WIDTH};
 use crate::generate::{JOINED, SCATTERED};
 use crate::grow::grown;
 use crate::random::Random;
@@ -22,11 +22,12 @@ const fn kind(name: &'static str, make: Make, share: usize) -> Kind {
     Kind { name, make, share }
 }
 
-pub const KINDS: [Kind; 9] = [
+pub const KINDS: [Kind; 10] = [
     kind("drawing", of_drawing, 18),
     kind("damaged drawing", of_damaged_drawing, 18),
     kind("unknown choice", with_unknown_choice, 4),
-    kind("damaged text", damaged_text, 42),
+    kind("damaged text", damaged_text, 40),
+    kind("six or eight fields", with_other_fields, 2),
     kind("1,024 segments or more", with_many_segments, 2),
     kind("65,536 bytes or so", with_many_bytes, 4),
     kind("long field or line", with_one_byte, 2),
@@ -35,7 +36,7 @@ pub const KINDS: [Kind; 9] = [
 ];
 
 /// Good lines before bytes that may be bad.
-const STARTS: [&str; 3] = ["", "1,0,1\n", "1,0,1\n0,0,1,0,0,1\n"];
+const STARTS: [&str; 3] = ["", "1,0,1\n", "1,0,1\n0,0,1,0,0,1,7\n"];
 
 fn drawing(random: &mut Random) -> Vec<i32> {
     let place = random.below(SCATTERED.len() + JOINED.len());
@@ -66,6 +67,15 @@ fn damaged_text(random: &mut Random) -> Vec<u8> {
     damaged(&make(random), random)
 }
 
+/// Lines without the lot, as they were before there were lots, or with a field more.
+fn with_other_fields(random: &mut Random) -> Vec<u8> {
+    let numbers = drawing(random);
+    let fields = random.pick(&[WIDTH - 1, WIDTH + 1]);
+    let line = |segment: &[i32]| segment.iter().copied().chain([0]).take(fields).collect::<Vec<_>>();
+    let others: Vec<i32> = numbers.chunks(WIDTH).flat_map(line).collect();
+    lines(&commas(&Choices::known(random).list()), &others, fields).into_bytes()
+}
+
 /// Lines are added up to the most segments or one more; then perhaps a bad one.
 fn with_many_segments(random: &mut Random) -> Vec<u8> {
     let mut text = of_drawing(random);
@@ -81,7 +91,7 @@ fn with_many_segments(random: &mut Random) -> Vec<u8> {
 fn with_many_bytes(random: &mut Random) -> Vec<u8> {
     let text = of_drawing(random);
     let bytes = random.pick(&[MOST_BYTES - 1, MOST_BYTES, MOST_BYTES, MOST_BYTES + 1, MOST_BYTES + 1, 4 * MOST_BYTES]);
-    let each = random.pick(&[12, 48, 66]);
+    let each = random.pick(&[14, 56, 77]);
     let long = grown(text, bytes, each);
     if random.chance(50) {
         damaged(&long, random)

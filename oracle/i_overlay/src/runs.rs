@@ -15,8 +15,8 @@ use i_float::int::point::IntPoint;
 use i_shape::int::path::{IntPath, take_made};
 use std::panic::{AssertUnwindSafe, catch_unwind, resume_unwind};
 
-/// How many numbers a segment has.
-pub(crate) const WIDTH: usize = 6;
+/// How many numbers a segment has. The last is its lot, which the Rust is not fed.
+pub(crate) const WIDTH: usize = 7;
 
 pub type Points = Vec<(i32, i32)>;
 

@@ -7,8 +7,8 @@ use crate::{Contour, Drawing, Scan, split};
 use i_float::int::point::IntPoint;
 
 const A: [i32; 9 * WIDTH] = [
-    -5, 5, 0, 5, 0, 1, 0, 0, 0, 5, -1, 0, 0, 0, 10, 0, 1, 0, 0, 5, 0, 10, -1, 0, 0, 5, 10, 5, 0, 1, 0, 10, 10, 10, -1,
-    0, 10, 0, 10, 5, 1, 0, 10, 5, 10, 10, 1, 0, 10, 5, 15, 5, 0, 1,
+    -5, 5, 0, 5, 0, 1, 0, 0, 0, 0, 5, -1, 0, 0, 0, 0, 10, 0, 1, 0, 0, 0, 5, 0, 10, -1, 0, 0, 0, 5, 10, 5, 0, 1, 0, 0,
+    10, 10, 10, -1, 0, 0, 10, 0, 10, 5, 1, 0, 0, 10, 5, 10, 10, 1, 0, 0, 10, 5, 15, 5, 0, 1, 0,
 ];
 
 fn outside(numbers: &[i32]) -> Vec<Vec<(i32, i32)>> {
@@ -27,9 +27,9 @@ fn clips() {
     let mut a = Drawing::new(&A, Scan::Chosen);
     assert_eq!(a.clip(1, false, true), [[(0, 5), (10, 5)]]);
     assert_eq!(a.clip(1, true, true), [[(-5, 5), (0, 5)], [(10, 5), (15, 5)]]);
-    assert_eq!(outside(&[0, 0, 1, 0, 0, 3]), [[(0, 0), (1, 0), (0, 0)]]);
-    assert_eq!(outside(&[0, 0, 1, 0, 0, 2, 1, 0, 2, 0, 0, 2]), [[(2, 0), (1, 0), (0, 0)]]);
-    assert_eq!(outside(&[0, 0, 2, -1, 0, 1, 0, 0, 2, 1, 0, 2]), [[(0, 0), (2, -1)], [(2, 1), (0, 0)]]);
+    assert_eq!(outside(&[0, 0, 1, 0, 0, 3, 0]), [[(0, 0), (1, 0), (0, 0)]]);
+    assert_eq!(outside(&[0, 0, 1, 0, 0, 2, 0, 1, 0, 2, 0, 0, 2, 0]), [[(2, 0), (1, 0), (0, 0)]]);
+    assert_eq!(outside(&[0, 0, 2, -1, 0, 1, 0, 0, 0, 2, 1, 0, 2, 0]), [[(0, 0), (2, -1)], [(2, 1), (0, 0)]]);
     assert!(outside(&[]).is_empty());
 }
 
@@ -45,9 +45,9 @@ fn slices() {
 /// Outer contours run the way asked for, holes the other way.
 #[test]
 fn slices_with_a_hole() {
-    let outline = [0, 0, 0, 9, -1, 0, 0, 0, 9, 0, 1, 0, 0, 9, 9, 9, -1, 0];
-    let hole = [3, 3, 3, 6, 1, 0, 3, 3, 6, 3, -1, 0, 3, 6, 6, 6, 1, 0, 6, 3, 6, 6, -1, 0];
-    let frame = [&outline[..], &hole, &[9, 0, 9, 9, 1, 0]].concat();
+    let outline = [0, 0, 0, 9, -1, 0, 0, 0, 0, 9, 0, 1, 0, 0, 0, 9, 9, 9, -1, 0, 0];
+    let hole = [3, 3, 3, 6, 1, 0, 0, 3, 3, 6, 3, -1, 0, 0, 3, 6, 6, 6, 1, 0, 0, 6, 3, 6, 6, -1, 0, 0];
+    let frame = [&outline[..], &hole, &[9, 0, 9, 9, 1, 0, 0]].concat();
     let contours = |clockwise| Drawing::new(&frame, Scan::Chosen).slice(1, clockwise, 0).unwrap();
     let mut expected = [
         Contour { points: vec![(9, 0), (9, 9), (0, 9), (0, 0)], role: 0 },

@@ -19,13 +19,13 @@ use Rattle.refusal.proofs.Order.{At, first-at, refused-by, If, refused-if}
 use Rattle.segm.specs.declared.Segment.{Segment}
 use Rattle.segm.specs.Segments.{Drawing, width, count, segments, nowhere, segmentAt}
 use Rattle.faults.specs.Faults.{faultAt, faultsOf}
-use Rattle.faults.proofs.Faults.{NoFault, no-fault-at, Fault, three, four, five, six, seven, which}
+use Rattle.faults.proofs.Faults.{NoFault, no-fault-at, Fault, three, four, five, six, thirteen, seven, which}
 use Rattle.faults.proofs.Faultless.{faultless}
 use Rattle.meetings.specs.Meetings.{meetsWrongly}
 use Rattle.balance.specs.Balance.{balances}
 use Rattle.drawing_check.specs.Drawing.{meetingAt, meetingsOf, unbalancedAt, unbalancedOf, drawingVerdict}
 use Rattle.checks.specs.Runs.{Run, asked, verdict}
-use Rattle.checks.specs.Accepted.{Fits, wrong-length, coordinate-out, not-rising, winding-out, bits-out, start-falls, wrong-meeting, a-unbalanced, b-unbalanced, unknown-choice, too-short}
+use Rattle.checks.specs.Accepted.{Fits, wrong-length, coordinate-out, not-rising, winding-out, bits-out, lot-out, start-falls, wrong-meeting, a-unbalanced, b-unbalanced, unknown-choice, too-short}
 use Rattle.drawing_check.proofs.Drawing.{no-meeting, balanced-at, DrawingPassed, drawing-passed}
 use Rattle.checks.proofs.Runs.{Passed, passed, passes}
 
@@ -42,6 +42,7 @@ module _ (r : Run) where
   fault-fits i number l (four h) = not-rising i l h
   fault-fits i number l (five h) = winding-out i l h
   fault-fits i number l (six h) = bits-out i l h
+  fault-fits i number l (thirteen h) = lot-out i l h
   fault-fits i number l (seven h) = falls i l h
 
   fault-refused : (number place : ℕ) → faultsOf d ≡ Refused number place → Fits r number place
@@ -123,6 +124,7 @@ module _ (r : Run) where
       go (not-rising i l h) = clash (at i l .order) h
       go (winding-out i l h) = clash (at i l .winding) h
       go (bits-out i l h) = clash (at i l .bits) h
+      go (lot-out i l h) = clash (at i l .lot) h
       go (start-falls i l h) = let k : suc i - 1 ≡ i = omega arith in clash h (subst (λ (k : ℕ). ltP (segmentAt d (suc i) .a) (segmentAt d k .a) ≡ false) k (at (suc i) l .after))
       go (wrong-meeting i j l m h) =
           clash h (pairs-places (λ s t. meetsWrongly s t ≡ false) d nowhere (no-meeting d .0 (c .apart)) i (omega arith) (segmentAt d j) (in-after d nowhere i j l m))

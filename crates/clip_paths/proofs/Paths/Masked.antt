@@ -16,6 +16,7 @@ use Rattle.build.specs.declared.filter.Filter.{Filter}
 use Rattle.ray.specs.Ray.{fill}
 use Rattle.ray.proofs.Fills.{fill-lines, plain}
 use Rattle.build.specs.Links.{sidesSet, keepsSides, keeps, keptLinks, masked, maskedBits}
+use Rattle.moves.proofs.SameEnds.{EndsAlike}
 use Rattle.clip_walk.specs.Walk.{lineBits, walk}
 use Rattle.clip_paths.specs.Paths.{clipPaths}
 use Rattle.clip_paths.specs.Writing.{bitsPaths}
@@ -79,7 +80,11 @@ module _ (rule : Rule) (filter : Filter) (d : Drawing) where
   b-at (s ∷ l) zero = mask-b s
   b-at (s ∷ l) (suc k) = b-at l k
 
+  ends-kept : EndsAlike d (map mask d)
+  unfolding segmentAt
+  ends-kept = record { as-many = length-map d mask; a-same = a-at d; b-same = b-at d }
+
   -- so a walk over the drawing by their line bits finds the paths of the kept links
   pub masked-paths : bitsPaths d (maskedBits rule filter d) ≡ clipPaths rule filter d
-  unfolding masked clipPaths keptLinks walk segmentAt
-  masked-paths = sym (paths-same d (map mask d) (length-map d mask) (a-at d) (b-at d) (lineBits (map mask d))) ∙ no-lines kept (map mask d) mask-none ∙ ap linksPaths (keep-mask d)
+  unfolding masked clipPaths keptLinks walk
+  masked-paths = sym (paths-same ends-kept (lineBits (map mask d))) ∙ no-lines kept (map mask d) mask-none ∙ ap linksPaths (keep-mask d)

@@ -1,4 +1,4 @@
--- What 3 to 7 refuse, or was refused before, stays; else fresh arrays are memory for the ends.
+-- What 3 to 7 and 13 refuse, or was refused before, stays; else fresh arrays are memory for the ends.
 use borrow.Author.Needs.{needs}
 use mathlib.Core.Path.{sym, _∙_}
 use Rattle.refusal.proofs.Order.{not-both}

@@ -8,7 +8,7 @@ use lib.IntN.{pos, negsuc}
 use mir.Syntax.{w32}
 use Rattle.integers.proofs.Machine.{read}
 use Rattle.geom.specs.Points.{within, ltP}
-use Rattle.faults.specs.Faults.{endsInRange, rises, windingInRange, bitsInRange, fault}
+use Rattle.faults.specs.Faults.{endsInRange, rises, windingInRange, bitsInRange, lotInRange, fault}
 use Rattle.faults.proofs.fault.Statement.{statement}
 use Rattle.faults.proofs.fault.Tie as tie
 
@@ -26,6 +26,9 @@ is-within-requires c κs = search needs
 
 is-within-requires-2 : tie.Need-is-within-requires-2
 is-within-requires-2 c κs = search needs
+
+is-within-requires-3 : tie.Need-is-within-requires-3
+is-within-requires-3 c κs = search needs
 
 less-requires-2 : tie.Need-less-requires-2
 less-requires-2 c κs = search needs
@@ -49,6 +52,10 @@ unfolding bitsInRange
 bits c =
     c .is-within2 .ensures ∙ ap (within (pos 0) (pos 3)) (read w32 (c .before .before .before .before .before .before .before .before .before .before .before .before .args .t .bits) (omega arith))
 
+lot : (c : tie.After-is-within3) → c .is-within3 .result ≡ lotInRange (c .before .before .before .before .before .before .before .before .before .before .before .before .before .before .before .args .t)
+unfolding lotInRange
+lot c = c .is-within3 .ensures ∙ ap (within (pos 0) (pos 9999)) (read w32 (c .before .before .before .before .before .before .before .before .before .before .before .before .before .before .before .args .t .lot) (omega arith))
+
 -- and that it was passed
 ends-pass : (c : tie.Else1) → endsInRange (c .before .before .before .before .before .args .t) ≡ true
 ends-pass c = sym (ends (c .before)) ∙ not-false _ (c .if1 .left)
@@ -61,6 +68,9 @@ winding-pass c = sym (winding (c .before)) ∙ not-false _ (c .if3 .left)
 
 bits-pass : (c : tie.Else4) → bitsInRange (c .before .before .before .before .before .before .before .before .before .before .before .before .before .args .t) ≡ true
 bits-pass c = sym (bits (c .before)) ∙ not-false _ (c .if4 .left)
+
+lot-pass : (c : tie.Else5) → lotInRange (c .before .before .before .before .before .before .before .before .before .before .before .before .before .before .before .before .args .t) ≡ true
+lot-pass c = sym (lot (c .before)) ∙ not-false _ (c .if5 .left)
 
 returns : tie.Need-returns
 unfolding fault
@@ -85,19 +95,29 @@ returns-4 c =
     let e = f .before .before .before in
     simp (ends-pass (e .before .before), order-pass e, winding-pass f, sym (bits d) ∙ not-true _ (c .if4 .taken))
 
--- past 3 to 6
-only-seven : (c : tie.Else4) → fault (c .before .before .before .before .before .before .before .before .before .before .before .before .before .args .p) (c .before .before .before .before .before .before .before .before .before .before .before .before .before .args .t) ≡ cond (ltP (c .before .before .before .before .before .before .before .before .before .before .before .before .before .args .t .a) (c .before .before .before .before .before .before .before .before .before .before .before .before .before .args .p)) 7 0
+returns-5 : tie.Need-returns-5
+unfolding fault
+returns-5 c =
+    let d = c .before in
+    let g = d .before .before in
+    let f = g .before .before .before in
+    let e = f .before .before .before in
+    simp (ends-pass (e .before .before), order-pass e, winding-pass f, bits-pass g, sym (lot d) ∙ not-true _ (c .if5 .taken))
+
+-- past 3 to 6 and 13
+only-seven : (c : tie.Else5) → fault (c .before .before .before .before .before .before .before .before .before .before .before .before .before .before .before .before .args .p) (c .before .before .before .before .before .before .before .before .before .before .before .before .before .before .before .before .args .t) ≡ cond (ltP (c .before .before .before .before .before .before .before .before .before .before .before .before .before .before .before .before .args .t .a) (c .before .before .before .before .before .before .before .before .before .before .before .before .before .before .before .before .args .p)) 7 0
 unfolding fault
 only-seven c =
-    let f = c .before .before .before in
+    let g = c .before .before .before in
+    let f = g .before .before .before in
     let e = f .before .before .before in
-    simp (ends-pass (e .before .before), order-pass e, winding-pass f, bits-pass c)
-
-returns-5 : tie.Need-returns-5
-returns-5 c = sym (only-seven (c .before .before) ∙ simp (sym (c .before .less2 .ensures) ∙ c .if5 .taken))
+    simp (ends-pass (e .before .before), order-pass e, winding-pass f, bits-pass g, lot-pass c)
 
 returns-6 : tie.Need-returns-6
-returns-6 c = sym (only-seven (c .before .before) ∙ simp (sym (c .before .less2 .ensures) ∙ c .if5 .left))
+returns-6 c = sym (only-seven (c .before .before) ∙ simp (sym (c .before .less2 .ensures) ∙ c .if6 .taken))
+
+returns-7 : tie.Need-returns-7
+returns-7 c = sym (only-seven (c .before .before) ∙ simp (sym (c .before .less2 .ensures) ∙ c .if6 .left))
 
 pub fault-spec : {M : Type 1} → statement M
 fault-spec =
@@ -112,6 +132,8 @@ fault-spec =
     returns-3
     is-within-requires-2
     returns-4
-    less-requires-2
+    is-within-requires-3
     returns-5
-    returns-6)
+    less-requires-2
+    returns-6
+    returns-7)

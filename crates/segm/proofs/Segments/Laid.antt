@@ -72,7 +72,7 @@ module _ (d : Drawing) (old : List ℤ) where
 
 -- the numbers of a segment stored one by one
 pub stores : (t : Segment) (l : List ℤ) (k : ℕ) → k + width ≤ length l
-    → set (set (set (set (set (set l k (t .a .x)) (k + 1) (t .a .y)) (k + 2) (t .b .x)) (k + 3) (t .b .y)) (k + 4) (t .winding)) (k + 5) (t .bits)
+    → set (set (set (set (set (set (set l k (t .a .x)) (k + 1) (t .a .y)) (k + 2) (t .b .x)) (k + 3) (t .b .y)) (k + 4) (t .winding)) (k + 5) (t .bits)) (k + 6) (t .lot)
     ≡ take k l ++ (numbersOf t ++ drop (k + width) l)
 unfolding numbersOf
 stores t l k h =
@@ -81,4 +81,5 @@ stores t l k h =
     let three : k + 3 ≡ suc (suc (suc k)) = omega arith in
     let four : k + 4 ≡ suc (suc (suc (suc k))) = omega arith in
     let five : k + 5 ≡ suc (suc (suc (suc (suc k)))) = omega arith in
-    rw (one, two, three, four, five) (sets-eq (numbersOf t) l k h ∙ append-assoc (take k l) (numbersOf t) (drop (k + width) l))
+    let six : k + 6 ≡ suc (suc (suc (suc (suc (suc k))))) = omega arith in
+    rw (one, two, three, four, five, six) (sets-eq (numbersOf t) l k h ∙ append-assoc (take k l) (numbersOf t) (drop (k + width) l))

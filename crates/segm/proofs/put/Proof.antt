@@ -1,4 +1,4 @@
--- Six stores in a row.
+-- Seven stores in a row.
 use borrow.Author.Needs.{needs}
 use native.Mathlib.Omega.{arith}
 use Prim.Native.Nat.{_*_}
@@ -64,12 +64,21 @@ mul-bits c = search needs
 slice-set-from-bits : tie.Need-slice-set-from-bits
 slice-set-from-bits c = simp length-set (search needs)
 
+add-lot : tie.Need-add-lot
+add-lot c = search needs
+
+mul-lot : tie.Need-mul-lot
+mul-lot c = search needs
+
+slice-set-from-lot : tie.Need-slice-set-from-lot
+slice-set-from-lot c = simp length-set (search needs)
+
 same-length : tie.Need-same-length
 same-length c = simp length-set
 
 returns : tie.Need-returns
 returns c =
-    let s = c .before .before .before .before .before .before .before .before in
+    let s = c .before .before .before .before .before .before .before .before .before in
     let t = s .args .t in
     let ax = read w32 (t .a .x) (omega arith) in
     let ay = read w32 (t .a .y) (omega arith) in
@@ -77,7 +86,8 @@ returns c =
     let by = read w32 (t .b .y) (omega arith) in
     let winding = read w32 (t .winding) (omega arith) in
     let bits = read w32 (t .bits) (omega arith) in
-    simp (ax, ay, bx, by, winding, bits) (stores t (s .args .s .now) (s .args .i * width) (s .pre))
+    let lot = read w32 (t .lot) (omega arith) in
+    simp (ax, ay, bx, by, winding, bits, lot) (stores t (s .args .s .now) (s .args .i * width) (s .pre))
 
 pub put-spec : {M : Type 1} → statement M
 put-spec =
@@ -101,5 +111,8 @@ put-spec =
     add-bits
     mul-bits
     slice-set-from-bits
+    add-lot
+    mul-lot
+    slice-set-from-lot
     same-length
     returns)
