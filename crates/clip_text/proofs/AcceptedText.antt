@@ -33,7 +33,7 @@ use Rattle.clip_paths.specs.Paths.{clipPaths, totals}
 use Rattle.string_clip.proofs.Run.ReadBack.{read-back}
 use Rattle.string_clip.proofs.Run.Accepted.{accepted-outcome, room-long}
 use Rattle.text.specs.declared.Choices.{Choices}
-use Rattle.text.specs.Grammar.{Parsed, Drawn, parsed}
+use Rattle.text.specs.Grammar.{Parsed, Drawn, mostBytes, parsed}
 use Rattle.text.specs.Writing.{choiceNumbers, writing, AllNineDigits}
 use Rattle.text.proofs.Writing.{lineMost, fits, reads-back}
 use Rattle.writing.specs.Lengths.{signedLength, lineLength, rowLength}
@@ -107,13 +107,17 @@ module _ (c : Choices) (d : Drawing) (e : accepts (laid d) (c .rule) (c .invert)
   nine-digits r (inr i) z m = let f = in-map numbersOf r d i in omega (arith, small-segment (good .faultless) (f .0) (f .1) z (subst (λ (l : List ℤ). z ∈ l) (f .2) m))
 
   -- at most 53 bytes in a line
-  short-lines : (r : List ℤ) → r ∈ (choiceNumbers c ∷ map numbersOf d) → rowLength r ≤ lineMost
+  pub short-lines : (r : List ℤ) → r ∈ (choiceNumbers c ∷ map numbersOf d) → rowLength r ≤ lineMost
   short-lines r (inl q) = rw q short-choices
   short-lines r (inr i) = let f = in-map numbersOf r d i in rw (f .2) (short-segment (good .faultless) (f .0) (f .1))
 
+  -- so every accepted drawing fits in a text
+  pub accepted-fits : length (writing c d) ≤ mostBytes
+  accepted-fits = fits c d (good .faultless .few) short-lines
+
   -- an accepted drawing has a text, which holds its choices and its numbers
   pub accepted-text : parsed width (writing c d) ≡ Drawn c (laid d)
-  accepted-text = reads-back c d nine-digits (fits c d (good .faultless .few) short-lines)
+  accepted-text = reads-back c d nine-digits accepted-fits
 
   -- lists for 1,024 segments are long enough for it
   accepted-clip : (ls : Lists) → length (ls .points) ≡ 8192 → length (ls .lengths) ≡ 2048 → verdict (runOf (laid d) (c .rule) (c .invert) (c .boundary) ls) ≡ Accepted

@@ -1,7 +1,6 @@
 -- Links with the same ends: the same steps over them, the same nodes and the same first moves, whatever their windings, line bits and lots are.
 use mathlib.Core.Path.{_≡_, ap, ap₂, _∙_, fun-ext}
 use mathlib.Core.List.{List, _++_, map}
-use mathlib.Core.Option.{Option}
 use mathlib.Core.Bool.{Bool, true, false, cond, Bool·beq}
 use Prim.Native.Nat.{ℕ}
 use lib.ListN.{length}
@@ -14,7 +13,7 @@ use Rattle.segm.specs.Segments.{Drawing, segmentAt}
 use Rattle.segm.specs.Lots.{unlotted}
 use Rattle.segm.proofs.Lots.{length-unlotted, unlotted-at}
 use Rattle.graph.specs.Nodes.{node}
-use Rattle.moves.specs.Steps.{Step, step, asDrawn, way, other, fitting}
+use Rattle.moves.specs.Steps.{step, asDrawn, way, other, fitting}
 use Rattle.moves.specs.Moves.{Move, over}
 use Rattle.moves.specs.Begins.{firstRemaining, bothMoves, begins}
 

@@ -9,10 +9,9 @@ use native.Mathlib.Omega.{arith}
 use borrow.Author.Tests.{eq-eqb, le-ltb}
 use lib.Dec.{eqb, ltb}
 use lib.ListN.{length, getD, length-map}
-use lib.IntN.{ℤ, pos, natAbs}
+use lib.IntN.{ℤ, pos}
 use Rattle.lists.specs.Members.{_∈_}
 use Rattle.segm.specs.Segments.{Drawing, width, front, segments, whole, numbersOf, laid}
-use Rattle.lists.proofs.Members.{in-map}
 use Rattle.lists.proofs.Sums.{tally-bound}
 use Rattle.segm.proofs.Segments.Laid.{length-laid, segments-laid}
 use Rattle.text.specs.declared.Choices.{Choices}

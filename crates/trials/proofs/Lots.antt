@@ -15,13 +15,13 @@ use Rattle.refusal.specs.declared.Verdict.the-variants.{Accepted}
 use Rattle.refusal.specs.Order.{_then_}
 use Rattle.refusal.specs.Asked.{wrongLength, Choice, unknownChoice, Lent, tooShort, askedFirst}
 use Rattle.refusal.proofs.Order.{not-both, accepted-then}
-use Rattle.segm.specs.Segments.{Drawing, width, count, segments}
+use Rattle.segm.specs.Segments.{width, count, segments}
 use Rattle.segm.specs.Lots.{unlotted, SameButLots}
 use Rattle.segm.proofs.Lots.{lots-alike}
 use Rattle.faults.specs.Faults.{LotOut}
 use Rattle.drawing_check.specs.Drawing.{drawingVerdict}
 use Rattle.drawing_check.proofs.Lots.{verdict-lots}
-use Rattle.checks.specs.Runs.{fillsRun, asked, verdict}
+use Rattle.checks.specs.Runs.{asked, verdict}
 use Rattle.fill_rule.specs.FillRule.{ruleOf}
 use Rattle.ray.specs.Ray as ray
 use Rattle.ray.proofs.Fills.{fills-unlotted}

@@ -1,9 +1,7 @@
 -- Lots count for no path: the kept links are the same but for their lots, and so are their ends and line bits.
-use mathlib.Core.Path.{_≡_, refl, _∙_, ap}
-use mathlib.Core.List.{List, map, map-map}
-use Prim.Native.Nat.{ℕ}
+use mathlib.Core.Path.{_≡_, _∙_, ap}
+use mathlib.Core.List.{map, map-map}
 use lib.IntN.{natAbs}
-use Rattle.geom.specs.declared.Point.{Point}
 use Rattle.segm.specs.declared.Segment.{Segment}
 use Rattle.segm.specs.Segments.{Drawing}
 use Rattle.segm.specs.Lots.{unlotted}
