@@ -33,28 +33,28 @@ use Rattle.string_clip.specs.Run as clip
 use Rattle.string_slice.specs.Contours.{sliceContours}
 use Rattle.string_slice.proofs.Contours.{slice-unlotted}
 use Rattle.string_slice.specs.Run as slice
-use Rattle.trials.specs.Lots.{runOn, LotsDecideNothingElse}
+use Rattle.trials.specs.Lots.{runWith, LotsDecideNothingElse}
 
 -- ---- acceptance
 module _ (l m : List ℤ) (n : length l ≡ length m) (q : SameButLots (segments l) (segments m)) (choices : List Choice) (lists : List Lent) where
-  asked-same : asked (runOn m choices lists) ≡ asked (runOn l choices lists)
+  asked-same : asked (runWith m choices lists) ≡ asked (runWith l choices lists)
   unfolding asked count
   asked-same = ap (λ k. askedFirst (wrongLength width 1024 k) (any unknownChoice choices) (any (tooShort (k / width)) lists)) (sym n)
 
-  acceptance : verdict (runOn l choices lists) ≡ Accepted → (verdict (runOn m choices lists) ≡ Accepted) ⊎ LotOut (segments m) (verdict (runOn m choices lists))
+  acceptance : verdict (runWith l choices lists) ≡ Accepted → (verdict (runWith m choices lists) ≡ Accepted) ⊎ LotOut (segments m) (verdict (runWith m choices lists))
   unfolding verdict
   acceptance e = go (verdict-lots (segments l)) (verdict-lots (segments m))
     where
-      passed : (asked (runOn l choices lists) ≡ Accepted) × (drawingVerdict (segments l) ≡ Accepted)
-      passed = accepted-then (asked (runOn l choices lists)) _ e
+      passed : (asked (runWith l choices lists) ≡ Accepted) × (drawingVerdict (segments l) ≡ Accepted)
+      passed = accepted-then (asked (runWith l choices lists)) _ e
 
       -- the other run's verdict is that on its drawing
-      decides : verdict (runOn m choices lists) ≡ drawingVerdict (segments m)
+      decides : verdict (runWith m choices lists) ≡ drawingVerdict (segments m)
       decides = ap (λ (v : Verdict). v then drawingVerdict (segments m)) (asked-same ∙ passed .0)
 
       go : (drawingVerdict (segments l) ≡ drawingVerdict (map unlotted (segments l))) ⊎ LotOut (segments l) (drawingVerdict (segments l))
           → (drawingVerdict (segments m) ≡ drawingVerdict (map unlotted (segments m))) ⊎ LotOut (segments m) (drawingVerdict (segments m))
-          → (verdict (runOn m choices lists) ≡ Accepted) ⊎ LotOut (segments m) (verdict (runOn m choices lists))
+          → (verdict (runWith m choices lists) ≡ Accepted) ⊎ LotOut (segments m) (verdict (runWith m choices lists))
       go (inl a) (inl b) = inl (decides ∙ b ∙ ap drawingVerdict (sym q) ∙ sym a ∙ passed .1)
       go (inr o) b = absurd (not-both (sym (o .thirteen) ∙ passed .1))
       go (inl a) (inr o) = inr (subst (LotOut (segments m)) (sym decides) o)

@@ -16,9 +16,9 @@ use Rattle.build.specs.Fills as fills
 use Rattle.string_clip.specs.Run as clip
 use Rattle.string_slice.specs.Run as slice
 
--- a run on these numbers
-abbrev pub runOn : List ℤ → List Choice → List Lent → Run
-runOn numbers choices lists = record { numbers = numbers; choices = choices; lists = lists }
+-- a run on these numbers, with these choices and lists
+abbrev pub runWith : List ℤ → List Choice → List Lent → Run
+runWith numbers choices lists = record { numbers = numbers; choices = choices; lists = lists }
 
 pub record LotsDecideNothingElse : Type 0 where
   -- whole runs, where both are accepted
@@ -33,4 +33,4 @@ pub record LotsDecideNothingElse : Type 0 where
       → slice.sliceOutcome l rule direction least ls ≡ slice.sliceOutcome m rule direction least ls
   -- where one is accepted, the other is, or is refused with 13 at a lot out of range
   pub of-acceptance : (l m : List ℤ) → length l ≡ length m → SameButLots (segments l) (segments m) → (choices : List Choice) (lists : List Lent)
-      → verdict (runOn l choices lists) ≡ Accepted → (verdict (runOn m choices lists) ≡ Accepted) ⊎ LotOut (segments m) (verdict (runOn m choices lists))
+      → verdict (runWith l choices lists) ≡ Accepted → (verdict (runWith m choices lists) ≡ Accepted) ⊎ LotOut (segments m) (verdict (runWith m choices lists))
