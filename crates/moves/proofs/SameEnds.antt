@@ -17,12 +17,13 @@ use Rattle.moves.specs.Steps.{step, asDrawn, way, other, fitting}
 use Rattle.moves.specs.Moves.{Move, over}
 use Rattle.moves.specs.Begins.{firstRemaining, bothMoves, begins}
 
+-- as many links, with the same ends at every place
 pub record EndsAlike (d e : Drawing) : Type 0 where
   pub as-many : length e ≡ length d
   pub a-same : (k : ℕ) → segmentAt e k .a ≡ segmentAt d k .a
   pub b-same : (k : ℕ) → segmentAt e k .b ≡ segmentAt d k .b
 
--- as without lots
+-- a drawing and the same without lots
 pub unlotted-ends : (d : Drawing) → EndsAlike d (map unlotted d)
 unlotted-ends d = record {
   as-many = length-unlotted d;
