@@ -9,11 +9,14 @@ use Rattle.string_split.specs.declared.Loops.{Loops}
 use Rattle.string_split.specs.Run as split
 use Rattle.text.specs.declared.Reading.{Reading}
 use Rattle.text.specs.Storing as reading
+use Rattle.stored_text.specs.declared.Wrote.{Wrote}
+use Rattle.stored_text.specs.Outcome as writer
 use Rattle.c_structs.specs.declared.Fills.{Fills}
 use Rattle.c_structs.specs.declared.Clip.{Clip}
 use Rattle.c_structs.specs.declared.Slice.{Slice}
 use Rattle.c_structs.specs.declared.Split.{Split}
 use Rattle.c_structs.specs.declared.Read.{Read}
+use Rattle.c_structs.specs.declared.Write.{Write}
 
 -- ---- fills
 -- the answer of a fills run as C's struct
@@ -55,3 +58,11 @@ readStruct t = record { number = t .number; place = t .place; count = t .count; 
 
 abbrev pub readOf : Reading → Read
 readOf answer = readStruct (reading.told answer)
+
+-- ---- write, move
+-- the answer of the writer or the mover as C's struct
+abbrev pub writeStruct : writer.Told → Write
+writeStruct t = record { number = t .number; place = t .place; count = t .count }
+
+abbrev pub writeOf : Wrote → Write
+writeOf answer = writeStruct (writer.told answer)

@@ -1,11 +1,12 @@
 // The structs of numbers that C is handed, and the answer of each run set out in one.
 use build::Filled;
+use stored_text::Wrote;
 use string_clip::Clipped;
 use string_slice::Sliced;
 use string_split::Loops;
 use text::Reading;
 ghost use mathlib.Core.Path.{_≡_};
-ghost use Rattle.c_structs.specs.Structs.{fillsOf, clipOf, sliceOf, splitOf, readOf};
+ghost use Rattle.c_structs.specs.Structs.{fillsOf, clipOf, sliceOf, splitOf, readOf, writeOf};
 
 // A refusal's number and place, or 0 and 0 and how many fills were written.
 #[repr(C)]
@@ -157,6 +158,32 @@ pub fn read_of(answer: Reading) -> Read
             rule: 0,
             invert: 0,
             boundary: 0,
+        },
+    }
+}
+
+// A refusal's number and place, or 0 and 0 and how many bytes were written.
+#[repr(C)]
+pub struct Write {
+    pub number: u64,
+    pub place: u64,
+    pub count: u64,
+}
+
+// The answer of the writer or the mover of texts.
+pub fn write_of(answer: Wrote) -> Write
+    ensures { λ r. ⌜ r ≡ writeOf answer ⌝ }
+{
+    match answer {
+        Wrote::Done(written) => Write {
+            number: 0,
+            place: 0,
+            count: written as u64,
+        },
+        Wrote::Refused(number, place) => Write {
+            number: number as u64,
+            place: place as u64,
+            count: 0,
         },
     }
 }

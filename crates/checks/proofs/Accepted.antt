@@ -26,8 +26,8 @@ use Rattle.meetings.specs.Meetings.{sameEnds}
 use Rattle.meetings.proofs.Meetings.Apart.{apart-ends, same-ends-sym}
 use Rattle.balance.specs.Balance.{balance, balances}
 use Rattle.drawing_check.specs.Drawing.{drawingVerdict}
-use Rattle.checks.specs.Runs.{Run, clipRun, asked, verdict}
-use Rattle.checks.specs.Accepted.{Good, inputOf, accepts}
+use Rattle.checks.specs.Runs.{Run, clipInput, asked, verdict}
+use Rattle.checks.specs.Accepted.{Good, accepts}
 use Rattle.drawing_check.proofs.Drawing.{no-meeting, balanced-at, drawing-passed}
 use Rattle.checks.proofs.Runs.{asked-few, passed, passes}
 
@@ -82,17 +82,15 @@ verdict-good r e = let both = accepted-then (asked r) _ e in drawing-good (segme
 
 -- an accepted drawing: what a run was lent does not count
 module _ (numbers : List ℤ) (rule invert boundary : ℤ) (e : accepts numbers rule invert boundary ≡ true) where
-  pub accepted-input : verdict (inputOf (clipRun numbers rule invert boundary 0 0)) ≡ Accepted
+  pub accepted-input : verdict (clipInput numbers rule invert boundary) ≡ Accepted
   unfolding accepts
   accepted-input = is-accepted _ e
 
   pub accepted-good : Good (segments numbers)
-  unfolding clipRun
   accepted-good = verdict-good _ accepted-input
 
   -- any run on it is accepted, if its choices are known and its lists long enough
   pub accepted-run : (choices : List Choice) (lists : List Lent) → any unknownChoice choices ≡ false → any (tooShort (count numbers)) lists ≡ false → verdict (record { numbers = numbers; choices = choices; lists = lists }) ≡ Accepted
-  unfolding clipRun
   accepted-run choices lists known long =
       let p = passed _ accepted-input in
       passes _ (record { asks = record { right-length = p .asks .right-length; known = known; long = long }; drawing = p .drawing })

@@ -1,6 +1,6 @@
 -- What the laws of the checks speak of: each refusal by itself, and what an accepted drawing has.
 use mathlib.Core.Path.{_≡_}
-use mathlib.Core.List.{List, []}
+use mathlib.Core.List.{List}
 use mathlib.Core.Bool.{Bool, true, false}
 use Prim.Native.Nat.{ℕ, suc, _<_}
 use lib.ListN.{length}
@@ -15,7 +15,7 @@ use Rattle.faults.specs.Faults.{endsInRange, rises, windingInRange, bitsInRange
 use Rattle.faults.specs.Faultless.{Faultless}
 use Rattle.meetings.specs.Meetings.{meetsWrongly, NoneMeetWrongly}
 use Rattle.balance.specs.Balance.{balance, balances}
-use Rattle.checks.specs.Runs.{Run, clipRun, verdict}
+use Rattle.checks.specs.Runs.{Run, clipInput, verdict}
 
 -- ---- the list of refusals: `Fits r number place`, each with nothing said of the others
 module _ (r : Run) where
@@ -39,13 +39,9 @@ module _ (r : Run) where
     too-short : (l : Lent) → l ∈ r .lists → tooShort (count (r .numbers)) l ≡ true → Fits 11 0
 
 -- ---- accepted
--- the input of a run alone: refusal 11 is from the state
-abbrev pub inputOf : Run → Run
-inputOf r = record { numbers = r .numbers; choices = r .choices; lists = [] }
-
--- a drawing with its choices is accepted when no refusal from the input fits a clip run on it
+-- a drawing with its choices is accepted when no refusal from the input fits a clip run on it: refusal 11 is from the state
 unfoldable pub accepts : List ℤ → ℤ → ℤ → ℤ → Bool
-accepts numbers rule invert boundary = isAccepted (verdict (inputOf (clipRun numbers rule invert boundary 0 0)))
+accepts numbers rule invert boundary = isAccepted (verdict (clipInput numbers rule invert boundary))
 
 -- what an accepted drawing has: what 2 to 7 and 13 leave, no two segments meet wrongly (8), and every point is balanced (9)
 pub record Good (d : Drawing) : Type 0 where

@@ -24,6 +24,10 @@ ruleChoice = upTo (pos 3)
 abbrev pub flagChoice : ℤ → Choice
 flagChoice = upTo (pos 1)
 
+-- rule, invert, boundary
+abbrev pub clipChoices : ℤ → ℤ → ℤ → List Choice
+clipChoices rule invert boundary = ruleChoice rule ∷ flagChoice invert ∷ flagChoice boundary ∷ []
+
 -- fills: n entries
 unfoldable pub fillsRun : List ℤ → ℤ → ℕ → Run
 fillsRun numbers rule fills = record { numbers = numbers; choices = ruleChoice rule ∷ []; lists = lent fills 1 ∷ [] }
@@ -31,7 +35,11 @@ fillsRun numbers rule fills = record { numbers = numbers; choices = ruleChoice r
 -- clip: 8n numbers and 2n lengths
 unfoldable pub clipRun : List ℤ → ℤ → ℤ → ℤ → ℕ → ℕ → Run
 clipRun numbers rule invert boundary points lengths =
-    record { numbers = numbers; choices = ruleChoice rule ∷ flagChoice invert ∷ flagChoice boundary ∷ []; lists = lent points 8 ∷ lent lengths 2 ∷ [] }
+    record { numbers = numbers; choices = clipChoices rule invert boundary; lists = lent points 8 ∷ lent lengths 2 ∷ [] }
+
+-- the input of a clip run alone, with no lent list
+abbrev pub clipInput : List ℤ → ℤ → ℤ → ℤ → Run
+clipInput numbers rule invert boundary = record { numbers = numbers; choices = clipChoices rule invert boundary; lists = [] }
 
 -- slice: 4n numbers, 2n lengths, 2n roles
 unfoldable pub sliceRun : List ℤ → ℤ → ℤ → ℕ → ℕ → ℕ → Run

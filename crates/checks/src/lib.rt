@@ -5,16 +5,25 @@ ghost use Prim.Native.Nat.{_≤_};
 ghost use lib.ListN.{length};
 ghost use Rattle.refusal.specs.declared.Verdict.the-variants.{Accepted};
 ghost use Rattle.refusal.specs.Order.{_then_};
-ghost use Rattle.refusal.specs.Asked.{wrongLength};
+ghost use Rattle.lists.specs.Members.{any};
+ghost use Rattle.refusal.specs.Asked.{wrongLength, unknownChoice};
 ghost use Rattle.segm.specs.Segments.{width, segments};
 ghost use Rattle.drawing_check.specs.Drawing.{drawingVerdict};
-ghost use Rattle.checks.specs.Runs.{fillsRun, clipRun, sliceRun, asked, verdict};
+ghost use Rattle.checks.specs.Runs.{clipChoices, fillsRun, clipRun, clipInput, sliceRun, asked, verdict};
 
 // Whether numbers are no whole segments, or too many.
 fn is_wrong(numbers: usize) -> bool
     ensures { λ r. ⌜ r ≡ wrongLength width 1024 numbers ⌝ }
 {
     refusal::is_wrong_length(numbers, segm::WIDTH, segm::MOST)
+}
+
+// Whether one of a clip run's choices is unknown.
+fn is_unknown_clip(rule: i32, invert: i32, boundary: i32) -> bool
+    ensures { λ r. ⌜ r ≡ any unknownChoice (clipChoices rule invert boundary) ⌝ }
+{
+    refusal::is_unknown(rule, 3)
+        | (refusal::is_unknown(invert, 1) | refusal::is_unknown(boundary, 1))
 }
 
 // What a fills run asks first.
@@ -43,8 +52,7 @@ pub fn ask_clip(
     let n = segm::count(numbers);
     refusal::asked_first(
         is_wrong(numbers.len()),
-        refusal::is_unknown(rule, 3)
-            | (refusal::is_unknown(invert, 1) | refusal::is_unknown(boundary, 1)),
+        is_unknown_clip(rule, invert, boundary),
         refusal::is_short(points, 8, n) | refusal::is_short(lengths, 2, n),
     )
 }
@@ -141,4 +149,16 @@ pub fn check_slice(
         ask_slice(numbers, rule, direction, points, lengths, roles),
         numbers,
     )
+}
+
+// The verdict on what a clip run is given, before it is lent anything.
+pub fn check_input(numbers: &[i32], rule: i32, invert: i32, boundary: i32) -> Verdict
+    ensures { λ r. ⌜ r ≡ verdict (clipInput (now (numbers .entry)) rule invert boundary) ⌝ }
+{
+    let before = refusal::asked_first(
+        is_wrong(numbers.len()),
+        is_unknown_clip(rule, invert, boundary),
+        false,
+    );
+    check_alone(before, numbers)
 }

@@ -14,9 +14,9 @@ use Rattle.string_clip.specs.declared.Clipped.the-variants.{Done, Refused}
 use Rattle.string_clip.specs.Run.{Outcome, output}
 use Rattle.decimal.specs.Decimal.{decimal, signed}
 use Rattle.writing.specs.Lengths.{lineLength}
-use Rattle.writing.proofs.Lengths.{length-decimal, length-signed, length-line, at-most-20, at-most-21}
-use Rattle.clip_print.specs.Printed.{pointLine, pathLines, pathsLines, totalWord, totalLine, refusedWord, refusedLine, linesOf, printed}
-use Rattle.clip_print.specs.Lengths.{pointLength, pathLength, pathsLength, totalLength, refusedLength, linesLength, printedLength, longest}
+use Rattle.writing.proofs.Lengths.{length-decimal, length-signed, length-line, length-refused, at-most-20, at-most-21, refused-short}
+use Rattle.clip_print.specs.Printed.{pointLine, pathLines, pathsLines, totalWord, totalLine, linesOf, printed}
+use Rattle.clip_print.specs.Lengths.{pointLength, pathLength, pathsLength, totalLength, linesLength, printedLength, longest}
 
 -- ---- the lengths of the lines
 length-point : (path point : ℕ) (p : Point) → length (pointLine path point p) ≡ pointLength path point p
@@ -36,10 +36,6 @@ length-paths path (l ∷ paths) = omega (arith, length-append (pathLines path 0 
 length-total : (t : Totals) → length (totalLine t) ≡ totalLength t
 unfolding totalLine totalLength
 length-total t = length-line (totalWord ∷ decimal (t .paths) ∷ decimal (t .points) ∷ decimal (t .steps) ∷ decimal (t .travel) ∷ []) ∙ rw (length-decimal (t .paths), length-decimal (t .points), length-decimal (t .steps), length-decimal (t .travel))
-
-length-refused : (number place : ℕ) → length (refusedLine number place) ≡ refusedLength number place
-unfolding refusedLine refusedLength
-length-refused number place = length-line (refusedWord ∷ decimal number ∷ decimal place ∷ []) ∙ rw (length-decimal number, length-decimal place)
 
 length-lines : (r : Clipped) (paths : List (List Point)) → length (linesOf r paths) ≡ linesLength r paths
 length-lines (Done t) paths = omega (arith, length-append (pathsLines 0 paths) (totalLine t), length-paths 0 paths, length-total t)
@@ -70,10 +66,6 @@ paths-short path (suc n) (k ∷ lengths) points =
 total-short : (t : Totals) → totalLength t ≤ 90
 unfolding totalLength lineLength tally
 total-short t = omega (arith, at-most-20 (t .paths), at-most-20 (t .points), at-most-20 (t .steps), at-most-20 (t .travel))
-
-refused-short : (number place : ℕ) → refusedLength number place ≤ 50
-unfolding refusedLength lineLength tally
-refused-short number place = omega (arith, at-most-20 number, at-most-20 place)
 
 pub printed-short : (o : Outcome) → printedLength o ≤ longest (length (o .lists .points))
 unfolding printedLength output

@@ -6,7 +6,7 @@ use Rattle.clip_paths.specs.declared.Totals.{Totals}
 use Rattle.string_clip.specs.declared.Clipped.{Clipped}
 use Rattle.string_clip.specs.declared.Clipped.the-variants.{Done, Refused}
 use Rattle.string_clip.specs.Run.{Outcome, output}
-use Rattle.writing.specs.Lengths.{digitsIn, signedLength, lineLength}
+use Rattle.writing.specs.Lengths.{digitsIn, signedLength, lineLength, refusedLength}
 
 -- path, point, x, y
 unfoldable pub pointLength : (path point : ℕ) → Point → ℕ
@@ -25,10 +25,6 @@ pathsLength path (l ∷ paths) = pathLength path 0 l + pathsLength (suc path) pa
 -- the word `total`, then paths, points, steps, travel
 unfoldable pub totalLength : Totals → ℕ
 totalLength t = lineLength (5 ∷ digitsIn (t .paths) ∷ digitsIn (t .points) ∷ digitsIn (t .steps) ∷ digitsIn (t .travel) ∷ [])
-
--- the word `refused`, then number and place
-unfoldable pub refusedLength : (number place : ℕ) → ℕ
-refusedLength number place = lineLength (7 ∷ digitsIn number ∷ digitsIn place ∷ [])
 
 -- all lines of an answer
 abbrev pub linesLength : Clipped → List (List Point) → ℕ

@@ -10,7 +10,7 @@ use Rattle.string_clip.specs.declared.Clipped.{Clipped}
 use Rattle.string_clip.specs.declared.Clipped.the-variants.{Done, Refused}
 use Rattle.string_clip.specs.Run.{Outcome, output}
 use Rattle.decimal.specs.Decimal.{decimal, signed}
-use Rattle.writing.specs.Lines.{lineOf}
+use Rattle.writing.specs.Lines.{lineOf, refusedLine}
 
 -- path, point, x, y
 unfoldable pub pointLine : (path point : ℕ) → Point → List ℕ
@@ -33,14 +33,6 @@ totalWord = 116 ∷ 111 ∷ 116 ∷ 97 ∷ 108 ∷ []
 -- last the total: paths, points, steps, travel
 unfoldable pub totalLine : Totals → List ℕ
 totalLine t = lineOf (totalWord ∷ decimal (t .paths) ∷ decimal (t .points) ∷ decimal (t .steps) ∷ decimal (t .travel) ∷ [])
-
--- the word `refused`
-abbrev pub refusedWord : List ℕ
-refusedWord = 114 ∷ 101 ∷ 102 ∷ 117 ∷ 115 ∷ 101 ∷ 100 ∷ []
-
--- a refusal: its number and place
-unfoldable pub refusedLine : (number place : ℕ) → List ℕ
-refusedLine number place = lineOf (refusedWord ∷ decimal number ∷ decimal place ∷ [])
 
 -- all lines of an answer: the points, then the total; or the refusal
 abbrev pub linesOf : Clipped → List (List Point) → List ℕ

@@ -11,7 +11,7 @@ ghost use Rattle.lists.specs.Sums.{tally};
 ghost use Rattle.string_clip.specs.declared.Clipped.the-variants.{Done};
 ghost use Rattle.contour.specs.Points.{pairUp, cut};
 ghost use Rattle.writing.specs.Puts.{Put};
-ghost use Rattle.clip_print.specs.Printed.{Held, pointLine, pathLines, pathsLines, totalLine, refusedLine, linesOf};
+ghost use Rattle.clip_print.specs.Printed.{Held, pointLine, pathLines, pathsLines, totalLine, linesOf};
 
 // A point's line.
 fn put_point(path: usize, point: usize, x: i32, y: i32, out: &mut [u8], at: usize) -> usize
@@ -80,15 +80,4 @@ pub fn put_run(t: Totals, points: &[i32], lengths: &[u32], out: &mut [u8]) -> us
     let n = t.paths;
     let next = put_paths(points, &lengths[..n], out);
     put_total(t, out, next)
-}
-
-// The one line of a refused run.
-pub fn put_refused(number: u32, place: usize, out: &mut [u8]) -> usize
-    requires { ⌜ length (refusedLine number place) ≤ length (now out) ⌝ }
-    ensures { λ r. ⌜ Put (now (out .entry)) 0 (refusedLine number place) r (now (out .exit)) ⌝ }
-{
-    let a = put_bytes(b"refused", out, 0);
-    let b = put_next(number as u64, out, a);
-    let c = put_next(place as u64, out, b);
-    put_byte(b'\n', out, c)
 }

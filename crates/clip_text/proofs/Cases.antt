@@ -30,9 +30,10 @@ use Rattle.contour.specs.Points.{coordinates, pairUp, cut}
 use Rattle.string_clip.specs.Run.{clipOutcome, output}
 use Rattle.decimal.specs.Decimal.{isDigit, worth, positive, fieldOf, digits, decimal, signed}
 use Rattle.text.specs.Grammar.{pieces, row, fieldsIn, rowsFrom, choicesOf, parsed}
-use Rattle.writing.specs.Lines.{joined, lineOf}
+use Rattle.text_forms.specs.Reading.{parsedIn}
+use Rattle.writing.specs.Lines.{joined, lineOf, refusedLine}
 use Rattle.decimal.proofs.Spelled.{bytes}
-use Rattle.clip_print.specs.Printed.{pointLine, pathLines, pathsLines, totalLine, refusedLine, printed}
+use Rattle.clip_print.specs.Printed.{pointLine, pathLines, pathsLines, totalLine, printed}
 use Rattle.clip_text.specs.Answer.{textOutcome, answerTo}
 
 -- this text has this answer
@@ -56,5 +57,5 @@ pub record Cases : Type 0 where
   pub meeting : Prints "1,0,1\n0,0,2,0,0,1,0\n1,0,1,1,0,1,0\n" "refused,8,0\n"
 
 pub cases : Cases
-unfolding clipRun verdict asked askedFirst drawingVerdict faultsOf meetingsOf unbalancedOf wrongLength unknownChoice tooShort first firstFrom faultAt meetingAt unbalancedAt fault endsInRange rises windingInRange bitsInRange lotInRange balance balances meetsWrongly parts inInterior sameEnds side total any sum tally keep written upFrom front segmentsOf count whole segments segmentAt eqZ within ltP eqP coordinate inRange cross between spans above clockwise met bottom top filled ruleOf fillOf fill sidesSet keepsSides keeps filterOf keptLinks node has clear asDrawn remains taken takenAll bitsRemaining firstRemaining bothMoves begins way over other fitting goesOn follow pathFrom pathsFrom walk through finished pathPoints clipPaths stepsFrom stepsOfPath stepsOf travelOf travel totals coordinates flatten clipOutcome isDigit worth positive fieldOf digits decimal signed pieces row fieldsIn rowsFrom choicesOf parsed joined lineOf pointLine pathLines pathsLines totalLine refusedLine printed pairUp cut output textOutcome answerTo
+unfolding clipRun verdict asked askedFirst drawingVerdict faultsOf meetingsOf unbalancedOf wrongLength unknownChoice tooShort first firstFrom faultAt meetingAt unbalancedAt fault endsInRange rises windingInRange bitsInRange lotInRange balance balances meetsWrongly parts inInterior sameEnds side total any sum tally keep written upFrom front segmentsOf count whole segments segmentAt eqZ within ltP eqP coordinate inRange cross between spans above clockwise met bottom top filled ruleOf fillOf fill sidesSet keepsSides keeps filterOf keptLinks node has clear asDrawn remains taken takenAll bitsRemaining firstRemaining bothMoves begins way over other fitting goesOn follow pathFrom pathsFrom walk through finished pathPoints clipPaths stepsFrom stepsOfPath stepsOf travelOf travel totals coordinates flatten clipOutcome isDigit worth positive fieldOf digits decimal signed pieces row fieldsIn rowsFrom choicesOf parsed parsedIn joined lineOf pointLine pathLines pathsLines totalLine refusedLine printed pairUp cut output textOutcome answerTo
 cases = record { inside-A = refl; outside-A = refl; no-segments = refl; malformed = refl; text-first = refl; choice-next = refl; drawing-last = refl; lot-out = refl; lot-taken = refl; meeting = refl }

@@ -7,7 +7,7 @@ use lib.ListN.{length, length-map}
 use lib.IntN.{ℤ}
 use Rattle.geom.specs.declared.Point.{Point}
 use Rattle.lists.specs.Sums.{tally}
-use Rattle.segm.specs.Segments.{width, segments}
+use Rattle.segm.specs.Segments.{segments}
 use Rattle.lists.proofs.Written.{length-written, take-written}
 use Rattle.refusal.specs.declared.Verdict.{Verdict}
 use Rattle.refusal.specs.declared.Verdict.the-variants as verdict-is
@@ -22,7 +22,9 @@ use Rattle.contour.specs.Points.{coordinates}
 use Rattle.contour.proofs.Points.Coordinates.{length-coordinates}
 use Rattle.string_clip.proofs.Run.Accepted.{accepted-outcome, accepted-room}
 use Rattle.clip_claim.proofs.Claim.Together.{accepted-tells}
-use Rattle.text.specs.Grammar.{Parsed, BadLine, Drawn, parsed}
+use Rattle.text.specs.Grammar.{Parsed, BadLine, Drawn}
+use Rattle.text_forms.specs.declared.Form.the-variants.{New}
+use Rattle.text_forms.specs.Reading.{parsedIn}
 use Rattle.clip_print.specs.Printed.{Held}
 use Rattle.contour.proofs.Points.CutWritten.{tally-lengths}
 use Rattle.clip_text.specs.Answer.{runOn, textOutcome}
@@ -67,7 +69,7 @@ module _ (ls : Lists) where
 
   pub text-held : (text : List ℕ) → HeldOf (textOutcome text ls)
   unfolding textOutcome
-  text-held text = by (parsed width text) where
+  text-held text = by (parsedIn New text) where
     by : (p : Parsed) → HeldOf (runOn p ls)
     by (BadLine line) = nothing-held
     by (Drawn c numbers) = run-held numbers (c .rule) (c .invert) (c .boundary)

@@ -4,6 +4,7 @@ mod program;
 pub use program::run;
 use string_clip::Clipped;
 use text::Reading;
+use text_forms::Form;
 ghost use mathlib.Core.Path.{_≡_};
 ghost use Prim.Native.Nat.{_*_, _≤_};
 ghost use lib.ListN.{length};
@@ -23,12 +24,12 @@ const LENGTHS: usize = 2 * segm::MOST;
 // The longest answer: 86 bytes for each of 4,096 points, 90 for the last line.
 pub const LONGEST: usize = 43 * POINTS + 90;
 
-// The clip run on a text. The list `numbers` is working memory, long enough for the largest drawing: a text with more numbers has too many segments.
+// The clip run on a text. The list `numbers` is working memory.
 fn clip_read(text: &[u8], numbers: &mut [i32], points: &mut [i32], lengths: &mut [u32]) -> Clipped
-    requires { ⌜ 1024 * width ≤ length (now numbers) ⌝ }
+    requires { ⌜ length (now numbers) ≡ 1024 * width ⌝ }
     ensures { λ r. ⌜ outcome r (lists (now (points .exit)) (now (lengths .exit))) ≡ textOutcome (now (text .entry)) (lists (now (points .entry)) (now (lengths .entry))) ⌝ }
 {
-    match text::read(text, segm::WIDTH, numbers) {
+    match text_forms::read_form(text, Form::New, numbers) {
         Reading::Read(c, count) => string_clip::clip(
             &numbers[..count],
             c.rule,
@@ -37,12 +38,7 @@ fn clip_read(text: &[u8], numbers: &mut [i32], points: &mut [i32], lengths: &mut
             points,
             lengths,
         ),
-        Reading::Refused(number, place) => {
-            if number == 11 {
-                return Clipped::Refused(2, 0);
-            }
-            Clipped::Refused(number, place)
-        }
+        Reading::Refused(number, place) => Clipped::Refused(number, place),
     }
 }
 
@@ -63,7 +59,7 @@ fn answer_with(text: &[u8], points: &mut [i32], lengths: &mut [u32], out: &mut [
 {
     match clip_text(text, points, lengths) {
         Clipped::Done(t) => clip_print::put_run(t, points, lengths, out),
-        Clipped::Refused(number, place) => clip_print::put_refused(number, place, out),
+        Clipped::Refused(number, place) => writing::put_refused(number, place, out),
     }
 }
 

@@ -8,12 +8,15 @@ use Rattle.string_slice.specs.Run as slice
 use Rattle.string_split.specs.Run as split
 use Rattle.segm.specs.Segments.{width}
 use Rattle.text.specs.Storing as reading
+use Rattle.text_forms.specs.declared.Form.{Form}
+use Rattle.stored_text.specs.Outcome as writer
 use Rattle.c_structs.specs.declared.Fills.{Fills}
 use Rattle.c_structs.specs.declared.Clip.{Clip}
 use Rattle.c_structs.specs.declared.Slice.{Slice}
 use Rattle.c_structs.specs.declared.Split.{Split}
 use Rattle.c_structs.specs.declared.Read.{Read}
-use Rattle.c_structs.specs.Structs.{fillsStruct, clipStruct, sliceStruct, splitStruct, readStruct}
+use Rattle.c_structs.specs.declared.Write.{Write}
+use Rattle.c_structs.specs.Structs.{fillsStruct, clipStruct, sliceStruct, splitStruct, readStruct, writeStruct}
 
 -- ---- fills
 -- what a call of `overlay_fills` returns, and the lent list then
@@ -91,3 +94,23 @@ returnedRead answer list = record { answer = answer; list = list }
 -- what `overlay_read` promises
 unfoldable pub readNumbers : List ℕ → List ℤ → ReturnedRead
 readNumbers text lent = let o = reading.readOutcome width text lent in returnedRead (readStruct (o .numbers)) (o .list)
+
+-- ---- write, move
+-- what a call of these returns, and the lent list then
+pub record ReturnedWrite : Type 0 where
+  pub answer : Write
+  pub list : List ℕ
+
+abbrev pub returnedWrite : Write → List ℕ → ReturnedWrite
+returnedWrite answer list = record { answer = answer; list = list }
+
+abbrev pub writeReturned : writer.Outcome → ReturnedWrite
+writeReturned o = returnedWrite (writeStruct (o .numbers)) (o .list)
+
+-- what `overlay_write` promises
+unfoldable pub writeNumbers : List ℤ → (rule invert boundary : ℤ) → List ℕ → ReturnedWrite
+writeNumbers numbers rule invert boundary lent = writeReturned (writer.writeOutcome numbers (record { rule = rule; invert = invert; boundary = boundary }) lent)
+
+-- what `overlay_old_to_new` (Old, New) and `overlay_new_to_old` (New, Old) promise
+unfoldable pub moveNumbers : (from to : Form) → List ℕ → List ℕ → ReturnedWrite
+moveNumbers from to text lent = writeReturned (writer.moveOutcome from to text lent)

@@ -4,8 +4,11 @@ use c_structs::Fills;
 use c_structs::Read;
 use c_structs::Slice;
 use c_structs::Split;
+use c_structs::Write;
+use text_forms::Form;
 ghost use mathlib.Core.Path.{_≡_};
-ghost use Rattle.overlay.specs.Numbers.{fillsNumbers, returned, clipLists, clipNumbers, returnedClip, sliceLists, sliceNumbers, returnedSlice, splitLists, splitNumbers, returnedSplit, readNumbers, returnedRead};
+ghost use Rattle.text_forms.specs.declared.Form.the-variants.{Old, New};
+ghost use Rattle.overlay.specs.Numbers.{fillsNumbers, returned, clipLists, clipNumbers, returnedClip, sliceLists, sliceNumbers, returnedSlice, splitLists, splitNumbers, returnedSplit, readNumbers, returnedRead, writeNumbers, moveNumbers, returnedWrite};
 
 // The fills of a drawing, one entry a segment.
 #[no_mangle]
@@ -70,4 +73,37 @@ pub extern "C" fn overlay_read(text: &[u8], numbers: &mut [i32]) -> Read
 {
     let answer = text::read(text, segm::WIDTH, numbers);
     c_structs::read_of(answer)
+}
+
+// The text of a drawing and its choices.
+#[no_mangle]
+pub extern "C" fn overlay_write(
+    numbers: &[i32],
+    rule: i32,
+    invert: i32,
+    boundary: i32,
+    text: &mut [u8],
+) -> Write
+    ensures { λ r. ⌜ returnedWrite r (now (text .exit)) ≡ writeNumbers (now (numbers .entry)) rule invert boundary (now (text .entry)) ⌝ }
+{
+    let answer = stored_text::write(numbers, rule, invert, boundary, text);
+    c_structs::write_of(answer)
+}
+
+// A text without lots moved to the form with them: every lot is 0.
+#[no_mangle]
+pub extern "C" fn overlay_old_to_new(text: &[u8], moved: &mut [u8]) -> Write
+    ensures { λ r. ⌜ returnedWrite r (now (moved .exit)) ≡ moveNumbers Old New (now (text .entry)) (now (moved .entry)) ⌝ }
+{
+    let answer = stored_text::move_text(text, Form::Old, Form::New, moved);
+    c_structs::write_of(answer)
+}
+
+// And back.
+#[no_mangle]
+pub extern "C" fn overlay_new_to_old(text: &[u8], moved: &mut [u8]) -> Write
+    ensures { λ r. ⌜ returnedWrite r (now (moved .exit)) ≡ moveNumbers New Old (now (text .entry)) (now (moved .entry)) ⌝ }
+{
+    let answer = stored_text::move_text(text, Form::New, Form::Old, moved);
+    c_structs::write_of(answer)
 }

@@ -1,30 +1,25 @@
--- The comma text: what is written is read back, and one text alone holds given choices and numbers.
+-- The comma text: the rows that are written are read back, and what was read is what is written of its rows.
 use mathlib.Core.Path.{_≡_, refl, sym, _∙_, ap, ap₂, subst}
 use mathlib.Core.Bool.{Bool, true, false, cond}
 use mathlib.Core.List.{List, [], _∷_, _++_, map, flatten}
-use mathlib.Core.Logic.{inl, inr}
+use mathlib.Core.Logic.{_⊎_, inl, inr}
 use mathlib.Core.Option.{Option, none, some}
-use Prim.Native.Nat.{ℕ, zero, suc, _+_, _*_, _%_, _<_, _≤_}
+use Prim.Native.Nat.{ℕ, zero, suc, _<_, _≤_}
 use native.Mathlib.Omega.{arith}
-use borrow.Author.Tests.{eq-eqb, le-ltb}
+use borrow.Author.Tests.{le-ltb, ltb-false}
 use lib.Dec.{eqb, ltb}
-use lib.ListN.{length, getD, length-map}
-use lib.IntN.{ℤ, pos}
+use lib.ListN.{length, length-map}
+use lib.IntN.{ℤ}
 use Rattle.lists.specs.Members.{_∈_}
-use Rattle.segm.specs.Segments.{Drawing, width, front, segments, whole, numbersOf, laid}
-use Rattle.lists.proofs.Sums.{tally-bound}
-use Rattle.segm.proofs.Segments.Laid.{length-laid, segments-laid}
 use Rattle.text.specs.declared.Choices.{Choices}
 use Rattle.decimal.specs.declared.Field.{Field}
 use Rattle.decimal.specs.declared.Field.the-variants.{Number, Malformed}
 use Rattle.decimal.specs.Decimal.{NineDigits, fieldOf, signed}
 use Rattle.text.specs.Grammar.{pieces, andRest, row, fieldsIn, RowsFound, Bad, Rows, andLines, rowsFrom, BadLine, Drawn, choicesOf, parsedRows, mostBytes, parsed}
 use Rattle.writing.specs.Lines.{joined, textOf}
-use Rattle.writing.specs.Lengths.{rowLength, textLength}
-use Rattle.text.specs.Writing.{choiceNumbers, writing, AllNineDigits}
-use Rattle.decimal.proofs.Decimal.{field-signed, signed-field}
+use Rattle.text.specs.Writing.{choiceNumbers, AllNineDigits}
+use Rattle.decimal.proofs.Decimal.{Written, field-signed, signed-field}
 use Rattle.writing.proofs.Lines.{field-bytes, line-bytes, text-cons}
-use Rattle.writing.proofs.Lengths.{length-text}
 use Rattle.text.proofs.Grammar.Pieces.{pieces-few, joined-pieces, pieces-cut, pieces-joined}
 use Rattle.text.proofs.Storing.StoredRows.{differ, row-length, lines-next, fields-later}
 
@@ -35,23 +30,34 @@ row-written [] h = refl
 row-written (z ∷ r) h = ap₂ andRest (field-signed z (h z (inl refl))) (row-written r (λ y m. h y (inr m)))
 
 -- what a line was read from
-row-read : (k : ℕ) (fs : List (List ℕ)) (r : List ℤ) → row k fs ≡ some r → fs ≡ map signed r
+record Line (fs : List (List ℕ)) (r : List ℤ) : Type 0 where
+  is : fs ≡ map signed r
+  small : (z : ℤ) → z ∈ r → NineDigits z
+
+line-cons : {f : List ℕ} {fs : List (List ℕ)} {z : ℤ} {q r : List ℤ} → Written f z → Line fs q → r ≡ z ∷ q → Line (f ∷ fs) r
+line-cons {f} {fs} {z} {q} w l e = subst (λ (s : List ℤ). Line (f ∷ fs) s) (sym e) (record { is = ap₂ _∷_ (w .is) (l .is); small = small })
+  where
+    small : (y : ℤ) → (y ≡ z) ⊎ (y ∈ q) → NineDigits y
+    small y (inl i) = rw i (w .small)
+    small y (inr m) = l .small y m
+
+row-read : (k : ℕ) (fs : List (List ℕ)) (r : List ℤ) → row k fs ≡ some r → Line fs r
 unfolding row
-row-read zero [] r e = let none-left : r ≡ [] = cc in rw none-left
+row-read zero [] r e = let none-left : r ≡ [] = cc in rw none-left (record { is = refl; small = λ z m. absurd m })
 row-read zero (f ∷ fs) r e = absurd (differ (cc))
 row-read (suc k) [] r e = absurd (differ (cc))
 row-read (suc k) (f ∷ fs) r e = go (fieldOf f) (row k fs) refl e (row-read k fs)
   where
-    go : (a : Field) (o : Option (List ℤ)) → fieldOf f ≡ a → andRest a o ≡ some r → ((q : List ℤ) → o ≡ some q → fs ≡ map signed q) → f ∷ fs ≡ map signed r
+    go : (a : Field) (o : Option (List ℤ)) → fieldOf f ≡ a → andRest a o ≡ some r → ((q : List ℤ) → o ≡ some q → Line fs q) → Line (f ∷ fs) r
     go Malformed o p t rest = absurd (differ (cc))
     go (Number z) none p t rest = absurd (differ (cc))
-    go (Number z) (some q) p t rest = let is : r ≡ z ∷ q = cc in rw is (ap₂ _∷_ (signed-field f z p .is) (rest q refl))
+    go (Number z) (some q) p t rest = line-cons (signed-field f z p) (rest q refl) (cc)
 
 -- a line of k numbers has at least k - 1 bytes
 pub row-narrow : (k : ℕ) (s : List ℕ) (r : List ℤ) → row k (pieces 44 s) ≡ some r → k ≤ suc (length s)
 row-narrow k s r e =
     let fs = pieces 44 s in
-    omega (arith, row-length k fs r e, ap length (row-read k fs r e), length-map r signed, pieces-few 44 s)
+    omega (arith, row-length k fs r e, ap length (row-read k fs r e .is), length-map r signed, pieces-few 44 s)
 
 -- the fields of a written line
 fields-line : (r : List ℤ) → 0 < length r → pieces 44 (joined 44 (map signed r)) ≡ map signed r
@@ -89,125 +95,103 @@ rows-of-text w line (r ∷ rows) h f n =
 pub record Lines (w line : ℕ) (text : List ℕ) (rows : List (List ℤ)) : Type 0 where
   pub is : text ≡ textOf rows
   pub fitting : Fitting w line rows
+  pub small : AllNineDigits rows
 
-lines-of : {w line : ℕ} {text : List ℕ} {q rows : List (List ℤ)} → text ≡ textOf q → Fitting w line q → Rows q ≡ Rows rows → Lines w line text rows
-lines-of {w} {line} {text} {q} {rows} i f e =
-    let same : q ≡ rows = cc in
-    subst (λ (l : List (List ℤ)). Lines w line text l) same (record { is = i; fitting = f })
+lines-of : {w line : ℕ} {text : List ℕ} {q rows : List (List ℤ)} → Lines w line text q → Rows q ≡ Rows rows → Lines w line text rows
+lines-of {w} {line} {text} {q} {rows} l e = let same : q ≡ rows = cc in subst (λ (s : List (List ℤ)). Lines w line text s) same l
+
+no-lines : (w line : ℕ) → Lines w line [] []
+unfolding textOf flatten
+no-lines w line = record { is = refl; fitting = tt; small = λ r m. absurd m }
+
+-- one more before them
+lines-cons : (w line : ℕ) (s : List ℕ) {text : List ℕ} {r : List ℤ} {q : List (List ℤ)} → row (fieldsIn w line) (pieces 44 s) ≡ some r → Lines w (suc line) text q → Lines w line (s ++ 10 ∷ text) (r ∷ q)
+lines-cons w line s {text} {r} {q} p below = record { is = ap₂ (λ (x y : List ℕ). x ++ 10 ∷ y) here (below .is) ∙ sym (text-cons r q); fitting = (row-length (fieldsIn w line) (pieces 44 s) r p, below .fitting); small = small }
+  where
+    read : Line (pieces 44 s) r
+    read = row-read (fieldsIn w line) (pieces 44 s) r p
+
+    here : s ≡ joined 44 (map signed r)
+    here = sym (joined-pieces 44 s) ∙ ap (joined 44) (read .is)
+
+    small : (x : List ℤ) → (x ≡ r) ⊎ (x ∈ q) → (z : ℤ) → z ∈ x → NineDigits z
+    small x (inl e) z m = read .small z (subst (λ (l : List ℤ). z ∈ l) e m)
+    small x (inr i) z m = below .small x i z m
 
 lines-read : (w line : ℕ) (ps : List (List ℕ)) (rows : List (List ℤ)) → rowsFrom w line ps ≡ Rows rows → Lines w line (joined 10 ps) rows
 unfolding rowsFrom joined textOf flatten
 lines-read w line [] rows e = absurd (differ (cc))
-lines-read w line ([] ∷ []) rows e = lines-of {q = []} refl tt e
+lines-read w line ([] ∷ []) rows e = lines-of (no-lines w line) e
 lines-read w line ((b ∷ s) ∷ []) rows e = absurd (differ (cc))
-lines-read w line (s ∷ t ∷ ps) rows e = go (row k (pieces 44 s)) (rowsFrom w (suc line) (t ∷ ps)) refl e (lines-read w (suc line) (t ∷ ps))
+lines-read w line (s ∷ t ∷ ps) rows e = go (row (fieldsIn w line) (pieces 44 s)) (rowsFrom w (suc line) (t ∷ ps)) refl e (lines-read w (suc line) (t ∷ ps))
   where
-    k : ℕ
-    k = fieldsIn w line
-
-    go : (o : Option (List ℤ)) (f : RowsFound) → row k (pieces 44 s) ≡ o → andLines line o f ≡ Rows rows
+    go : (o : Option (List ℤ)) (f : RowsFound) → row (fieldsIn w line) (pieces 44 s) ≡ o → andLines line o f ≡ Rows rows
         → ((q : List (List ℤ)) → f ≡ Rows q → Lines w (suc line) (joined 10 (t ∷ ps)) q) → Lines w line (s ++ 10 ∷ joined 10 (t ∷ ps)) rows
     go none f p a rest = absurd (differ (cc))
     go (some r) (Bad n) p a rest = absurd (differ (cc))
-    go (some r) (Rows q) p a rest =
-        let below = rest q refl in
-        let here : s ≡ joined 44 (map signed r) = sym (joined-pieces 44 s) ∙ ap (joined 44) (row-read k (pieces 44 s) r p) in
-        lines-of {q = r ∷ q} (ap₂ (λ (x y : List ℕ). x ++ 10 ∷ y) here (below .is) ∙ sym (text-cons r q)) (row-length k (pieces 44 s) r p, below .fitting) a
+    go (some r) (Rows q) p a rest = lines-of (lines-cons w line s p (rest q refl)) a
 
 pub text-of-rows : (w line : ℕ) (text : List ℕ) (rows : List (List ℤ)) → rowsFrom w line (pieces 10 text) ≡ Rows rows → Lines w line text rows
 text-of-rows w line text rows e = subst (λ (s : List ℕ). Lines w line s rows) (joined-pieces 10 text) (lines-read w line (pieces 10 text) rows e)
 
--- ---- drawings, written and read
-flatten-laid : (d : Drawing) → flatten (map numbersOf d) ≡ laid d
-unfolding flatten laid
-flatten-laid [] = refl
-flatten-laid (s ∷ d) = ap (λ (l : List ℤ). numbersOf s ++ l) (flatten-laid d)
+-- ---- texts, written and read: w numbers in each row but the first
+abbrev pub Wide : ℕ → List (List ℤ) → Type 0
+Wide w rows = (r : List ℤ) → r ∈ rows → length r ≡ w
 
-fitting-segments : (n : ℕ) (d : Drawing) → Fitting width (suc (suc n)) (map numbersOf d)
-unfolding numbersOf
-fitting-segments n [] = tt
-fitting-segments n (s ∷ d) = (sym (fields-later width (suc (suc n)) (omega arith)), fitting-segments (suc n) d)
+wide-fitting : (w n : ℕ) (rows : List (List ℤ)) → Wide w rows → Fitting w (suc (suc n)) rows
+wide-fitting w n [] h = tt
+wide-fitting w n (r ∷ rows) h = (h r (inl refl) ∙ sym (fields-later w (suc (suc n)) (omega arith)), wide-fitting w (suc n) rows (λ q m. h q (inr m)))
 
-fitting-drawing : (c : Choices) (d : Drawing) → Fitting width 1 (choiceNumbers c ∷ map numbersOf d)
-unfolding choiceNumbers fieldsIn
-fitting-drawing c d = (refl, fitting-segments 0 d)
+fitting-wide : (w n : ℕ) (rows : List (List ℤ)) → Fitting w (suc (suc n)) rows → Wide w rows
+fitting-wide w n [] f r m = absurd m
+fitting-wide w n (q ∷ rows) f r (inl e) = ap length e ∙ f .0 ∙ fields-later w (suc (suc n)) (omega arith)
+fitting-wide w n (q ∷ rows) f r (inr m) = fitting-wide w (suc n) rows (f .1) r m
 
-pub reads-back : (c : Choices) (d : Drawing) → AllNineDigits (choiceNumbers c ∷ map numbersOf d) → length (writing c d) ≤ mostBytes → parsed width (writing c d) ≡ Drawn c (laid d)
-unfolding parsed writing choicesOf choiceNumbers
-reads-back c d n h =
-    rw (le-ltb mostBytes (length (writing c d)) h)
-    (ap parsedRows (rows-of-text width 1 (choiceNumbers c ∷ map numbersOf d) (omega arith) (fitting-drawing c d) n) ∙ ap (Drawn c) (flatten-laid d))
+-- the rows that a text holds after its choices
+pub record Holds (w : ℕ) (text : List ℕ) (c : Choices) (rows : List (List ℤ)) : Type 0 where
+  pub is : text ≡ textOf (choiceNumbers c ∷ rows)
+  pub wide : Wide w rows
+  pub small : AllNineDigits (choiceNumbers c ∷ rows)
+  pub few : length text ≤ mostBytes
 
--- ---- drawings, read and written
--- k entries
-entries : ℕ → (ℕ → ℤ) → List ℤ
-entries zero f = []
-entries (suc k) f = f 0 ∷ entries k (λ i. f (suc i))
+pub reads-back : {w : ℕ} {text : List ℕ} {c : Choices} {rows : List (List ℤ)} → 0 < w → Holds w text c rows → parsed w text ≡ Drawn c (flatten rows)
+unfolding parsed choicesOf choiceNumbers fieldsIn
+reads-back {w} {text} {c} {rows} h l =
+    rw (le-ltb mostBytes (length text) (l .few))
+    (ap (λ (s : List ℕ). parsedRows (rowsFrom w 1 (pieces 10 s))) (l .is) ∙ ap parsedRows (rows-of-text w 1 (choiceNumbers c ∷ rows) h (refl, wide-fitting w 0 rows (l .wide)) (l .small)))
 
-all-entries : (r : List ℤ) (k : ℕ) → length r ≡ k → entries k (λ i. getD r i (pos 0)) ≡ r
-unfolding entries
-all-entries [] zero e = refl
-all-entries [] (suc k) e = absurd (omega arith)
-all-entries (x ∷ r) zero e = absurd (omega arith)
-all-entries (x ∷ r) (suc k) e = ap (λ (l : List ℤ). x ∷ l) (all-entries r k (omega arith))
+-- three numbers are choices
+three : (r : List ℤ) → length r ≡ 3 → choiceNumbers (choicesOf r) ≡ r
+unfolding choiceNumbers choicesOf
+three [] e = absurd (omega arith)
+three (x ∷ []) e = absurd (omega arith)
+three (x ∷ y ∷ []) e = absurd (omega arith)
+three (x ∷ y ∷ z ∷ []) e = refl
+three (x ∷ y ∷ z ∷ a ∷ r) e = absurd (omega arith)
 
--- rows of a segment's numbers each are segments
-fitting-front : (n : ℕ) (rows : List (List ℤ)) → Fitting width (suc (suc n)) rows → map numbersOf (map front rows) ≡ rows
-unfolding numbersOf front entries
-fitting-front n [] f = refl
-fitting-front n (r ∷ rows) f = ap₂ _∷_ (all-entries r width (f .0 ∙ fields-later width (suc (suc n)) (omega arith))) (fitting-front (suc n) rows (f .1))
+-- a text that is read holds rows
+pub record Found (w : ℕ) (text : List ℕ) (c : Choices) (numbers : List ℤ) : Type 0 where
+  pub rows : List (List ℤ)
+  pub held : Holds w text c rows
+  pub flat : flatten rows ≡ numbers
 
-choices-fitting : (r : List ℤ) → length r ≡ 3 → choiceNumbers (choicesOf r) ≡ r
-unfolding choiceNumbers choicesOf entries
-choices-fitting r e = all-entries r 3 e
-
--- the drawing that a text holds
-pub record Holds (text : List ℕ) (c : Choices) (numbers : List ℤ) : Type 0 where
-  pub drawing : Drawing
-  pub is : text ≡ writing c drawing
-  pub laid-out : numbers ≡ laid drawing
-
-pub holds : (text : List ℕ) (c : Choices) (numbers : List ℤ) → parsed width text ≡ Drawn c numbers → Holds text c numbers
-unfolding parsed writing fieldsIn
-holds text c numbers e = go (ltb mostBytes (length text)) e
+pub found : (w : ℕ) (text : List ℕ) (c : Choices) (numbers : List ℤ) → parsed w text ≡ Drawn c numbers → Found w text c numbers
+unfolding parsed fieldsIn
+found w text c numbers e = go (ltb mostBytes (length text)) refl e
   where
-    from : (f : RowsFound) → rowsFrom width 1 (pieces 10 text) ≡ f → parsedRows f ≡ Drawn c numbers → Holds text c numbers
-    from (Bad n) p a = absurd (differ (cc))
-    from (Rows []) p a = absurd (differ (cc))
-    from (Rows (first ∷ rows)) p a =
-        let l = text-of-rows width 1 text (first ∷ rows) p in
-        let laid-rows : map numbersOf (map front rows) ≡ rows = fitting-front 0 rows (l .fitting .1) in
+    from : length text ≤ mostBytes → (f : RowsFound) → rowsFrom w 1 (pieces 10 text) ≡ f → parsedRows f ≡ Drawn c numbers → Found w text c numbers
+    from short (Bad n) p a = absurd (differ (cc))
+    from short (Rows []) p a = absurd (differ (cc))
+    from short (Rows (first ∷ rows)) p a =
+        let l = text-of-rows w 1 text (first ∷ rows) p in
         let same : choicesOf first ≡ c = cc in
-        let flat : flatten rows ≡ numbers = cc in
-        let three : choiceNumbers c ≡ first = ap choiceNumbers (sym same) ∙ choices-fitting first (l .fitting .0) in
+        let is : first ≡ choiceNumbers c = sym (three first (l .fitting .0)) ∙ ap choiceNumbers same in
         record {
-          drawing = map front rows;
-          is = l .is ∙ ap₂ (λ (r : List ℤ) (q : List (List ℤ)). textOf (r ∷ q)) (sym three) (sym laid-rows);
-          laid-out = sym flat ∙ ap flatten (sym laid-rows) ∙ flatten-laid (map front rows);
+          rows = rows;
+          held = record { is = l .is ∙ ap (λ (r : List ℤ). textOf (r ∷ rows)) is; wide = fitting-wide w 0 rows (l .fitting .1); small = subst (λ (r : List ℤ). AllNineDigits (r ∷ rows)) is (l .small); few = short };
+          flat = cc;
         }
 
-    go : (b : Bool) → cond b (BadLine 0) (parsedRows (rowsFrom width 1 (pieces 10 text))) ≡ Drawn c numbers → Holds text c numbers
-    go true a = absurd (differ (cc))
-    go false a = from (rowsFrom width 1 (pieces 10 text)) refl a
-
-module _ (text : List ℕ) (c : Choices) (numbers : List ℤ) (e : parsed width text ≡ Drawn c numbers) where
-  pub only-writing : text ≡ writing c (segments numbers)
-  only-writing = let h = holds text c numbers e in h .is ∙ ap (writing c) (sym (ap segments (h .laid-out) ∙ segments-laid (h .drawing)))
-
-  pub whole-numbers : whole numbers ≡ true
-  unfolding whole
-  whole-numbers = let h = holds text c numbers e in eq-eqb (length numbers % width) 0 (omega (arith, ap length (h .laid-out), length-laid (h .drawing)))
-
-pub one-text : (s t : List ℕ) (c : Choices) (numbers : List ℤ) → parsed width s ≡ Drawn c numbers → parsed width t ≡ Drawn c numbers → s ≡ t
-one-text s t c numbers p q = only-writing s c numbers p ∙ sym (only-writing t c numbers q)
-
--- ---- a bound on the length of a text
--- a line of an accepted drawing: four coordinates of a minus and eight digits, a winding of a minus and four digits, line bits of one digit, a lot of four, and
--- a byte after each
-abbrev pub lineMost : ℕ
-lineMost = 4 * 10 + 6 + 2 + 5
-
--- 1,024 such lines and the choices before them
-pub fits : (c : Choices) (d : Drawing) → length d ≤ 1024 → ((r : List ℤ) → r ∈ (choiceNumbers c ∷ map numbersOf d) → rowLength r ≤ lineMost) → length (writing c d) ≤ mostBytes
-unfolding writing textLength
-fits c d n h = omega (arith, length-text (choiceNumbers c ∷ map numbersOf d), tally-bound rowLength lineMost (choiceNumbers c ∷ map numbersOf d) h, length-map d numbersOf)
+    go : (b : Bool) → ltb mostBytes (length text) ≡ b → cond b (BadLine 0) (parsedRows (rowsFrom w 1 (pieces 10 text))) ≡ Drawn c numbers → Found w text c numbers
+    go true t a = absurd (differ (cc))
+    go false t a = from (ltb-false mostBytes (length text) t) (rowsFrom w 1 (pieces 10 text)) refl a

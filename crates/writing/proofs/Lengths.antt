@@ -13,8 +13,8 @@ use Rattle.lists.specs.Sums.{tally}
 use Rattle.lists.proofs.Sums.{tally-map}
 use Rattle.decimal.specs.Decimal.{digits, decimal, signed}
 use Rattle.decimal.proofs.Decimal.{decimal-short, signed-short, unsigned-short}
-use Rattle.writing.specs.Lines.{joined, lineOf, textOf}
-use Rattle.writing.specs.Lengths.{digitsUpTo, digitsIn, signedLength, lineLength, rowLength, textLength}
+use Rattle.writing.specs.Lines.{joined, lineOf, textOf, refusedWord, refusedLine}
+use Rattle.writing.specs.Lengths.{digitsUpTo, digitsIn, signedLength, lineLength, rowLength, textLength, refusedLength}
 
 -- ---- numbers
 length-digits : (k n : ℕ) (s : List ℕ) → length (digits k n s) ≡ digitsUpTo k n + length s
@@ -79,6 +79,10 @@ unfolding textOf textLength tally flatten
 length-text [] = refl
 length-text (row ∷ rows) = omega (arith, length-append (lineOf (map signed row)) (textOf rows), length-row row, length-text rows)
 
+pub length-refused : (number place : ℕ) → length (refusedLine number place) ≡ refusedLength number place
+unfolding refusedLine refusedLength
+length-refused number place = length-line (refusedWord ∷ decimal number ∷ decimal place ∷ []) ∙ rw (length-decimal number, length-decimal place)
+
 -- ---- at most so long
 pub at-most-20 : (n : ℕ) → digitsIn n ≤ 20
 at-most-20 n = omega (arith, decimal-short n, length-decimal n)
@@ -95,3 +99,8 @@ signed-most j z h = omega (arith, length-signed z, signed-short j z h)
 -- one without a minus
 pub unsigned-most : (j : ℕ) (z : ℤ) → pos 0 ≤ℤ z → natAbs z < 10 ^ suc j → signedLength z ≤ suc j
 unsigned-most j z l h = omega (arith, length-signed z, unsigned-short j z l h)
+
+-- twice 20 digits, the word, two commas and LF
+pub refused-short : (number place : ℕ) → refusedLength number place ≤ 50
+unfolding refusedLength lineLength tally
+refused-short number place = omega (arith, at-most-20 number, at-most-20 place)

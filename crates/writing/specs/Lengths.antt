@@ -1,4 +1,4 @@
--- How many bytes numbers, lines and texts have, by counting.
+-- How many bytes numbers, lines, texts and the line of a refusal have, by counting.
 use mathlib.Core.List.{List, [], _∷_, map}
 use mathlib.Core.Bool.{cond}
 use Prim.Native.Nat.{ℕ, zero, suc, _/_}
@@ -32,3 +32,7 @@ rowLength row = lineLength (map signedLength row)
 -- the lines of all rows
 unfoldable pub textLength : List (List ℤ) → ℕ
 textLength rows = tally rowLength rows
+
+-- the word `refused`, then number and place
+unfoldable pub refusedLength : (number place : ℕ) → ℕ
+refusedLength number place = lineLength (7 ∷ digitsIn number ∷ digitsIn place ∷ [])

@@ -5,7 +5,7 @@ ghost use mathlib.Core.List.{[], _∷_, map};
 ghost use Prim.Native.Nat.{_+_, _^_, _≤_, _<_};
 ghost use lib.ListN.{length};
 ghost use Rattle.decimal.specs.Decimal.{decimal, signed};
-ghost use Rattle.writing.specs.Lines.{lineOf};
+ghost use Rattle.writing.specs.Lines.{lineOf, refusedLine};
 ghost use Rattle.writing.specs.Lengths.{digitsIn, signedLength, rowLength};
 ghost use Rattle.writing.specs.Puts.{Put};
 
@@ -128,4 +128,15 @@ pub fn put_line(row: &[i32], out: &mut [u8], at: usize) -> usize
         i += 1;
     }
     put_byte(b'\n', out, next)
+}
+
+// The one line of a refusal.
+pub fn put_refused(number: u32, place: usize, out: &mut [u8]) -> usize
+    requires { ⌜ length (refusedLine number place) ≤ length (now out) ⌝ }
+    ensures { λ r. ⌜ Put (now (out .entry)) 0 (refusedLine number place) r (now (out .exit)) ⌝ }
+{
+    let a = put_bytes(b"refused", out, 0);
+    let b = put_next(number as u64, out, a);
+    let c = put_next(place as u64, out, b);
+    put_byte(b'\n', out, c)
 }

@@ -15,14 +15,8 @@ count-requires c κs = search needs
 is-wrong-requires : tie.Need-is-wrong-requires
 is-wrong-requires c κs = search needs
 
-is-unknown-requires : tie.Need-is-unknown-requires
-is-unknown-requires c κs = search needs
-
-is-unknown-requires-2 : tie.Need-is-unknown-requires-2
-is-unknown-requires-2 c κs = search needs
-
-is-unknown-requires-3 : tie.Need-is-unknown-requires-3
-is-unknown-requires-3 c κs = search needs
+is-unknown-clip-requires : tie.Need-is-unknown-clip-requires
+is-unknown-clip-requires c κs = search needs
 
 is-short-requires : tie.Need-is-short-requires
 is-short-requires c κs = search needs
@@ -36,11 +30,10 @@ asked-first-requires c κs = search needs
 returns : tie.Need-returns
 unfolding clipRun asked any
 returns c =
-    let s = c .before .before .before .before .before .before .before .before in
-    let n = c .before .before .before .before .before .before .before in
-    let w = c .before .before .before .before .before .before in
-    c .asked-first .ensures ∙ same-asked (w .is-wrong .ensures)
-    (simp ((c .before .before .before .before .before) .is-unknown .ensures, (c .before .before .before .before) .is-unknown2 .ensures, (c .before .before .before) .is-unknown3 .ensures, toZ-ofZ (s .fits .rule), toZ-ofZ (s .fits .invert), toZ-ofZ (s .fits .boundary), or-false))
+    let n = c .before .before .before .before .before in
+    let s = n .before in
+    c .asked-first .ensures ∙ same-asked (c .before .before .before .before .is-wrong .ensures)
+    (rw (toZ-ofZ (s .fits .rule), toZ-ofZ (s .fits .invert), toZ-ofZ (s .fits .boundary)) at (c .before .before .before .is-unknown-clip .ensures))
     (simp ((c .before .before) .is-short .ensures, (c .before) .is-short2 .ensures, n .count .ensures, or-false))
 
 pub ask-clip-spec : {M : Type 1} → statement M
@@ -49,9 +42,7 @@ ask-clip-spec =
     (tie.spec
     count-requires
     is-wrong-requires
-    is-unknown-requires
-    is-unknown-requires-2
-    is-unknown-requires-3
+    is-unknown-clip-requires
     is-short-requires
     is-short-requires-2
     asked-first-requires

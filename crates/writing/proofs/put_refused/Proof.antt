@@ -7,12 +7,12 @@ use native.Mathlib.Omega.{arith}
 use lib.ListN.{length}
 use Rattle.lists.specs.Sums.{tally}
 use Rattle.decimal.specs.Decimal.{decimal}
 use Rattle.writing.specs.Lengths.{lineLength}
 use Rattle.writing.proofs.Lengths.{length-line}
 use Rattle.writing.proofs.Puts.{left-less, left-none, lineRest, first-field}
-use Rattle.clip_print.specs.Printed.{refusedWord, refusedLine}
-use Rattle.clip_print.proofs.put_refused.Statement.{statement}
-use Rattle.clip_print.proofs.put_refused.Tie as tie
+use Rattle.writing.specs.Lines.{refusedWord, refusedLine}
+use Rattle.writing.proofs.put_refused.Statement.{statement}
+use Rattle.writing.proofs.put_refused.Tie as tie
 
 abbrev numbers : tie.Start → List (List ℕ)
 numbers s = decimal (s .args .number) ∷ decimal (s .args .place) ∷ []

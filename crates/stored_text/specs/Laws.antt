@@ -1,0 +1,55 @@
+-- What is so of every text that is written or moved.
+use mathlib.Core.Path.{_≡_}
+use mathlib.Core.Bool.{Bool, true}
+use mathlib.Core.List.{List}
+use Prim.Native.Nat.{ℕ, _≤_}
+use lib.ListN.{length, take}
+use lib.IntN.{ℤ}
+use Rattle.lists.specs.Written.{written}
+use Rattle.refusal.specs.declared.Verdict.the-variants.{Accepted}
+use Rattle.refusal.specs.Order.{isAccepted, _then_}
+use Rattle.segm.specs.Segments.{segments}
+use Rattle.text.specs.declared.Choices.{Choices}
+use Rattle.text.specs.Grammar.{Parsed, Drawn, mostBytes}
+use Rattle.text.specs.Storing.{malformed, choicesIn, numbersIn}
+use Rattle.text_forms.specs.declared.Form.{Form}
+use Rattle.text_forms.specs.declared.Form.the-variants.{New}
+use Rattle.text_forms.specs.Forms.{writing}
+use Rattle.text_forms.specs.Reading.{parsedIn}
+use Rattle.stored_text.specs.declared.Wrote.the-variants.{Done}
+use Rattle.stored_text.specs.Outcome.{Outcome, outcome, inputVerdict, lotsOf, writeOutcome, moveOutcome}
+
+-- the bytes that a call wrote
+abbrev pub bytesOf : Outcome → List ℕ
+bytesOf o = take (o .numbers .count) (o .list)
+
+-- what a text holds is accepted
+abbrev pub acceptsParsed : Parsed → Bool
+acceptsParsed p = isAccepted (malformed p then inputVerdict (choicesIn p) (numbersIn p))
+
+unfoldable pub acceptsText : Form → List ℕ → Bool
+acceptsText form text = acceptsParsed (parsedIn form text)
+
+-- ---- the writer
+-- reading a written drawing yields its numbers and choices
+abbrev pub ReadsBack : Type 0
+ReadsBack = (numbers : List ℤ) (c : Choices) (old : List ℕ) → (let o = writeOutcome numbers c old in o .numbers .number ≡ 0 → parsedIn New (bytesOf o) ≡ Drawn c numbers)
+
+-- ---- the mover
+module _ (from to : Form) where
+  -- moved and moved back, the same bytes are there, if the list has room for them
+  abbrev pub ThereAndBack : Type 0
+  ThereAndBack = (text old back : List ℕ) → (let o = moveOutcome from to text old in o .numbers .number ≡ 0 → length text ≤ length back → moveOutcome to from (bytesOf o) back ≡ outcome (Done (length text)) (written text back))
+
+  -- what was moved holds the same choices and the same drawing, and is accepted, as what came in
+  abbrev pub MovedSame : Type 0
+  MovedSame = (text old : List ℕ) → (let o = moveOutcome from to text old in o .numbers .number ≡ 0
+      → (parsedIn to (bytesOf o) ≡ parsedIn from text) × (acceptsText from text ≡ true) × (acceptsText to (bytesOf o) ≡ true))
+
+  -- the text of what a text holds, in a form that has room for its lots, is accepted exactly when that text is
+  abbrev pub AcceptedAlike : Type 0
+  AcceptedAlike = (text : List ℕ) (c : Choices) (numbers : List ℤ) → parsedIn from text ≡ Drawn c numbers → lotsOf to (segments numbers) ≡ Accepted → acceptsText to (writing to c (segments numbers)) ≡ acceptsText from text
+
+  -- 65,536 bytes are enough for every accepted text: only 14 can still be refused
+  abbrev pub NeverTooLong : Type 0
+  NeverTooLong = (text old : List ℕ) → acceptsText from text ≡ true → lotsOf to (segments (numbersIn (parsedIn from text))) ≡ Accepted → mostBytes ≤ length old → moveOutcome from to text old .numbers .number ≡ 0

@@ -1,0 +1,4 @@
+pub mod Old
+pub mod Reading
+pub mod Rows
+pub mod Forms
