@@ -1,3 +1,5 @@
 pub mod Lots
 pub mod Moving
 pub mod Accepted
+pub mod Laws
+pub mod Cases

@@ -31,25 +31,30 @@ unfoldable pub acceptsText : Form → List ℕ → Bool
 acceptsText form text = acceptsParsed (parsedIn form text)
 
 -- ---- the writer
--- reading a written drawing yields its numbers and choices
+-- reading a written drawing yields its choices and its numbers
 abbrev pub ReadsBack : Type 0
-ReadsBack = (numbers : List ℤ) (c : Choices) (old : List ℕ) → (let o = writeOutcome numbers c old in o .numbers .number ≡ 0 → parsedIn New (bytesOf o) ≡ Drawn c numbers)
+ReadsBack = (numbers : List ℤ) (c : Choices) (old : List ℕ) (n : ℕ) → (let o = writeOutcome numbers c old in o .answer ≡ Done n → parsedIn New (bytesOf o) ≡ Drawn c numbers)
+
+-- an accepted text is the only text of its drawing and choices
+abbrev pub OnlyText : Form → Type 0
+OnlyText form = (s t : List ℕ) → acceptsText form s ≡ true → parsedIn form s ≡ parsedIn form t → s ≡ t
 
 -- ---- the mover
 module _ (from to : Form) where
   -- moved and moved back, the same bytes are there, if the list has room for them
   abbrev pub ThereAndBack : Type 0
-  ThereAndBack = (text old back : List ℕ) → (let o = moveOutcome from to text old in o .numbers .number ≡ 0 → length text ≤ length back → moveOutcome to from (bytesOf o) back ≡ outcome (Done (length text)) (written text back))
+  ThereAndBack = (text old back : List ℕ) (n : ℕ) → (let o = moveOutcome from to text old in o .answer ≡ Done n → length text ≤ length back → moveOutcome to from (bytesOf o) back ≡ outcome (Done (length text)) (written text back))
 
-  -- what was moved holds the same choices and the same drawing, and is accepted, as what came in
+  -- what was moved holds the same choices and the same drawing as what came in, and both are accepted
   abbrev pub MovedSame : Type 0
-  MovedSame = (text old : List ℕ) → (let o = moveOutcome from to text old in o .numbers .number ≡ 0
-      → (parsedIn to (bytesOf o) ≡ parsedIn from text) × (acceptsText from text ≡ true) × (acceptsText to (bytesOf o) ≡ true))
+  MovedSame = (text old : List ℕ) (n : ℕ) → (let o = moveOutcome from to text old in o .answer ≡ Done n → (parsedIn to (bytesOf o) ≡ parsedIn from text) × (acceptsText from text ≡ true) × (acceptsText to (bytesOf o) ≡ true))
 
-  -- the text of what a text holds, in a form that has room for its lots, is accepted exactly when that text is
+  -- what a text holds, written in a form that has room for its lots, is accepted exactly when the text is
   abbrev pub AcceptedAlike : Type 0
   AcceptedAlike = (text : List ℕ) (c : Choices) (numbers : List ℤ) → parsedIn from text ≡ Drawn c numbers → lotsOf to (segments numbers) ≡ Accepted → acceptsText to (writing to c (segments numbers)) ≡ acceptsText from text
 
-  -- 65,536 bytes are enough for every accepted text: only 14 can still be refused
-  abbrev pub NeverTooLong : Type 0
-  NeverTooLong = (text old : List ℕ) → acceptsText from text ≡ true → lotsOf to (segments (numbersIn (parsedIn from text))) ≡ Accepted → mostBytes ≤ length old → moveOutcome from to text old .numbers .number ≡ 0
+  -- an accepted text without a lot that would be lost is moved, and 65,536 bytes are always enough
+  abbrev pub AcceptedMoves : Type 0
+  AcceptedMoves = (text old : List ℕ) → (let p = parsedIn from text in let moved = writing to (choicesIn p) (segments (numbersIn p)) in
+      acceptsText from text ≡ true → lotsOf to (segments (numbersIn p)) ≡ Accepted
+      → (length moved ≤ mostBytes) × (length moved ≤ length old → moveOutcome from to text old ≡ outcome (Done (length moved)) (written moved old)))

@@ -14,7 +14,7 @@ use Rattle.lists.specs.Members.{_∈_}
 use Rattle.lists.proofs.Members.{in-map, map-in, in-++, in-take}
 use Rattle.segm.specs.declared.Segment.{Segment}
 use Rattle.segm.specs.Segments.{Drawing, width, front, withLot, segments, numbersOf, laid}
-use Rattle.segm.proofs.Segments.Laid.{segments-laid}
+use Rattle.segm.proofs.Segments.Laid.{segments-laid, numbers-front}
 use Rattle.decimal.specs.Decimal.{NineDigits}
 use Rattle.writing.specs.Lines.{textOf}
 use Rattle.text.specs.declared.Choices.{Choices}
@@ -27,7 +27,7 @@ use Rattle.text_forms.specs.declared.Form.the-variants.{Old, New}
 use Rattle.text_forms.specs.Forms.{fieldsOf, rowOf, writing, takesLot}
 use Rattle.text_forms.specs.Reading.{oldSegmentsOf, oldSegments, allNumbers, withAll, parsedIn}
 use Rattle.text_forms.proofs.Reading.{length-rows}
-use Rattle.text_forms.proofs.Rows.{numbers-front, old-front}
+use Rattle.text_forms.proofs.Rows.{old-front}
 
 -- every lot has room in the form
 abbrev pub Kept : Form → Drawing → Type 0

@@ -14,6 +14,7 @@ use Rattle.lists.proofs.Sums.{tally-bound}
 use Rattle.segm.specs.declared.Segment.{Segment}
 use Rattle.segm.specs.Segments.{Drawing, width, front, withLot, count, segments, nowhere, segmentAt, numbersOf}
 use Rattle.segm.proofs.Segments.{length-segments, segments-at}
+use Rattle.segm.proofs.Segments.Laid.{entries, first-entries, numbers-front}
 use Rattle.writing.specs.Lengths.{signedLength, lineLength, rowLength, textLength}
 use Rattle.writing.proofs.Lengths.{at-most-21, row-tally}
 use Rattle.text.specs.declared.Choices.{Choices}
@@ -22,21 +23,7 @@ use Rattle.text_forms.specs.declared.Form.{Form}
 use Rattle.text_forms.specs.declared.Form.the-variants.{Old, New}
 use Rattle.text_forms.specs.Forms.{fieldsOf}
 
--- ---- the numbers at the front of a list are those of its first segment
-entries : ℕ → (ℕ → ℤ) → List ℤ
-entries zero f = []
-entries (suc k) f = f 0 ∷ entries k (λ i. f (suc i))
-
-first-entries : (l : List ℤ) (k : ℕ) → k ≤ length l → entries k (λ i. getD l i (pos 0)) ≡ take k l
-unfolding entries
-first-entries l zero h = refl
-first-entries [] (suc k) h = absurd (omega arith)
-first-entries (x ∷ l) (suc k) h = ap (λ (m : List ℤ). x ∷ m) (first-entries l k (omega arith))
-
-pub numbers-front : (l : List ℤ) → width ≤ length l → numbersOf (front l) ≡ take width l
-unfolding numbersOf front entries
-numbers-front l h = first-entries l width h
-
+-- ---- the numbers at the front of a list are those of its first segment, in the old form too
 pub old-front : (l : List ℤ) → 6 ≤ length l → numbersOf (withLot (pos 0) (front l)) ≡ take 6 l ++ (pos 0 ∷ [])
 unfolding numbersOf front entries
 old-front l h = ap (λ (m : List ℤ). m ++ (pos 0 ∷ [])) (first-entries l 6 h)

@@ -6,7 +6,7 @@ use Rattle.lists.specs.Members.{any, keep}
 use Rattle.lists.specs.Sums.{sum, tally}
 use Rattle.lists.specs.Written.{written}
 use Rattle.lists.specs.UpFrom.{upFrom}
-use Rattle.segm.specs.Segments.{front, segmentsOf, count, whole, segments, segmentAt, total}
+use Rattle.segm.specs.Segments.{front, segmentsOf, count, whole, segments, segmentAt, numbersOf, laid, total}
 use Rattle.contour.specs.Points.{coordinates, pairUp}
 use Rattle.contour.specs.Area.{crossProduct, around, shoelace, isLarge, isClockwise}
 use Rattle.meetings.specs.Meetings.{side, parts, inInterior, sameEnds, meetsWrongly}
@@ -37,14 +37,19 @@ use Rattle.contour.specs.Contour.{contourOf}
 use Rattle.slice_cut.specs.Cutting.{walkContours}
 use Rattle.string_slice.specs.Contours.{sideBits, allContours, sliceContours}
 use Rattle.string_slice.specs.Run.{sliceOutcome}
-use Rattle.decimal.specs.Decimal.{isDigit, worth, positive, fieldOf}
+use Rattle.decimal.specs.Decimal.{isDigit, worth, positive, fieldOf, digits, decimal, signed}
+use Rattle.writing.specs.Lines.{joined, lineOf, textOf}
 use Rattle.text.specs.Grammar.{pieces, row, fieldsIn, rowsFrom, choicesOf, parsed}
 use Rattle.text.specs.Storing as text
-use Rattle.overlay.specs.Numbers.{fillsNumbers, clipNumbers, sliceNumbers, splitNumbers, readNumbers}
+use Rattle.text.specs.Writing.{choiceNumbers}
+use Rattle.text_forms.specs.Forms.{rowOf, writing}
+use Rattle.text_forms.specs.Reading.{oldSegmentsOf, oldSegments, parsedIn}
+use Rattle.stored_text.specs.Outcome.{lotAt, lotsOf, writtenUnless, writeOutcome, moveOutcome}
+use Rattle.overlay.specs.Numbers.{fillsNumbers, clipNumbers, sliceNumbers, splitNumbers, readNumbers, writeNumbers, moveNumbers}
 use Rattle.trials.specs.Exported.{Exported}
 
 pub exported : Exported
-unfolding eqZ within ltP eqP coordinate inRange cross between any sum tally keep written upFrom front segmentsOf count whole segments segmentAt total coordinates pairUp crossProduct around shoelace isLarge side parts inInterior sameEnds meetsWrongly endsInRange rises windingInRange bitsInRange lotInRange fault faultAt meetingAt balance balances unbalancedAt wrongLength unknownChoice tooShort firstFrom first asked askedFirst drawingVerdict faultsOf meetingsOf unbalancedOf verdict fillsRun clipRun spans above clockwise met bottom top filled ruleOf fillOf fill fills fillsOutcome sidesSet keepsSides keeps filterOf keptLinks node has clear asDrawn remains taken takenAll bitsRemaining firstRemaining bothMoves begins way over other fitting goesOn follow pathFrom pathsFrom walk through finished pathPoints clipPaths stepsFrom stepsOfPath stepsOf travelOf travel totals clipOutcome flatten isSighted numberOf sight closed bufferPoint bufferPoints rest allLoops splitLoops split.outOfRangeAt split.splitVerdict split.splitOutcome sliceRun isClockwise rotated isWide isNearer moveFrom nearest findNearest till walkFrom walksFrom walks directionOf walkPoints sideBits contourOf walkContours allContours sliceContours sliceOutcome isDigit worth positive fieldOf pieces row fieldsIn rowsFrom choicesOf parsed text.readVerdict text.readOutcome fillsNumbers clipNumbers sliceNumbers splitNumbers readNumbers
+unfolding eqZ within ltP eqP coordinate inRange cross between any sum tally keep written upFrom front segmentsOf count whole segments segmentAt total coordinates pairUp crossProduct around shoelace isLarge side parts inInterior sameEnds meetsWrongly endsInRange rises windingInRange bitsInRange lotInRange fault faultAt meetingAt balance balances unbalancedAt wrongLength unknownChoice tooShort firstFrom first asked askedFirst drawingVerdict faultsOf meetingsOf unbalancedOf verdict fillsRun clipRun spans above clockwise met bottom top filled ruleOf fillOf fill fills fillsOutcome sidesSet keepsSides keeps filterOf keptLinks node has clear asDrawn remains taken takenAll bitsRemaining firstRemaining bothMoves begins way over other fitting goesOn follow pathFrom pathsFrom walk through finished pathPoints clipPaths stepsFrom stepsOfPath stepsOf travelOf travel totals clipOutcome flatten isSighted numberOf sight closed bufferPoint bufferPoints rest allLoops splitLoops split.outOfRangeAt split.splitVerdict split.splitOutcome sliceRun isClockwise rotated isWide isNearer moveFrom nearest findNearest till walkFrom walksFrom walks directionOf walkPoints sideBits contourOf walkContours allContours sliceContours sliceOutcome isDigit worth positive fieldOf pieces row fieldsIn rowsFrom choicesOf parsed text.readVerdict text.readOutcome fillsNumbers clipNumbers sliceNumbers splitNumbers readNumbers numbersOf laid digits decimal signed joined lineOf textOf choiceNumbers rowOf writing oldSegmentsOf oldSegments parsedIn lotAt lotsOf writtenUnless writeOutcome moveOutcome writeNumbers moveNumbers
 exported = record {
   fills-refused = refl;
   fills-done = refl;
@@ -56,4 +61,9 @@ exported = record {
   split-done = refl;
   read-refused = refl;
   read-done = refl;
+  write-refused = refl;
+  write-done = refl;
+  move-refused = refl;
+  moved-up = refl;
+  moved-down = refl;
 }

@@ -13,6 +13,9 @@ use Rattle.contour.specs.Points.{pairUp}
 use Rattle.contour.specs.Contour.{Contour}
 use Rattle.refusal.specs.declared.Verdict.{Verdict}
 use Rattle.refusal.specs.declared.Verdict.the-variants as verdict-is
+use Rattle.refusal.specs.Order.{refuseIf, _then_}
+use Rattle.refusal.specs.Asked.{tooShort}
+use Rattle.refusal.specs.Asked as asked
 use Rattle.checks.specs.Runs.{verdict, fillsRun}
 use Rattle.fill_rule.specs.FillRule.{ruleOf}
 use Rattle.ray.specs.Ray as ray
@@ -36,6 +39,11 @@ use Rattle.text.specs.declared.Reading.{Reading}
 use Rattle.text.specs.declared.Reading.the-variants as text-is
 use Rattle.text.specs.Grammar.{Parsed, parsed}
 use Rattle.text.specs.Storing as text
+use Rattle.text_forms.specs.declared.Form.the-variants.{New}
+use Rattle.text_forms.specs.Forms.{writing}
+use Rattle.stored_text.specs.declared.Wrote.{Wrote}
+use Rattle.stored_text.specs.declared.Wrote.the-variants as writer-is
+use Rattle.stored_text.specs.Outcome as writer
 use Rattle.trials.specs.Refusals.{RefusalsWriteNothing}
 
 module _ (number place : ℕ) where
@@ -60,12 +68,22 @@ module _ (number place : ℕ) where
   read-refused verdict-is.Accepted p lent e = let z : _≡_ {A = ℕ} 0 1 = cc in absurd (omega arith)
   read-refused (verdict-is.Refused m n) p lent e = ap (λ (a : Reading). text.outcome a lent) e
 
+  write-refused : (v : Verdict) (bytes lent : List ℕ) → (let o = writer.answered v bytes lent in o .answer ≡ writer-is.Refused number place → o ≡ writer.outcome (writer-is.Refused number place) lent)
+  write-refused verdict-is.Accepted bytes lent e = let z : _≡_ {A = ℕ} 0 1 = cc in absurd (omega arith)
+  write-refused (verdict-is.Refused m n) bytes lent e = ap (λ (a : Wrote). writer.outcome a lent) e
+
+  unless-refused : (before : Verdict) (bytes lent : List ℕ) → (let o = writer.writtenUnless before bytes lent in o .answer ≡ writer-is.Refused number place → o ≡ writer.outcome (writer-is.Refused number place) lent)
+  unfolding writer.writtenUnless
+  unless-refused before bytes lent = write-refused (before then refuseIf 11 (tooShort (length bytes) (asked.lent (length lent) 1))) bytes lent
+
 pub refusals : RefusalsWriteNothing
-unfolding fills.fillsOutcome clip.clipOutcome slice.sliceOutcome split.splitOutcome text.readOutcome
+unfolding fills.fillsOutcome clip.clipOutcome slice.sliceOutcome split.splitOutcome text.readOutcome writer.writeOutcome writer.moveOutcome
 refusals = record {
   of-fills = λ numbers rule lent number place. fills-refused number place (verdict (fillsRun numbers rule (length lent))) (ray.fills (ruleOf rule) (segments numbers)) lent;
   of-clip = λ numbers rule invert boundary ls number place. clip-refused number place (verdict (clip.runOf numbers rule invert boundary ls)) (clipPaths (ruleOf rule) (filterOf invert boundary) (segments numbers)) ls;
   of-slice = λ numbers rule direction least ls number place. slice-refused number place (verdict (slice.runOf numbers rule direction ls)) (sliceContours (ruleOf rule) (eqZ direction (pos 1)) least (segments numbers)) ls;
   of-split = λ points least ls number place. split-refused number place (split.splitVerdict points (length (ls .out)) (length (ls .lengths))) (splitLoops least (pairUp points)) ls;
   of-read = λ width bytes lent number place. read-refused number place (text.readVerdict (parsed width bytes) (length lent)) (parsed width bytes) lent;
+  of-write = λ numbers c lent number place. unless-refused number place (writer.inputVerdict c numbers) (writing New c (segments numbers)) lent;
+  of-move = λ from to bytes lent number place. unless-refused number place _ _ lent;
 }

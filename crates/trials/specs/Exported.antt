@@ -5,7 +5,8 @@ use lib.ListN.{drop}
 use lib.IntN.{ℤ, pos, negsuc}
 use Rattle.decimal.proofs.Spelled.{bytes}
 use Rattle.segm.specs.CaseA.{A}
-use Rattle.overlay.specs.Numbers.{returned, fillsNumbers, clipLists, returnedClip, clipNumbers, sliceLists, returnedSlice, sliceNumbers, splitLists, returnedSplit, splitNumbers, returnedRead, readNumbers}
+use Rattle.text_forms.specs.declared.Form.the-variants.{Old, New}
+use Rattle.overlay.specs.Numbers.{returned, fillsNumbers, clipLists, returnedClip, clipNumbers, sliceLists, returnedSlice, sliceNumbers, splitLists, returnedSplit, splitNumbers, returnedRead, readNumbers, returnedWrite, writeNumbers, moveNumbers}
 use Rattle.trials.specs.Trials.{line, held, heldNumbers}
 
 -- two lines, the second with line bits that there are not
@@ -37,3 +38,9 @@ pub record Exported : Type 0 where
   pub read-done : readNumbers (bytes "4,-1,0\n0,0,2,0,0,3,8\n") (heldNumbers 9)
       ≡ returnedRead (record { number = 0; place = 0; count = 7; rule = pos 4; invert = negsuc 0; boundary = pos 0 })
       (pos 0 ∷ pos 0 ∷ pos 2 ∷ pos 0 ∷ pos 0 ∷ pos 3 ∷ pos 8 ∷ drop 7 (heldNumbers 9))
+  pub write-refused : writeNumbers badBits (pos 1) (pos 0) (pos 1) [] ≡ returnedWrite (record { number = 6; place = 1; count = 0 }) []
+  pub write-done : writeNumbers goodBits (pos 3) (pos 0) (pos 1) (held 35) ≡ returnedWrite (record { number = 0; place = 0; count = 34 }) (bytes "3,0,1\n0,0,5,0,0,3,0\n5,0,7,0,0,1,0\n" ++ drop 34 (held 35))
+  -- 14 before a list too short
+  pub move-refused : moveNumbers New Old (bytes "1,0,1\n0,0,5,0,0,3,0\n5,0,7,0,0,1,4\n") [] ≡ returnedWrite (record { number = 14; place = 1; count = 0 }) []
+  pub moved-up : moveNumbers Old New (bytes "1,0,1\n0,0,5,0,0,3\n") (held 22) ≡ returnedWrite (record { number = 0; place = 0; count = 20 }) (bytes "1,0,1\n0,0,5,0,0,3,0\n" ++ drop 20 (held 22))
+  pub moved-down : moveNumbers New Old (bytes "1,0,1\n0,0,5,0,0,3,0\n") (held 22) ≡ returnedWrite (record { number = 0; place = 0; count = 18 }) (bytes "1,0,1\n0,0,5,0,0,3\n" ++ drop 18 (held 22))

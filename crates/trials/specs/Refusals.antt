@@ -14,6 +14,10 @@ use Rattle.string_split.specs.declared.Loops.the-variants as loops-are
 use Rattle.string_split.specs.Run as split
 use Rattle.text.specs.declared.Reading.the-variants as text-is
 use Rattle.text.specs.Storing as text
+use Rattle.text.specs.declared.Choices.{Choices}
+use Rattle.text_forms.specs.declared.Form.{Form}
+use Rattle.stored_text.specs.declared.Wrote.the-variants as writer-is
+use Rattle.stored_text.specs.Outcome as writer
 
 pub record RefusalsWriteNothing : Type 0 where
   pub of-fills : (numbers : List ℤ) (rule : ℤ) (lent : List ℕ) (number place : ℕ)
@@ -26,3 +30,7 @@ pub record RefusalsWriteNothing : Type 0 where
       → (let o = split.splitOutcome points least ls in o .answer ≡ loops-are.Refused number place → o ≡ split.outcome (loops-are.Refused number place) ls)
   pub of-read : (width : ℕ) (bytes : List ℕ) (lent : List ℤ) (number place : ℕ)
       → (let o = text.readOutcome width bytes lent in o .answer ≡ text-is.Refused number place → o ≡ text.outcome (text-is.Refused number place) lent)
+  pub of-write : (numbers : List ℤ) (c : Choices) (lent : List ℕ) (number place : ℕ)
+      → (let o = writer.writeOutcome numbers c lent in o .answer ≡ writer-is.Refused number place → o ≡ writer.outcome (writer-is.Refused number place) lent)
+  pub of-move : (from to : Form) (bytes lent : List ℕ) (number place : ℕ)
+      → (let o = writer.moveOutcome from to bytes lent in o .answer ≡ writer-is.Refused number place → o ≡ writer.outcome (writer-is.Refused number place) lent)

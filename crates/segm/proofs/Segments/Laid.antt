@@ -1,11 +1,11 @@
 -- Segments laid into a flat list, one after the other, and read back from it.
 use mathlib.Core.Path.{_≡_, refl, sym, _∙_, ap, ap₂}
 use mathlib.Core.List.{List, [], _∷_, _++_, append-assoc, append-nil}
-use Prim.Native.Nat.{ℕ, suc, _+_, _*_, _/_, _≤_}
+use Prim.Native.Nat.{ℕ, zero, suc, _+_, _*_, _/_, _%_, _≤_}
 use native.Mathlib.Omega.{arith}
-use lib.ListN.{length, take, drop, set, length-append}
+use lib.ListN.{length, getD, take, drop, set, length-append, length-drop, take-append-drop}
 use lib.Seq.{take-at, drop-at, drop-drop, sets-eq}
-use lib.IntN.{ℤ}
+use lib.IntN.{ℤ, pos}
 use Rattle.segm.specs.declared.Segment.{Segment}
 use Rattle.lists.specs.Written.{written}
 use Rattle.segm.specs.Segments.{Drawing, width, front, segmentsOf, count, segments, numbersOf, laid}
@@ -41,6 +41,36 @@ segments-laid d = let n : length (laid d) / width ≡ length d = omega (arith, l
 pub count-laid : (d : Drawing) → count (laid d) ≡ length d
 unfolding count
 count-laid d = omega (arith, length-laid d)
+
+-- ---- the numbers at the front of a list are those of its first segment
+unfoldable pub entries : ℕ → (ℕ → ℤ) → List ℤ
+entries zero f = []
+entries (suc k) f = f 0 ∷ entries k (λ i. f (suc i))
+
+pub first-entries : (l : List ℤ) (k : ℕ) → k ≤ length l → entries k (λ i. getD l i (pos 0)) ≡ take k l
+unfolding entries
+first-entries l zero h = refl
+first-entries [] (suc k) h = absurd (omega arith)
+first-entries (x ∷ l) (suc k) h = ap (λ (m : List ℤ). x ∷ m) (first-entries l k (omega arith))
+
+pub numbers-front : (l : List ℤ) → width ≤ length l → numbersOf (front l) ≡ take width l
+unfolding numbersOf front entries
+numbers-front l h = first-entries l width h
+
+-- whole segments, laid out again
+laid-segmentsOf : (n : ℕ) (l : List ℤ) → length l ≡ n * width → laid (segmentsOf n l) ≡ l
+unfolding laid segmentsOf
+laid-segmentsOf zero l e = sym (none l (omega (arith, e)))
+  where
+    none : (m : List ℤ) → length m ≡ 0 → m ≡ []
+    none [] h = refl
+    none (x ∷ m) h = absurd (omega (arith, h))
+laid-segmentsOf (suc n) l e =
+    ap₂ _++_ (numbers-front l (omega (arith, e))) (laid-segmentsOf n (drop width l) (omega (arith, e, length-drop width l))) ∙ take-append-drop width l
+
+pub laid-segments : (l : List ℤ) → length l % width ≡ 0 → laid (segments l) ≡ l
+unfolding segments count
+laid-segments l e = laid-segmentsOf (length l / width) l (omega (arith, e))
 
 -- ---- written to the front of a lent list
 module _ (d : Drawing) (old : List ℤ) where
