@@ -1,5 +1,5 @@
 /* The fills of a square that a line cuts, the line inside and outside of it, the two halves, the loops of a
-   line that touches itself, texts that are read and run, and refusals:
+   line that touches itself, texts that are read and run, written and moved, and refusals:
    cc -Ibindings/c bindings/c/example.c -Ltarget/staticlib -loverlay -o example */
 
 #include "overlay.h"
@@ -127,6 +127,36 @@ static void print_text(const char *text) {
     }
 }
 
+/* A text written or moved, or why there is none. */
+static void print_written(struct overlay_written written, const uint8_t *text) {
+    if (!refused(written.number, written.place)) {
+        printf("%.*s", (int)written.count, (const char *)text);
+    }
+}
+
+static void print_old(const uint8_t *text, size_t length) {
+    uint8_t old[OVERLAY_TEXT_MOST];
+    print_written(overlay_new_to_old(text, length, old, OVERLAY_TEXT_MOST), old);
+}
+
+/* A text in the old form, without lots, moved to the new one and back. */
+static void print_there_and_back(const char *old) {
+    uint8_t text[OVERLAY_TEXT_MOST];
+    struct overlay_written moved =
+        overlay_old_to_new((const uint8_t *)old, strlen(old), text, OVERLAY_TEXT_MOST);
+    print_written(moved, text);
+    print_old(text, moved.count);
+}
+
+/* The drawing written as a text. In the old form its lots would be lost. */
+static void print_drawing(void) {
+    uint8_t text[OVERLAY_TEXT_MOST];
+    struct overlay_written written =
+        overlay_write(drawing, NUMBERS, NON_ZERO, 0, 1, text, OVERLAY_TEXT_MOST);
+    print_written(written, text);
+    print_old(text, written.count);
+}
+
 int main(void) {
     print_fills(NUMBERS);
     print_fills(NUMBERS - 1);
@@ -146,5 +176,7 @@ int main(void) {
     print_text("7,0,1\n");
     print_text("1,0,1\n0,0,1,0,0,1,0\n1,0,2,0,0,1,0\n2,0,3,0,0,1,0\n3,0,4,0,0,1,0\n4,0,5,0,0,1,0\n"
                "5,0,6,0,0,1,0\n6,0,7,0,0,1,0\n7,0,8,0,0,1,0\n8,0,9,0,0,1,0\n9,0,10,0,0,1,0\n");
+    print_there_and_back("1,0,1\n0,0,4,0,1,1\n0,0,4,4,-1,2\n4,0,4,4,1,0\n");
+    print_drawing();
     return 0;
 }

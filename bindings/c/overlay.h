@@ -19,10 +19,12 @@
       7  a is less than the previous segment's a (place)
       8  two segments meet wrongly (place: the lower one's)
       9  the drawing does not balance (place: the lowest segment touching an unbalanced point)
+     14  a lot is not 0, and would be lost on the way to the old form (place: the lowest such segment's)
      12  a slice walk finds no move
    3 to 7 and 13 are tried segment by segment, within one in the order above. overlay_split takes points
    instead of a drawing, and refuses by 2, 11 and 3 only; overlay_read takes a text, and refuses by 1
-   and 11 only: as said there.
+   and 11 only; where a text is written or moved 11 comes last, after 9 and 14, and where it is moved 1
+   comes first: as said there.
 
    A list is passed as a pointer and its number of entries. No pointer may be NULL, not even for a list
    of no entries: pass the address of anything. Lists of one call must not overlap. Entries past the
@@ -48,6 +50,9 @@ extern "C" {
 
 /* How many numbers a segment has. */
 #define OVERLAY_WIDTH 7
+
+/* How many bytes a text has at most: a list of so many is long enough for any that is written. */
+#define OVERLAY_TEXT_MOST 65536
 
 struct overlay_filled {
     uint64_t number; /* the refusal's, 0 on success */
@@ -130,6 +135,38 @@ struct overlay_text {
      11  the list is too short for all its numbers */
 struct overlay_text overlay_read(const uint8_t *text, size_t text_len, int32_t *numbers,
                                  size_t numbers_len);
+
+struct overlay_written {
+    uint64_t number; /* the refusal's, 0 on success */
+    uint64_t place;  /* the refusal's (of 1: the first bad line, from 1), 0 on success */
+    uint64_t count;  /* of bytes written */
+};
+
+/* A drawing and its choices written as a text, the only one that they have: overlay_read yields them
+   again. For n segments 53(n + 1) entries of `text` are always enough. What is refused, tried in this
+   order:
+      2, 10, 3 to 9 with 13, as above
+     11  the list is shorter than the text */
+struct overlay_written overlay_write(const int32_t *segments, size_t segments_len, int32_t rule,
+                                     int32_t invert, int32_t boundary, uint8_t *text, size_t text_len);
+
+/* A text in the old form, where a segment has six numbers and no lot, moved to the new form, that of
+   overlay_read, with lot 0 for every segment. `moved` gets the moved text, which has two bytes more for
+   each segment. What is refused, tried in this order:
+      1  the text has a line malformed in the old form (place), or over 65,536 bytes (place 0)
+      2, 10, 3 to 9 with 13, as above
+     11  the list is shorter than the moved text */
+struct overlay_written overlay_old_to_new(const uint8_t *text, size_t text_len, uint8_t *moved,
+                                          size_t moved_len);
+
+/* The way back, to two bytes fewer for each segment. A text that is moved there and back, whichever way
+   first, has the bytes that it had. What is refused, tried in this order:
+      1  the text has a line malformed in the new form (place), or over 65,536 bytes (place 0)
+      2, 10, 3 to 9 with 13, as above
+     14  a lot is not 0 (place: the lowest such segment's)
+     11  the list is shorter than the moved text */
+struct overlay_written overlay_new_to_old(const uint8_t *text, size_t text_len, uint8_t *moved,
+                                          size_t moved_len);
 
 #ifdef __cplusplus
 }

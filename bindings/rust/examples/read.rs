@@ -35,8 +35,10 @@ fn advice(reason: Reason) -> &'static str {
         Reason::Order => "sort the segments by a",
         Reason::Meeting => "split the segments where they meet",
         Reason::Balance => "close the outline",
-        // Lists that are owned are long enough, a walk is of slices only, and points of splits.
-        Reason::ShortList | Reason::NoMove | Reason::PointsLength | Reason::PointCoordinate => "tell the makers",
+        // Lists that are owned are long enough, a walk is of slices only, points of splits, and lots are lost by moves.
+        Reason::ShortList | Reason::NoMove | Reason::PointsLength | Reason::PointCoordinate | Reason::LotLost => {
+            "tell the makers"
+        }
         // Reasons may be added.
         _ => "look at the sentence",
     }

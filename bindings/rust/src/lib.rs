@@ -6,7 +6,9 @@
 //! The lot is that of the flour, 0 for none; no answer depends on it.
 //!
 //! Any numbers may be passed: a drawing is either answered or refused, with the reason and the place. [`fills`], [`clip`],
-//! [`slice()`], [`split`] and [`read`] own their lists; the forms that end in `_into` write to lent ones.
+//! [`slice()`] and [`split`] are the runs. [`read`] and [`write()`] are for texts, which [`old_to_new`] and
+//! [`new_to_old`] move between the form with lots and the one before them. All these own their lists; the functions that
+//! end in `_into` write to lent ones.
 //!
 //! ```
 //! use jumperclay::{clip, fills, slice, ClipRule, Direction, Rule};
@@ -52,6 +54,7 @@ mod refusal;
 mod slice;
 mod split;
 mod text;
+mod write;
 
 pub use clip::{clip, clip_into, Clip, ClipRule, Totals};
 pub use fills::{fills, fills_into};
@@ -60,6 +63,7 @@ pub use refusal::{Reason, Refusal};
 pub use slice::{slice, slice_into, Contour, Direction};
 pub use split::{split, split_into};
 pub use text::{read, read_into, Choices, Text, MOST_BYTES};
+pub use write::{new_to_old, new_to_old_into, old_to_new, old_to_new_into, write, write_into};
 
 /// Which counts are filled.
 #[derive(Debug, Clone, Copy, PartialEq, Eq, Hash)]

@@ -76,6 +76,19 @@ pub struct Read {
     pub boundary: i32,
 }
 
+/// What [`overlay_write`], [`overlay_old_to_new`] and [`overlay_new_to_old`] return. Number and place are 0 on success,
+/// the count is 0 on a refusal.
+#[repr(C)]
+#[derive(Debug, Clone, Copy, PartialEq, Eq)]
+pub struct Written {
+    /// The refusal's number, 0 on success.
+    pub number: u64,
+    /// Where a refusal is: of 1 the first bad line, from 1, of all others a segment. 0 on success.
+    pub place: u64,
+    /// How many bytes were written.
+    pub count: u64,
+}
+
 // Each reads and writes at most as many entries as the lengths say. Lists of one call must not overlap,
 // and no pointer may be null, also where the length is 0.
 extern "C" {
@@ -129,6 +142,23 @@ extern "C" {
 
     /// The numbers of a comma text.
     pub fn overlay_read(text: *const u8, text_len: usize, numbers: *mut i32, numbers_len: usize) -> Read;
+
+    /// The comma text of a drawing and its choices.
+    pub fn overlay_write(
+        segments: *const i32,
+        segments_len: usize,
+        rule: i32,
+        invert: i32,
+        boundary: i32,
+        text: *mut u8,
+        text_len: usize,
+    ) -> Written;
+
+    /// A text of six fields a segment in the form of seven.
+    pub fn overlay_old_to_new(text: *const u8, text_len: usize, moved: *mut u8, moved_len: usize) -> Written;
+
+    /// A text of seven fields a segment in the form of six.
+    pub fn overlay_new_to_old(text: *const u8, text_len: usize, moved: *mut u8, moved_len: usize) -> Written;
 }
 
 /// [`overlay_fills`] on slices.
@@ -210,4 +240,22 @@ pub fn split(points: &[i32], min_area: u64, out: &mut [i32], lengths: &mut [u32]
 pub fn read(text: &[u8], numbers: &mut [i32]) -> Read {
     // SAFETY: both pointers are valid for their lengths, and the borrows keep the lists apart.
     unsafe { overlay_read(text.as_ptr(), text.len(), numbers.as_mut_ptr(), numbers.len()) }
+}
+
+/// [`overlay_write`] on slices.
+pub fn write(segments: &[i32], rule: i32, invert: i32, boundary: i32, text: &mut [u8]) -> Written {
+    // SAFETY: both pointers are valid for their lengths, and the borrows keep the lists apart.
+    unsafe { overlay_write(segments.as_ptr(), segments.len(), rule, invert, boundary, text.as_mut_ptr(), text.len()) }
+}
+
+/// [`overlay_old_to_new`] on slices.
+pub fn old_to_new(text: &[u8], moved: &mut [u8]) -> Written {
+    // SAFETY: both pointers are valid for their lengths, and the borrows keep the lists apart.
+    unsafe { overlay_old_to_new(text.as_ptr(), text.len(), moved.as_mut_ptr(), moved.len()) }
+}
+
+/// [`overlay_new_to_old`] on slices.
+pub fn new_to_old(text: &[u8], moved: &mut [u8]) -> Written {
+    // SAFETY: both pointers are valid for their lengths, and the borrows keep the lists apart.
+    unsafe { overlay_new_to_old(text.as_ptr(), text.len(), moved.as_mut_ptr(), moved.len()) }
 }

@@ -27,6 +27,8 @@ pub enum Reason {
     Meeting,
     /// 9: at some point the windings that start and those that end have different sums.
     Balance,
+    /// 14, of a text on its way to the old form, looked for directly after 9: a lot is not 0, and would be lost.
+    LotLost,
     /// 10: an unknown choice.
     Choice,
     /// 11: a lent list is too short.
@@ -40,7 +42,7 @@ pub enum Reason {
 }
 
 impl Reason {
-    const OF_DRAWINGS: [Self; 12] = [
+    const OF_DRAWINGS: [Self; 13] = [
         Self::Length,
         Self::Coordinate,
         Self::Ends,
@@ -50,6 +52,7 @@ impl Reason {
         Self::Order,
         Self::Meeting,
         Self::Balance,
+        Self::LotLost,
         Self::Choice,
         Self::ShortList,
         Self::NoMove,
@@ -72,6 +75,7 @@ impl Reason {
             Self::ShortList => 11,
             Self::NoMove => 12,
             Self::Lot => 13,
+            Self::LotLost => 14,
         }
     }
 
@@ -89,6 +93,7 @@ impl Reason {
             Self::Order => "a is less than the previous segment's a",
             Self::Meeting => "it and a later segment meet wrongly",
             Self::Balance => "the drawing does not balance at one of its ends",
+            Self::LotLost => "the lot is not 0, and the old form has no lots",
             Self::Choice => "a choice is unknown",
             Self::ShortList => "a lent list is too short",
             Self::NoMove => "a walk around a piece finds no way on",
@@ -136,26 +141,26 @@ impl Refusal {
 
     /// The refusal of a drawing by this number and place; 0 is success.
     pub(crate) fn of_drawing(number: u64, place: u64) -> Result<(), Self> {
-        Self::check(&Reason::OF_DRAWINGS, number, place)
+        Self::check(Reason::OF_DRAWINGS, number, place)
     }
 
     /// As of a drawing, of a text. Of the malformed ones only one that is too long is refused without a line.
     pub(crate) fn of_text(number: u64, place: u64) -> Result<(), Self> {
         let malformed = if place == 0 { Reason::TextLength } else { Reason::Line };
-        Self::check(&[malformed, Reason::ShortList], number, place)
+        Self::check([malformed].into_iter().chain(Reason::OF_DRAWINGS), number, place)
     }
 
     /// As of a drawing, of a list of points.
     pub(crate) fn of_points(number: u64, place: u64) -> Result<(), Self> {
-        Self::check(&Reason::OF_POINTS, number, place)
+        Self::check(Reason::OF_POINTS, number, place)
     }
 
-    fn check(reasons: &[Reason], number: u64, place: u64) -> Result<(), Self> {
+    fn check(reasons: impl IntoIterator<Item = Reason>, number: u64, place: u64) -> Result<(), Self> {
         if number == 0 {
             return Ok(());
         }
-        let reason = reasons.iter().find(|reason| reason.number() == number);
-        let &reason = reason.expect("the library returns no other number");
+        let reason = reasons.into_iter().find(|reason| reason.number() == number);
+        let reason = reason.expect("the library returns no other number");
         Err(Self { reason, place: place as usize })
     }
 }

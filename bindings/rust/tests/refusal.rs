@@ -1,7 +1,7 @@
 use jumperclay::{Reason, Refusal};
 
 /// Every reason, its number and its sentence at place 7.
-const REASONS: [(Reason, u64, &str); 16] = [
+const REASONS: [(Reason, u64, &str); 17] = [
     (Reason::Line, 1, "line 7: it is malformed"),
     (Reason::TextLength, 1, "the text has over 65,536 bytes"),
     (Reason::Length, 2, "the length is no multiple of seven, or there are over 1,024 segments"),
@@ -15,6 +15,7 @@ const REASONS: [(Reason, u64, &str); 16] = [
     (Reason::Order, 7, "segment 7: a is less than the previous segment's a"),
     (Reason::Meeting, 8, "segment 7: it and a later segment meet wrongly"),
     (Reason::Balance, 9, "segment 7: the drawing does not balance at one of its ends"),
+    (Reason::LotLost, 14, "segment 7: the lot is not 0, and the old form has no lots"),
     (Reason::Choice, 10, "a choice is unknown"),
     (Reason::ShortList, 11, "a lent list is too short"),
     (Reason::NoMove, 12, "a walk around a piece finds no way on"),

@@ -172,9 +172,10 @@ module _ (from to : Form) where
       let f = accepts-good from text e in
       let g = f .good in
       let is = ap (λ (p : Parsed). writing to (choicesIn p) (segments (numbersIn p))) (sym (g .parsed)) in
-      let lots = ap (λ (p : Parsed). lotsOf to (segments (numbersIn p))) (sym (g .parsed)) ∙ k in
-      (subst (λ (t : List ℕ). length t ≤ mostBytes) is (moved-fits g to),
-        subst (λ (t : List ℕ). length t ≤ length old → moveOutcome from to text old ≡ outcome (Done (length t)) (written t old)) is (good-moves to old g lots))
+      let lots = ap (λ (p : Parsed). lotsOf to (segments (numbersIn p))) (sym (g .parsed)) ∙ k in (
+        subst (λ (t : List ℕ). length t ≤ mostBytes) is (moved-fits g to),
+        subst (λ (t : List ℕ). length t ≤ length old → moveOutcome from to text old ≡ outcome (Done (length t)) (written t old)) is (good-moves to old g lots),
+      )
 
   pub accepted-alike : AcceptedAlike from to
   accepted-alike text c numbers q k = same-test (acceptsText to moved) (acceptsText from text) back there

@@ -20,7 +20,7 @@ pub struct Answer {
 pub fn answer(text: &[u8]) -> Answer {
     match paths(text) {
         Ok(paths) => Answer { number: 0, printed: with_total(&paths) },
-        Err(Refusal { number, place }) => Answer { number, printed: format!("refused,{number},{place}\n") },
+        Err(refusal) => Answer { number: refusal.number, printed: refusal.line() },
     }
 }
 

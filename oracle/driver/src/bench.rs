@@ -10,6 +10,7 @@ use crate::prose::Checked;
 use crate::random::Random;
 use crate::shapes;
 use crate::sheets::{self, Sheet};
+use crate::timing::least;
 use i_overlay::{Drawing, Scan};
 use jumperclay::raw;
 use std::hint::black_box;
@@ -19,8 +20,6 @@ const SIZES: [usize; 3] = [64, 256, MOST_SEGMENTS];
 pub const NON_ZERO: i32 = 1;
 /// How long a row is timed before it is the next one's turn.
 const A_WHILE: Duration = Duration::from_millis(50);
-/// How long ours is called alone on one drawing.
-const ALONE: Duration = Duration::from_millis(500);
 
 /// Few segments open at once, half of all open at once, and half of all at one point.
 const KINDS: [(&str, Make); 3] = [("mesh", mesh), ("nested", shapes::heaped), ("fan", shapes::wheel)];
@@ -149,7 +148,10 @@ pub fn bench_alone() -> bool {
 fn alone_table(name: &str, run: &Run, kinds: [(&str, [Vec<i32>; SIZES.len()]); 3]) {
     println!("\n{name:<7}{}", SIZES.map(|n| format!("{n:>9}")).concat());
     for (kind, drawings) in kinds {
-        let cells = drawings.map(|numbers| format!("{:>9.2}", least(calls(run, &numbers))));
+        let cells = drawings.map(|numbers| {
+            let mut call = calls(run, &numbers);
+            format!("{:>9.2}", least(1, || call(0)))
+        });
         println!("{kind:<7}{}", cells.concat());
     }
 }
@@ -203,7 +205,7 @@ fn bench_split() {
 
 /// Unit squares with a diagonal each, about as wide as high, cut off after so many edges. Each edge joins a point to an
 /// earlier one, so that all that is left hangs together.
-fn mesh(_: &mut Random, size: usize) -> Plane {
+pub fn mesh(_: &mut Random, size: usize) -> Plane {
     let side = (1..).find(|side| side * (3 * side + 2) >= size as i32).expect("they grow");
     let mut plane = Plane::default();
     for (x, y) in (0..=side).flat_map(|x| (0..=side).map(move |y| (x, y))) {
@@ -254,18 +256,6 @@ fn calls(run: &Run, numbers: &[i32]) -> impl FnMut(usize) {
         2 => theirs(&mut list),
         _ => theirs(&mut tree),
     }
-}
-
-/// Of the first call, in microseconds.
-fn least(mut call: impl FnMut(usize)) -> f64 {
-    let begin = Instant::now();
-    let mut least = Duration::MAX;
-    while begin.elapsed() < ALONE {
-        let start = Instant::now();
-        call(0);
-        least = least.min(start.elapsed());
-    }
-    least.as_secs_f64() * 1e6
 }
 
 /// Of the calls of one row.

@@ -1,6 +1,6 @@
 //! A drawing on its way through the comparison, and two answers to it that should be one.
 
-use crate::choices::{Choices, SliceChoices, MOST, RULES, SLICE_MOST};
+use crate::choices::{Choices, SliceChoices, RULES, SLICE_MOST};
 use crate::drawing::{commas, lines, read, Segment, WIDTH};
 use crate::output::{Room, CLIP_EACH, SLICE_EACH};
 use crate::prose::{Checked, Refusal};
@@ -54,7 +54,7 @@ impl<'a> Case<'a> {
 
     /// The refusals of a clip run that lends lists of these lengths: the first is due.
     pub fn clip_refusals(&self, choices: Choices, lent: Room) -> Vec<Refusal> {
-        self.checked.refusals(&zip(choices.list(), MOST), &zip(lent, CLIP_EACH))
+        self.checked.refusals(&choices.with_most(), &zip(lent, CLIP_EACH))
     }
 
     /// The refusals but 12 of a slice run that lends lists of these lengths: the first is due.

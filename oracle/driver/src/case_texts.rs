@@ -132,7 +132,7 @@ const MALFORMED: [(&str, &[u8]); 23] = [
 
 /// Texts that are long for a reason.
 fn long() -> [(&'static str, Vec<u8>); 9] {
-    let most = grown(b"1,0,1\n".to_vec(), MOST_BYTES, 14);
+    let most = grown::<WIDTH>(b"1,0,1\n".to_vec(), MOST_BYTES, 14);
     let bad_end = [&most[..MOST_BYTES - 2], b"-\n"].concat();
     [
         ("travel_over_32_bits", far_and_back()),
@@ -142,7 +142,7 @@ fn long() -> [(&'static str, Vec<u8>); 9] {
         ("segments_1025_bad_line", alike("1,0,1", MOST_SEGMENTS + 1, "0\n")),
         ("bytes_65536", most),
         ("bytes_65536_bad_line", bad_end),
-        ("bytes_65537", grown(b"1,0,1\n".to_vec(), MOST_BYTES + 1, 14)),
+        ("bytes_65537", grown::<WIDTH>(b"1,0,1\n".to_vec(), MOST_BYTES + 1, 14)),
         ("bytes_65537_no_line", vec![b'0'; MOST_BYTES + 1]),
     ]
 }

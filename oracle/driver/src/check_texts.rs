@@ -6,9 +6,9 @@ use crate::case_texts;
 use crate::program::Program;
 use crate::random::Random;
 use crate::reader::{self, Calls};
-use crate::shrink::{shorter, smallest};
 use crate::table::Table;
 use crate::tally::has_all;
+use crate::text_difference::Difference;
 use crate::texts::{Kind, KINDS};
 
 /// Blocks of a hundred texts have every kind by its share.
@@ -19,9 +19,6 @@ pub const DEFAULT_TEXTS: usize = 3000;
 
 /// What a text must have been refused with. The lists that the program lends are always long enough.
 const REFUSALS: [u64; 11] = [1, 2, 3, 4, 5, 6, 7, 8, 9, 10, 13];
-
-/// Of longer ones the two ends are shown.
-const MOST_SHOWN: usize = 2000;
 
 #[derive(Default)]
 struct Tally {
@@ -59,29 +56,16 @@ impl Tally {
 
     fn missing(&self) -> Vec<String> {
         let refusals = self.refusals.lacking(&REFUSALS).map(|number| format!("refusal {number} of a text"));
-        let reads = self.reads.lacking(&reader::CALLS).map(|name| format!("overlay_read with {name}"));
+        let calls = reader::calls();
+        let reads = self.reads.lacking(&calls).map(|name| format!("overlay_read with {name}"));
         refusals.chain(reads).collect()
-    }
-}
-
-/// What the program prints for a text, or what is read of it, and what it should.
-struct Difference {
-    text: Vec<u8>,
-    expected: Vec<u8>,
-    got: Result<Vec<u8>, String>,
-}
-
-impl Difference {
-    fn report(&self) -> String {
-        let got = self.got.as_ref().map_or_else(String::clone, |got| shown(got));
-        format!("{}expected {}got {got}", shown(&self.text), shown(&self.expected))
     }
 }
 
 /// Gives the stored cases and about this many texts to the program. False where it is not there, or prints something
 /// else, or something is missing.
 pub fn check(seed: u64, texts: usize) -> bool {
-    let Some(program) = Program::find() else { return false };
+    let Some(program) = Program::find("clip") else { return false };
     let work = |block, tally: &mut Tally| match block {
         0 => check_cases(&program, tally),
         _ => check_block(&program, seed, block, tally),
@@ -96,7 +80,7 @@ pub fn check(seed: u64, texts: usize) -> bool {
 
 fn check_cases(program: &Program, tally: &mut Tally) -> Result<(), String> {
     for (name, text) in case_texts::all() {
-        let compared = compare(program, text, &mut tally.reads);
+        let compared = compare(program, &text, &mut tally.reads);
         let number = compared.map_err(|found| format!("stored case {name}\n{}", found.report()))?;
         tally.add("stored case", number);
     }
@@ -107,7 +91,7 @@ fn check_block(program: &Program, seed: u64, block: usize, tally: &mut Tally) ->
     for (place, Kind { name, make, share }) in KINDS.iter().enumerate() {
         for text in 0..*share {
             let mut random = Random::new(&[seed, block as u64, place as u64, text as u64]);
-            let compared = compare(program, make(&mut random), &mut tally.reads);
+            let compared = compare(program, &make(&mut random), &mut tally.reads);
             let report = |found| format!("{name}, text {text}\n{}", shrunk(program, found).report());
             tally.add(name, compared.map_err(report)?);
         }
@@ -116,38 +100,15 @@ fn check_block(program: &Program, seed: u64, block: usize, tally: &mut Tally) ->
 }
 
 /// Returns the number of the refusal due, 0 for none.
-fn compare(program: &Program, text: Vec<u8>, reads: &mut Calls) -> Result<u64, Difference> {
-    if let Err([expected, got]) = reader::compare(&text, reads) {
-        return Err(Difference { text, expected: expected.into_bytes(), got: Ok(got.into_bytes()) });
+fn compare(program: &Program, text: &[u8], reads: &mut Calls) -> Result<u64, Difference> {
+    reader::compare(text, reads).map_err(|answers| Difference::new(text, answers))?;
+    let due = answer(text);
+    match program.printed(text) {
+        Ok(printed) if printed == due.printed.as_bytes() => Ok(due.number),
+        got => Err(Difference::of_printed(text, due.printed.as_bytes(), got)),
     }
-    let due = answer(&text);
-    let (expected, got) = (due.printed.into_bytes(), program.printed(&text));
-    if got.as_ref() == Ok(&expected) {
-        return Ok(due.number);
-    }
-    Err(Difference { text, expected, got })
 }
 
-/// Leaves out lines, then bytes, as long as some difference remains.
 fn shrunk(program: &Program, found: Difference) -> Difference {
-    let differs = |text| compare(program, text, &mut Calls::default()).err();
-    let few_lines = smallest(found, |found| Box::new(shorter(&found.text, lines(&found.text))), differs);
-    smallest(few_lines, |found| Box::new(shorter(&found.text, (0..=found.text.len()).collect())), differs)
-}
-
-/// Where lines start, and the end.
-fn lines(text: &[u8]) -> Vec<usize> {
-    let starts = (1..text.len()).filter(|&place| text[place - 1] == b'\n');
-    [0].into_iter().chain(starts).chain([text.len()]).collect()
-}
-
-/// Bytes that do not print are escaped; a line is shown in a line.
-fn shown(bytes: &[u8]) -> String {
-    let show = |part: &[u8]| part.escape_ascii().to_string().replace("\\n", "\\n\n");
-    let half = MOST_SHOWN / 2;
-    let all = match bytes.len() {
-        0..=MOST_SHOWN => show(bytes),
-        length => format!("{}\n...\n{}", show(&bytes[..half]), show(&bytes[length - half..])),
-    };
-    format!("{} bytes:\n{}\n", bytes.len(), all.trim_end())
+    found.shrunk(|text| compare(program, &text, &mut Calls::default()).err())
 }

@@ -9,7 +9,7 @@ pub const SLICE_MOST: [i32; 2] = [3, 1];
 pub const RULES: [i32; 4] = [0, 1, 2, 3];
 
 /// A clip run's choices. A fills run takes the rule alone.
-#[derive(Debug, Clone, Copy)]
+#[derive(Debug, Clone, Copy, PartialEq, Eq, Hash)]
 pub struct Choices {
     pub rule: i32,
     pub invert: i32,
@@ -28,6 +28,11 @@ impl Choices {
 
     pub fn list(self) -> [i32; 3] {
         [self.rule, self.invert, self.boundary]
+    }
+
+    /// Each with the greatest known one.
+    pub fn with_most(self) -> [(i32, i32); 3] {
+        [0, 1, 2].map(|place| (self.list()[place], MOST[place]))
     }
 }
 

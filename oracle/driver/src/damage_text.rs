@@ -131,7 +131,7 @@ fn with_comma(line: &[u8], random: &mut Random) -> Vec<u8> {
 }
 
 /// Another last field, which is a segment's lot.
-fn with_lot(line: &[u8], random: &mut Random) -> Vec<u8> {
+pub fn with_lot(line: &[u8], random: &mut Random) -> Vec<u8> {
     let from = line.iter().rposition(|&byte| byte == b',').map_or(0, |comma| comma + 1);
     [&line[..from], random.pick(&LOTS).as_bytes(), b"\n"].concat()
 }

@@ -1,29 +1,30 @@
 //! Makes a text as long as wanted, by good lines.
 
-use crate::drawing::{commas, WIDTH};
+use crate::drawing::commas;
 
-/// How many bytes the shortest line of a segment has: a digit for each number, with a comma or LF.
-const SHORTEST: usize = 2 * WIDTH;
+/// How many bytes the shortest field has: a digit, with a comma or LF.
+pub const SHORTEST: usize = 2;
 
 /// A number can have so many bytes more than a digit: a minus and nine digits.
 const MOST_MORE: usize = 9;
 
-const LONGEST: usize = SHORTEST + WIDTH * MOST_MORE;
+pub const LONGEST: usize = SHORTEST + MOST_MORE;
 
-/// The lines added have so many bytes each, but for the last ones. The text must become longer by a line at least.
-pub fn grown(mut text: Vec<u8>, bytes: usize, each: usize) -> Vec<u8> {
+/// The lines added have so many fields, and so many bytes each but for the last ones. The text must become longer by a
+/// line at least.
+pub fn grown<const FIELDS: usize>(mut text: Vec<u8>, bytes: usize, each: usize) -> Vec<u8> {
     while text.len() < bytes {
         let rest = bytes - text.len();
-        let length = if rest <= LONGEST { rest } else { each.min(rest - SHORTEST) };
-        text.extend(line(length).into_bytes());
+        let length = if rest <= FIELDS * LONGEST { rest } else { each.min(rest - FIELDS * SHORTEST) };
+        text.extend(line::<FIELDS>(length).into_bytes());
     }
     text
 }
 
 /// A line of so many bytes.
-fn line(bytes: usize) -> String {
-    let mut more = bytes - SHORTEST;
-    let fields = [(); WIDTH].map(|()| {
+fn line<const FIELDS: usize>(bytes: usize) -> String {
+    let mut more = bytes - FIELDS * SHORTEST;
+    let fields = [(); FIELDS].map(|()| {
         let here = more.min(MOST_MORE);
         more -= here;
         number(1 + here)

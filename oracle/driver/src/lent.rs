@@ -7,6 +7,34 @@ use crate::random::Random;
 /// Entries beside a lent list, which no run may touch.
 const MARGIN: usize = 8;
 
+/// How long a list is beside what is needed.
+pub const LENGTHS: [&str; 5] = [
+    "a list exactly long enough",
+    "a longer list",
+    "a list too short by one",
+    "an empty list, too short",
+    "a list too short by more",
+];
+
+/// Which of these it is.
+pub fn length(lent: usize, needed: usize) -> &'static str {
+    let kind = match needed.checked_sub(lent) {
+        Some(0) => 0,
+        None => 1,
+        Some(1) => 2,
+        Some(_) if lent == 0 => 3,
+        Some(_) => 4,
+    };
+    LENGTHS[kind]
+}
+
+/// One of each, those too short where entries are needed at all.
+pub fn lengths(needed: usize, random: &mut Random) -> Vec<usize> {
+    let longer = needed + 1 + random.below(20);
+    let short = needed.checked_sub(1).map(|by_one| [by_one, 0, random.below(needed)]);
+    [needed, longer].into_iter().chain(short.into_iter().flatten()).collect()
+}
+
 /// Exactly as many entries as are needed, or more.
 pub fn long_enough(needed: Room, random: &mut Random) -> Room {
     needed.map(|needed| {

@@ -1,10 +1,12 @@
 //! Compares the exported functions with the unchanged Rust, and with a check, a ray, walks and loops written from prose;
-//! and the clip program and overlay_read with these and a reader of texts, also from prose.
+//! and the programs and the functions for texts with these and a reader, a writer and a mover of texts, also from prose.
 
 mod answer;
 mod areas;
 #[cfg(feature = "rust")]
 mod bench;
+#[cfg(feature = "rust")]
+mod bench_texts;
 mod blocks;
 mod both;
 mod calls;
@@ -12,6 +14,8 @@ mod case;
 mod case_texts;
 mod cases;
 mod check;
+mod check_moves;
+mod check_pipes;
 mod check_split;
 mod check_texts;
 mod choices;
@@ -25,6 +29,7 @@ mod damage;
 mod damage_text;
 mod drawing;
 mod fills;
+mod forms;
 mod generate;
 mod grow;
 mod lent;
@@ -33,8 +38,15 @@ mod loops;
 mod lots;
 mod marks;
 mod measure;
+mod move_calls;
+// Some are stored only.
+#[cfg_attr(not(feature = "rust"), allow(dead_code))]
+mod move_cases;
+mod mover;
+mod moves;
 mod nodes;
 mod output;
+mod pipe_tasks;
 mod placement;
 mod places;
 mod plane;
@@ -47,6 +59,7 @@ mod reader;
 // Without the Rust only some are tried, and none stored.
 #[cfg_attr(not(feature = "rust"), allow(dead_code))]
 mod refusals;
+mod round_trips;
 mod shapes;
 #[cfg(feature = "rust")]
 mod sheets;
@@ -58,13 +71,19 @@ mod split;
 mod store;
 mod stored;
 mod stored_checks;
+#[cfg_attr(not(feature = "rust"), allow(dead_code))]
+mod stored_texts;
 mod sweeps;
 mod table;
 mod tally;
 mod text;
+mod text_difference;
 mod texts;
 mod theirs;
+#[cfg(feature = "rust")]
+mod timing;
 mod trials;
+mod variants;
 mod verdict;
 mod walk;
 mod windings;

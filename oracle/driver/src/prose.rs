@@ -12,6 +12,13 @@ pub struct Refusal {
     pub place: u64,
 }
 
+impl Refusal {
+    /// The line that a program prints.
+    pub fn line(self) -> String {
+        format!("refused,{},{}\n", self.number, self.place)
+    }
+}
+
 /// A drawing looked at once for all its runs.
 pub struct Checked {
     n: usize,

@@ -1,7 +1,7 @@
 //! overlay_read beside the reader written from prose.
 
 use crate::choices::Choices;
-use crate::lent::Lent;
+use crate::lent::{length, lengths, Lent, LENGTHS};
 use crate::prose::{of_read, Refusal};
 use crate::random::Random;
 use crate::table::Table;
@@ -9,14 +9,11 @@ use crate::text;
 use jumperclay::raw;
 
 /// The calls that must occur, by the text and the list that is lent.
-pub const CALLS: [&str; 6] = [
-    "a list exactly long enough",
-    "a longer list",
-    "a list too short by one",
-    "an empty list, too short",
-    "a list too short by more",
-    "a malformed text",
-];
+pub fn calls() -> Vec<&'static str> {
+    [&LENGTHS[..], &[MALFORMED]].concat()
+}
+
+const MALFORMED: &str = "a malformed text";
 
 pub type Calls = Table<&'static str, 1>;
 
@@ -26,9 +23,7 @@ pub fn compare(text: &[u8], calls: &mut Calls) -> Result<(), [String; 2]> {
     let held = text::read(text);
     let count = held.as_ref().map_or(0, |(_, numbers)| numbers.len());
     let mut random = Random::new(&[text.len() as u64]);
-    let longer = count + 1 + random.below(20);
-    let short = count.checked_sub(1).map(|by_one| [by_one, 0, random.below(count)]);
-    let mut lengths = [count, longer].into_iter().chain(short.into_iter().flatten());
+    let mut lengths = lengths(count, &mut random).into_iter();
     lengths.try_for_each(|length| on_list(text, &held, length, &mut random, calls))
 }
 
@@ -36,13 +31,13 @@ pub fn compare(text: &[u8], calls: &mut Calls) -> Result<(), [String; 2]> {
 fn on_list(
     text: &[u8],
     held: &Result<(Choices, Vec<i32>), u64>,
-    length: usize,
+    lent: usize,
     random: &mut Random,
     calls: &mut Calls,
 ) -> Result<(), [String; 2]> {
     let count = held.as_ref().map(|(_, numbers)| numbers.len()).map_err(|&place| place);
-    let refused = of_read(count, length);
-    calls.add(called(count, length), 0);
+    let refused = of_read(count, lent);
+    calls.add(count.map_or(MALFORMED, |needed| length(lent, needed)), 0);
     let (due, numbers) = match (held, refused) {
         (Ok((Choices { rule, invert, boundary }, numbers)), None) => {
             let (rule, invert, boundary) = (*rule, *invert, *boundary);
@@ -53,24 +48,11 @@ fn on_list(
             (raw::Read { number, place, count: 0, rule: 0, invert: 0, boundary: 0 }, &[][..])
         }
     };
-    let mut lent = Lent::new(length, random, |noise| noise as i32);
+    let mut lent = Lent::new(lent, random, |noise| noise as i32);
     let returned = raw::read(text, lent.list());
     if returned == due && lent.holds(numbers) {
         return Ok(());
     }
     let [expected, got] = lent.show(numbers);
     Err([format!("{due:?}, {expected}"), format!("{returned:?}, {got}")])
-}
-
-/// Which of the calls it is: of a text with so many numbers, or a bad line, on a list of this length.
-fn called(count: Result<usize, u64>, length: usize) -> &'static str {
-    let kind = match count {
-        Err(_) => 5,
-        Ok(count) if length == count => 0,
-        Ok(count) if length > count => 1,
-        Ok(count) if length + 1 == count => 2,
-        Ok(_) if length == 0 => 3,
-        Ok(_) => 4,
-    };
-    CALLS[kind]
 }

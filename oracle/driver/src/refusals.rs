@@ -28,8 +28,31 @@ pub fn faults() -> Vec<Vec<i32>> {
     [by_place(), by_order(), limits(), lots()].concat()
 }
 
+/// Choices with drawings to write and to move: without lots and with, and with a fault of every kind beside a lot.
+pub fn moves() -> Vec<(Choices, Vec<i32>)> {
+    let alterations: [&[Alteration]; 13] = [
+        &[],
+        &[(0, LOT, 12), (4, LOT, 7)],
+        &[(4, LOT, MOST_LOT)],
+        &[(8, LOT, 1)],
+        &[(0, LOT, 1), (8, LOT, MOST_LOT + 1)],
+        &[(0, LOT, -1)],
+        &[(4, BX, FARTHEST + 1), (0, LOT, 1)],
+        &[(4, BX, 0), (0, LOT, 1)],
+        &[(4, WINDING, MOST_WINDING + 1), (0, LOT, 1)],
+        &[(4, BITS, 4), (0, LOT, 1)],
+        &[(4, AY, 4), (0, LOT, 1)],
+        &[(4, BX, 11), (0, LOT, 1)],
+        &[(8, WINDING, 1), (4, LOT, 1)],
+    ];
+    let altered = alterations.map(|alterations| (KNOWN, with(alterations)));
+    let unknown = [with(&[(0, LOT, 1)]), A[..A.len() - 1].to_vec()];
+    let unknown = unknown.map(|numbers| (Choices { rule: 4, ..KNOWN }, numbers));
+    altered.into_iter().chain(unknown).chain([(KNOWN, Vec::new())]).collect()
+}
+
 /// What a drawing is clipped by that has something to show by itself.
-const KNOWN: Choices = Choices { rule: 1, invert: 0, boundary: 1 };
+pub const KNOWN: Choices = Choices { rule: 1, invert: 0, boundary: 1 };
 
 // ---- choices
 

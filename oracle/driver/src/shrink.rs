@@ -1,19 +1,14 @@
 //! Makes a drawing or a text that shows a difference smaller.
 
 use crate::case::Difference;
-use crate::compare::compare;
 use crate::drawing::{numbers, read, Point, Segment, WIDTH};
-use crate::random::Random;
-use crate::tally::Tally;
 use std::collections::HashMap;
 
 /// How many smaller ones are tried at most.
 const TRIES: usize = 1000;
 
-/// Leaves out segments, windings, lines and lots as long as some difference remains, not always the same one. Every
-/// rule and area is tried, however large the drawing.
-pub fn shrunk(found: Difference, random: &Random) -> Difference {
-    let differs = |numbers: Vec<i32>| compare(&numbers, true, &mut random.clone(), &mut Tally::default()).err();
+/// Leaves out segments, windings, lines and lots as long as some difference remains, not always the same one.
+pub fn shrunk(found: Difference, differs: impl Fn(Vec<i32>) -> Option<Difference>) -> Difference {
     smallest(found, |found| Box::new(smaller(&found.numbers)), differs)
 }
 

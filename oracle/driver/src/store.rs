@@ -1,20 +1,24 @@
 //! Makes the stored answers: fills, paths, contours and loops by the unchanged Rust, refusals by the prose check. Steps
-//! and travel of paths are counted here, as the Rust does not count them.
+//! and travel of paths are counted here, as the Rust does not count them. What is written and moved is by the prose.
 
 use crate::areas::areas;
 use crate::case::Case;
 use crate::choices::{known, known_but, unknown, Choices, SliceChoices, MOST, RULES, SLICE_MOST};
 use crate::counts::Counts;
 use crate::damage::damaged;
-use crate::drawing::{commas, pairs, MOST_POINTS, MOST_SEGMENTS, WIDTH};
+use crate::drawing::{comma_text, commas, pairs, MOST_POINTS, MOST_SEGMENTS, WIDTH};
+use crate::forms::{with_lots, without_lots};
 use crate::generate::{accepted, Generator, JOINED, SCATTERED};
 use crate::loops::Loops;
+use crate::move_cases;
+use crate::mover::Asked;
 use crate::output::{Output, CLIP_EACH, SLICE_EACH};
 use crate::point_lists;
 use crate::prose::{of_split, Checked, Refusal};
 use crate::random::Random;
 use crate::refusals;
 use crate::stored::{self, fills_answer};
+use crate::stored_texts;
 use crate::theirs::{self, Theirs};
 use crate::trials;
 use jumperclay::raw::{Clipped, Looped};
@@ -29,7 +33,7 @@ type Line = (String, String);
 type MakeLine = fn(usize, &mut Random) -> Line;
 
 /// How many lines there are of each kind. The trials and the refusals are as many as there are.
-fn kinds() -> [(usize, MakeLine); 13] {
+fn kinds() -> [(usize, MakeLine); 15] {
     [
         (320, accepted_fills),
         (80, refused_fills),
@@ -44,6 +48,8 @@ fn kinds() -> [(usize, MakeLine); 13] {
         (refusals::fills().len(), |place, _| fills_line(&refusals::fills()[place])),
         (refusals::clips().len(), |place, _| clip_line(&refusals::clips()[place])),
         (refusals::slices().len(), |place, _| slice_line(&refusals::slices()[place])),
+        (move_cases::stored().len(), |place, _| text_line(&move_cases::stored()[place])),
+        (18, accepted_text),
     ]
 }
 
@@ -245,6 +251,25 @@ fn short_list(number: u64, random: &mut Random) -> Vec<i32> {
             return numbers;
         }
     }
+}
+
+/// The answer of a function that writes or moves a text, refused or not.
+fn text_line((asked, lent): &(Asked, usize)) -> Line {
+    stored_texts::line(asked, *lent)
+}
+
+/// Each function in turn, with a list exactly long enough or longer.
+fn accepted_text(place: usize, random: &mut Random) -> Line {
+    let numbers = accepted(&SCATTERED, 1..=8, random);
+    let choices = Choices::known(random);
+    let old = without_lots(comma_text(&numbers, choices).as_bytes());
+    let asked = match place % 3 {
+        0 => Asked::Write(numbers, choices),
+        1 => Asked::OldToNew(old),
+        _ => Asked::NewToOld(with_lots(&old)),
+    };
+    let needed = asked.due().needed();
+    text_line(&(asked, needed + place % 2))
 }
 
 /// One of the areas that a field of a line can hold.

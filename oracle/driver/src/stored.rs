@@ -1,12 +1,14 @@
-//! The stored answers: a drawing or a list of points a line in one file, its answer in the same line of another.
+//! The stored answers: a drawing, a list of points or a text a line in one file, its answer in the same line of another.
 //! `f,rule,ax,ay,bx,by,winding,bits,lot,...` has the answer `number,place,count,fill,...`,
 //! `c,rule,invert,boundary,ax,...` has `number,place,paths,points,steps,travel,length,...,x,y,...`,
 //! `s,rule,direction,area,ax,...` has `number,place,contours,points,length,...,role,...,x,y,...`, and
-//! `l,area,x,y,...` has `number,place,loops,points,length,...,x,y,...`.
+//! `l,area,x,y,...` has `number,place,loops,points,length,...,x,y,...`. Those of texts stand in `stored_texts.rs`.
 
+use crate::choices::Choices;
 use crate::drawing::{commas, MOST_POINTS, MOST_SEGMENTS};
 use crate::output::{Output, CLIP_EACH, SLICE_EACH};
 use crate::places::in_repository;
+use crate::stored_texts;
 use jumperclay::raw;
 use std::path::{Path, PathBuf};
 use std::{fs, io};
@@ -26,6 +28,21 @@ pub fn questions(folder: &Path) -> io::Result<String> {
 
 fn read(folder: &Path) -> io::Result<(String, String)> {
     Ok((questions(folder)?, fs::read_to_string(folder.join(ANSWERS))?))
+}
+
+/// The drawings to fill, clip and slice, each with the choices of a clip run.
+pub fn drawings(folder: &Path) -> io::Result<Vec<(Choices, Vec<i32>)>> {
+    let drawing = |question| {
+        let (run, numbers) = parsed(question)?;
+        let (choices, segments) = match (run, &numbers[..]) {
+            ("f", &[rule, ref segments @ ..]) => ([rule, 0, 1], segments),
+            ("c", &[rule, invert, boundary, ref segments @ ..]) => ([rule, invert, boundary], segments),
+            ("s", &[rule, direction, _, ref segments @ ..]) => ([rule, direction, 1], segments),
+            _ => return None,
+        };
+        Some((choices.into(), segments.to_vec()))
+    };
+    Ok(questions(folder)?.lines().filter_map(drawing).collect())
 }
 
 pub fn fills_answer(number: u64, place: u64, fills: &[u8]) -> String {
@@ -54,11 +71,21 @@ pub fn replay(folder: &Path) -> bool {
     same && lines > 0 && wrong.is_empty()
 }
 
-/// None where the question cannot be read, or more is counted than was lent.
-fn ours(question: &str) -> Option<String> {
+/// The letter and the numbers of a question; none where something else follows the letter.
+pub fn parsed(question: &str) -> Option<(&str, Vec<i32>)> {
     let (run, numbers) = question.split_once(',')?;
     let numbers: Result<Vec<i32>, _> = numbers.split(',').map(str::parse).collect();
-    match (run, &numbers.ok()?[..]) {
+    Some((run, numbers.ok()?))
+}
+
+/// None where the question cannot be read, or more is counted than was lent.
+fn ours(question: &str) -> Option<String> {
+    stored_texts::ours(question).or_else(|| of_numbers(question))
+}
+
+fn of_numbers(question: &str) -> Option<String> {
+    let (run, numbers) = parsed(question)?;
+    match (run, &numbers[..]) {
         ("f", &[rule, ref segments @ ..]) => {
             let mut list = [0; MOST_SEGMENTS];
             let filled = raw::fills(segments, rule, &mut list);

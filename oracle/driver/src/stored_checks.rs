@@ -26,8 +26,7 @@ pub fn check(folder: &Path) -> bool {
 
 /// What the run and the check alone say of a line, with each set of lists. None of a line of another run.
 fn verdicts(question: &str) -> Option<Vec<(Verdict, Verdict)>> {
-    let (run, numbers) = question.split_once(',')?;
-    let numbers: Vec<i32> = numbers.split(',').map(str::parse).collect::<Result<_, _>>().ok()?;
+    let (run, numbers) = stored::parsed(question)?;
     match (run, &numbers[..]) {
         ("f", &[rule, ref segments @ ..]) => {
             Some(rooms([1, 0, 0], segments).map(|[fills, ..]| of_fills(segments, rule, fills)).collect())

@@ -43,6 +43,19 @@ impl<K: Ord + Display, const N: usize> Table<K, N> {
         keys.iter().filter(|key| !self.is_full(key))
     }
 
+    /// Of the keys that are wanted in each column those that are missing there, with the column.
+    pub fn lacking_by_column(&self, keys: &[Vec<K>; N]) -> Vec<(usize, K)>
+    where
+        K: Copy,
+    {
+        let is_missing = |key: &K, column: usize| self.rows.get(key).is_none_or(|counts| counts[column] == 0);
+        let of_column = |(column, keys): (usize, &Vec<K>)| {
+            let missing = keys.iter().filter(|&key| is_missing(key, column));
+            missing.map(|&key| (column, key)).collect::<Vec<_>>()
+        };
+        keys.iter().enumerate().flat_map(of_column).collect()
+    }
+
     pub fn print(&self, heading: &str, columns: [&str; N]) {
         let cells = |cells: [String; N]| cells.map(|cell| format!("{cell:>14}")).concat();
         println!("{heading:<42}{}", cells(columns.map(str::to_string)));

@@ -1,4 +1,4 @@
-//! The comma text, read by document 01's prose.
+//! The comma text, read by the prose of documents 01 and 02.
 
 use crate::choices::Choices;
 use crate::drawing::WIDTH;
@@ -10,13 +10,19 @@ const TEN_DIGITS: u32 = 1_000_000_000;
 
 /// The choices and the numbers of the segments; or the first bad line, 0 where the text is too long.
 pub fn read(text: &[u8]) -> Result<(Choices, Vec<i32>), u64> {
+    let (choices, rows) = rows::<WIDTH>(text)?;
+    Ok((choices, rows.concat()))
+}
+
+/// The same where segments have so many fields: a row of numbers each.
+pub fn rows<const FIELDS: usize>(text: &[u8]) -> Result<(Choices, Vec<[i32; FIELDS]>), u64> {
     if text.len() > MOST_BYTES {
         return Err(0);
     }
     let mut lines = (1..).zip(text.split_inclusive(|&byte| byte == b'\n'));
     let first = lines.next().and_then(|(_, line)| row(line)).ok_or(1u64)?;
-    let rows: Result<Vec<[i32; WIDTH]>, u64> = lines.map(|(place, line)| row(line).ok_or(place)).collect();
-    Ok((Choices::from(first), rows?.concat()))
+    let rows: Result<Vec<_>, u64> = lines.map(|(place, line)| row(line).ok_or(place)).collect();
+    Ok((Choices::from(first), rows?))
 }
 
 /// The numbers of a line, where it ends in LF and has so many.
