@@ -34,9 +34,10 @@
    The rule is 0 even-odd, 1 nonzero, 2 positive or 3 negative.
 
    Nothing is allocated. A call with up to 128 segments needs up to 26 KB of stack for fills, 29 KB for a
-   clip and 73 KB for a slice; with more, 54 KB, 57 KB and 78 KB. A split needs up to 45 KB, a reading
-   up to 1 KB. (A KB is 1,024 bytes.) Calls share nothing but what they are passed, so any number of
-   threads may call at once, each with lists of its own. */
+   clip, 73 KB for a slice, 24 KB to write a text and 76 KB to move one; with more, 54 KB, 57 KB, 78 KB,
+   52 KB and 104 KB. A split needs up to 45 KB, a reading up to 1 KB. (A KB is 1,024 bytes.) Calls share
+   nothing but what they are passed, so any number of threads may call at once, each with lists of its
+   own. */
 
 #ifndef OVERLAY_H
 #define OVERLAY_H

@@ -1,6 +1,9 @@
 //! Each call on a thread with just as much stack as `overlay.h` says that it needs.
 
-use jumperclay::{clip, fills, read, slice, split, ClipRule, Direction, Rule, MOST_SEGMENTS, WIDTH};
+use jumperclay::{
+    clip, fills, new_to_old, old_to_new, read, slice, split, write, Choices, ClipRule, Direction, Rule, MOST_SEGMENTS,
+    WIDTH,
+};
 use std::thread;
 
 /// Bytes, as said in `overlay.h`: of a small drawing, with up to 128 segments, and of any.
@@ -9,6 +12,8 @@ const CLIP: [usize; 2] = [29 << 10, 57 << 10];
 const SLICE: [usize; 2] = [73 << 10, 78 << 10];
 const SPLIT: [usize; 2] = [45 << 10; 2];
 const READ: usize = 1 << 10;
+const WRITE: [usize; 2] = [24 << 10, 52 << 10];
+const MOVE: [usize; 2] = [76 << 10, 104 << 10];
 /// What the thread and the safe function around the call take for themselves.
 const BESIDE: usize = 8 << 10;
 
@@ -64,11 +69,20 @@ fn points() {
     }
 }
 
+/// The text of a drawing whose lots are 0, written, read, and moved there and back.
 #[test]
 fn texts() {
-    let drawing = squares(MOST_SEGMENTS);
-    let line = |numbers: &[i32]| numbers.iter().map(i32::to_string).collect::<Vec<_>>().join(",") + "\n";
-    let text: String = [line(&[1, 0, 1])].into_iter().chain(drawing.chunks(WIDTH).map(line)).collect();
-    let segments = on_a_thread(READ, move || read(text.as_bytes()).map(|text| text.segments));
-    assert_eq!(segments.ok(), Some(drawing));
+    let choices = Choices { rule: 1, invert: 0, boundary: 1 };
+    for (size, segments) in SIZES.into_iter().enumerate() {
+        let mut drawing = squares(segments);
+        drawing.iter_mut().skip(WIDTH - 1).step_by(WIDTH).for_each(|lot| *lot = 0);
+        let numbers = drawing.clone();
+        let text = on_a_thread(WRITE[size], move || write(&numbers, choices)).expect("the drawing is accepted");
+        let bytes = text.clone();
+        let read = on_a_thread(READ, move || read(&bytes)).expect("the text is good");
+        assert_eq!((read.segments, read.choices), (drawing, choices));
+        let bytes = text.clone();
+        let old = on_a_thread(MOVE[size], move || new_to_old(&bytes)).expect("no lot is lost");
+        assert_eq!(on_a_thread(MOVE[size], move || old_to_new(&old)), Ok(text));
+    }
 }

@@ -2,3 +2,4 @@ pub mod Old
 pub mod Reading
 pub mod Rows
 pub mod Forms
+pub mod Lengths
