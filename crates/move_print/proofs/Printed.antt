@@ -10,14 +10,13 @@ use Rattle.refusal.specs.declared.Verdict.{Verdict}
 use Rattle.refusal.specs.declared.Verdict.the-variants as verdict-is
 use Rattle.refusal.specs.Order.{refuseIf, _then_}
 use Rattle.refusal.specs.Asked.{lent, tooShort}
-use Rattle.refusal.proofs.Order.{accepted-then, accepted-if}
 use Rattle.writing.specs.Lines.{refusedLine}
 use Rattle.text.specs.Grammar.{mostBytes}
-use Rattle.text.proofs.Storing.{long-enough}
 use Rattle.text.proofs.Storing.StoredRows.{differ}
 use Rattle.text_forms.specs.declared.Form.{Form}
 use Rattle.stored_text.specs.declared.Wrote.the-variants.{Done, Refused}
 use Rattle.stored_text.specs.Outcome.{Outcome, outcome, answered, writtenUnless, moveOutcome}
+use Rattle.stored_text.proofs.Written.{was-written}
 use Rattle.move_print.specs.Answer.{printed, answerTo}
 
 -- the text, or the line of a refusal
@@ -39,21 +38,6 @@ pub record Stands (bytes old : List ℕ) (n : ℕ) (new : List ℕ) : Type 0 whe
 pub stands : (bytes old : List ℕ) {n : ℕ} {new : List ℕ} → length bytes ≤ length old → n ≡ length bytes → new ≡ written bytes old → Stands bytes old n new
 stands bytes old h e l = record { count = e; list = l; inside = omega (arith, e, ap length l, length-written bytes old h, h) }
 
-done-stands : (v : Verdict) (text old : List ℕ) {n : ℕ} {l : List ℕ} → (v ≡ verdict-is.Accepted → length text ≤ length old) → outcome (Done n) l ≡ answered v text old → Stands (printedBy v text) old n l
-done-stands verdict-is.Accepted text old {n} {l} room e =
-    let a = ap (λ (o : Outcome). o .answer) e in
-    let count : n ≡ length text = cc in
-    stands text old (room refl) count (ap (λ (o : Outcome). o .list) e)
-done-stands (verdict-is.Refused number place) text old room e = let a = ap (λ (o : Outcome). o .answer) e in absurd (differ (cc))
-
-refused-line : (v : Verdict) (text old : List ℕ) {number place : ℕ} {l : List ℕ} → outcome (Refused number place) l ≡ answered v text old → (refusedLine number place ≡ printedBy v text) × (l ≡ old)
-refused-line verdict-is.Accepted text old e = let a = ap (λ (o : Outcome). o .answer) e in absurd (differ (cc))
-refused-line (verdict-is.Refused n p) text old {number} {place} e =
-    let a = ap (λ (o : Outcome). o .answer) e in
-    let numbers : number ≡ n = cc in
-    let places : place ≡ p = cc in
-    (ap₂ refusedLine numbers places, ap (λ (o : Outcome). o .list) e)
-
 module _ (before : Verdict) (text old : List ℕ) where
   abbrev verdictOn : ℕ → Verdict
   verdictOn entries = before then refuseIf 11 (tooShort (length text) (lent entries 1))
@@ -63,17 +47,29 @@ module _ (before : Verdict) (text old : List ℕ) where
   unfolding writtenUnless
   same-written other e = by-verdict (verdictOn (length old)) text old ∙ ap (λ n. printedBy (verdictOn n) text) e ∙ sym (by-verdict (verdictOn (length other)) text other)
 
-  -- a text that was written stands there, or the line of the refusal is yet to be put
+  -- a text that was written stands there,
   done-written : {n : ℕ} {l : List ℕ} → outcome (Done n) l ≡ writtenUnless before text old → Stands (printed (writtenUnless before text old)) old n l
-  unfolding writtenUnless
+  unfolding printed
   done-written {n} {l} e =
-      let v = verdictOn (length old) in
-      let room : v ≡ verdict-is.Accepted → length text ≤ length old = λ a. long-enough (length text) (length old) (accepted-if 11 (tooShort (length text) (lent (length old) 1)) (accepted-then before _ a .1)) in
-      subst (λ (bytes : List ℕ). Stands bytes old n l) (sym (by-verdict v text old)) (done-stands v text old room e)
+      let w = was-written before text old (sym (ap (λ (o : Outcome). o .answer) e)) in
+      let is = e ∙ w .is in
+      let answers = ap (λ (o : Outcome). o .answer) is in
+      let count : n ≡ length text = cc in
+      let bytes : printed (writtenUnless before text old) ≡ text = ap printed (w .is) ∙ take-written text old (length text) refl in
+      subst (λ (b : List ℕ). Stands b old n l) (sym bytes) (stands text old (w .fits) count (ap (λ (o : Outcome). o .list) is))
 
+  -- or the line of the refusal is yet to be put
   refused-written : {number place : ℕ} {l : List ℕ} → outcome (Refused number place) l ≡ writtenUnless before text old → (refusedLine number place ≡ printed (writtenUnless before text old)) × (l ≡ old)
   unfolding writtenUnless
-  refused-written e = let v = verdictOn (length old) in let q = refused-line v text old e in (q .0 ∙ sym (by-verdict v text old), q .1)
+  refused-written {number} {place} {l} e = go (verdictOn (length old)) e
+    where
+      go : (v : Verdict) → outcome (Refused number place) l ≡ answered v text old → (refusedLine number place ≡ printed (answered v text old)) × (l ≡ old)
+      go verdict-is.Accepted e = let a = ap (λ (o : Outcome). o .answer) e in absurd (differ (cc))
+      go (verdict-is.Refused n p) e =
+          let a = ap (λ (o : Outcome). o .answer) e in
+          let numbers : number ≡ n = cc in
+          let places : place ≡ p = cc in
+          (ap₂ refusedLine numbers places ∙ sym (by-verdict (verdict-is.Refused n p) text old), ap (λ (o : Outcome). o .list) e)
 
 module _ (from to : Form) (text old : List ℕ) (room : length old ≡ mostBytes) where
   -- whatever the list held

@@ -4,12 +4,10 @@ use mathlib.Core.Bool.{Bool, true, false, cond, true≢false}
 use mathlib.Core.List.{List}
 use Prim.Native.Nat.{ℕ, _*_, _≤_}
 use native.Mathlib.Omega.{arith}
-use borrow.Author.Tests.{le-ltb}
 use lib.ListN.{length, take}
 use lib.IntN.{ℤ}
 use Rattle.integers.proofs.Booleans.{same-test}
 use Rattle.lists.specs.Written.{written}
-use Rattle.lists.proofs.Written.{take-written}
 use Rattle.refusal.specs.declared.Verdict.{Verdict}
 use Rattle.refusal.specs.declared.Verdict.the-variants.{Accepted, Refused}
 use Rattle.refusal.specs.Order.{refuseIf, isAccepted, _then_}
@@ -23,7 +21,6 @@ use Rattle.checks.proofs.Runs.{passed}
 use Rattle.text.specs.declared.Choices.{Choices}
 use Rattle.text.specs.Grammar.{Parsed, BadLine, Drawn, mostBytes}
 use Rattle.text.specs.Storing.{malformed, choicesIn, numbersIn}
-use Rattle.text.proofs.Storing.{long-enough}
 use Rattle.text.proofs.Storing.StoredRows.{differ}
 use Rattle.text_forms.specs.declared.Form.{Form}
 use Rattle.text_forms.specs.declared.Form.the-variants.{New}
@@ -33,30 +30,9 @@ use Rattle.text_forms.proofs.Forms.{Kept, Held, reads, held, one-text, moves}
 use Rattle.stored_text.specs.declared.Wrote.the-variants.{Done}
 use Rattle.stored_text.specs.Outcome.{Outcome, outcome, inputVerdict, lotsOf, answered, writtenUnless, writeOutcome, movedInto, moveOutcome}
 use Rattle.stored_text.specs.Laws.{bytesOf, acceptsParsed, acceptsText, ReadsBack, OnlyText, ThereAndBack, MovedSame, AcceptedAlike, AcceptedMoves}
+use Rattle.stored_text.proofs.Written.{writes, was-written, bytes-written}
 use Rattle.stored_text.proofs.Lots.{lots-kept, kept-lots}
 use Rattle.stored_text.proofs.Accepted.{accepted-fits, accepted-text}
-
--- ---- a text is written exactly where nothing was refused before and it fits
-record Written (before : Verdict) (text old : List ℕ) : Type 0 where
-  accepted : before ≡ Accepted
-  fits : length text ≤ length old
-  is : writtenUnless before text old ≡ outcome (Done (length text)) (written text old)
-
-writes : {before : Verdict} (text old : List ℕ) → before ≡ Accepted → length text ≤ length old → writtenUnless before text old ≡ outcome (Done (length text)) (written text old)
-unfolding writtenUnless tooShort
-writes text old e h = rw (e, le-ltb (length old) (1 * length text) (omega (arith, h)))
-
-was-written : (before : Verdict) (text old : List ℕ) {n : ℕ} → writtenUnless before text old .answer ≡ Done n → Written before text old
-unfolding writtenUnless
-was-written before text old {n} e = go before refl (tooShort (length text) (lent (length old) 1)) refl e
-  where
-    go : (v : Verdict) → before ≡ v → (b : Bool) → tooShort (length text) (lent (length old) 1) ≡ b → answered (v then refuseIf 11 b) text old .answer ≡ Done n → Written before text old
-    go (Refused number place) p b q a = absurd (differ (cc))
-    go Accepted p true q a = absurd (differ (cc))
-    go Accepted p false q a = let room = long-enough (length text) (length old) q in record { accepted = p; fits = room; is = writes text old p room }
-
-bytes-written : {before : Verdict} {text old : List ℕ} → Written before text old → bytesOf (writtenUnless before text old) ≡ text
-bytes-written {before} {text} {old} w = ap bytesOf (w .is) ∙ take-written text old (length text) refl
 
 -- ---- a text that is accepted
 record Good (form : Form) (text : List ℕ) (c : Choices) (numbers : List ℤ) : Type 0 where
@@ -100,6 +76,10 @@ accepts-good form text e = go (parsedIn form text) refl e
     go : (p : Parsed) → parsedIn form text ≡ p → acceptsParsed p ≡ true → Found form text
     go (BadLine line) q a = absurd (true≢false (sym a))
     go (Drawn c numbers) q a = record { choices = c; numbers = numbers; good = record { parsed = q; accepted = is-accepted (inputVerdict c numbers) a } }
+
+-- it is not too long
+pub accepted-short : (form : Form) (text : List ℕ) → acceptsText form text ≡ true → length text ≤ mostBytes
+accepted-short form text e = let f = accepts-good form text e in holds (f .good) .holds .few
 
 -- ---- what was moved
 record Moved (from to : Form) (text old : List ℕ) : Type 0 where

@@ -1,5 +1,6 @@
 pub mod Lots
 pub mod Moving
+pub mod Written
 pub mod Accepted
 pub mod Laws
 pub mod Cases

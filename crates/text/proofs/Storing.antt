@@ -12,14 +12,17 @@ use lib.Seq.{sets, take-all}
 use lib.IntN.{ℤ}
 use Rattle.lists.specs.Written.{written}
 use Rattle.lists.proofs.Written.{length-written, sets-front}
+use Rattle.refusal.specs.declared.Verdict.{Verdict}
+use Rattle.refusal.specs.declared.Verdict.the-variants as verdict-is
 use Rattle.refusal.specs.Order.{refuseIf}
+use Rattle.refusal.proofs.Order.{accepted-then, accepted-if}
 use Rattle.refusal.specs.Asked.{lent, tooShort}
 use Rattle.text.specs.declared.Choices.{Choices}
 use Rattle.text.specs.declared.Reading.the-variants.{Read, Refused}
 use Rattle.text.specs.declared.lines.Scanned.{Scanned}
 use Rattle.text.specs.declared.lines.Scanned.the-variants as scanned-is
 use Rattle.text.specs.Grammar.{RowsFound, Bad, Rows, andLines, Parsed, BadLine, Drawn, choicesOf, parsedRows}
-use Rattle.text.specs.Storing.{Outcome, outcome, readVerdict, answered, readInto, Nothing, Numbers, rowsStored, linesStored}
+use Rattle.text.specs.Storing.{Outcome, outcome, malformed, numbersIn, readVerdict, answered, readInto, Nothing, Numbers, rowsStored, linesStored}
 use Rattle.text.proofs.Storing.StoredRows.{differ}
 pub mod StoredRows
 
@@ -63,17 +66,15 @@ good-answer first (Rows rows) count l m old new (scanned-is.Good n) e f t =
     ap₂ (λ k t. outcome (Read (choicesOf first) k) t) n all ∙ sym (ap (λ (b : Bool). answered (refuseIf 11 b) (Drawn (choicesOf first) zs) old) long)
 
 -- ---- the list
--- all numbers of an accepted text stand in the list
+-- all numbers of what was accepted stand in the list
+pub answered-held : (v : Verdict) (p : Parsed) (old : List ℤ) {c : Choices} {n : ℕ} {l : List ℤ} → (v ≡ verdict-is.Accepted → length (numbersIn p) ≤ length old) → outcome (Read c n) l ≡ answered v p old → n ≤ length l
+answered-held verdict-is.Accepted p old {c} {n} {l} room e =
+    let q = ap (λ (o : Outcome). o .answer) e in
+    let count : n ≡ length (numbersIn p) = cc in
+    let list : l ≡ written (numbersIn p) old = ap (λ (o : Outcome). o .list) e in
+    omega (arith, count, ap length list, length-written (numbersIn p) old (room refl), room refl)
+answered-held (verdict-is.Refused number place) p old room e = let q = ap (λ (o : Outcome). o .answer) e in absurd (differ (cc))
+
 pub read-held : (old : List ℤ) (p : Parsed) {c : Choices} {n : ℕ} {l : List ℤ} → outcome (Read c n) l ≡ readInto old p → n ≤ length l
 unfolding readVerdict
-read-held old (BadLine line) {c} {n} {l} e = let q = ap (λ (o : Outcome). o .answer) e in absurd (differ (cc))
-read-held old (Drawn d numbers) {c} {n} {l} e = by (tooShort (length numbers) (lent (length old) 1)) refl e
-  where
-    by : (b : Bool) → tooShort (length numbers) (lent (length old) 1) ≡ b → outcome (Read c n) l ≡ answered (refuseIf 11 b) (Drawn d numbers) old → n ≤ length l
-    by true t e = let q = ap (λ (o : Outcome). o .answer) e in absurd (differ (cc))
-    by false t e =
-        let q = ap (λ (o : Outcome). o .answer) e in
-        let count : n ≡ length numbers = cc in
-        let list : l ≡ written numbers old = ap (λ (o : Outcome). o .list) e in
-        let room = long-enough (length numbers) (length old) t in
-        omega (arith, count, ap length list, length-written numbers old room, room)
+read-held old p e = answered-held (readVerdict p (length old)) p old (λ a. long-enough (length (numbersIn p)) (length old) (accepted-if 11 _ (accepted-then (malformed p) _ a .1))) e

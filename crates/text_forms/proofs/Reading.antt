@@ -11,8 +11,10 @@ use lib.ListN.{length, take, length-append}
 use lib.IntN.{ℤ}
 use Rattle.integers.proofs.Booleans.{same-test}
 use Rattle.lists.specs.Written.{written}
-use Rattle.lists.proofs.Written.{length-written, take-written}
+use Rattle.lists.proofs.Written.{take-written}
+use Rattle.refusal.specs.declared.Verdict.the-variants.{Accepted}
 use Rattle.refusal.specs.Order.{refuseIf}
+use Rattle.refusal.proofs.Order.{accepted-then, accepted-if}
 use Rattle.refusal.specs.Asked.{wrongLength, lent, tooShort}
 use Rattle.refusal.proofs.Asked.{few-entries, whole-entries}
 use Rattle.segm.specs.Segments.{width, laid}
@@ -21,8 +23,8 @@ use Rattle.text.specs.declared.Choices.{Choices}
 use Rattle.text.specs.declared.Reading.{Reading}
 use Rattle.text.specs.declared.Reading.the-variants.{Read, Refused}
 use Rattle.text.specs.Grammar.{Parsed, BadLine, Drawn, parsed}
-use Rattle.text.specs.Storing.{Outcome, outcome, readVerdict, answered, readInto}
-use Rattle.text.proofs.Storing.StoredRows.{differ}
+use Rattle.text.specs.Storing.{Outcome, outcome, malformed, numbersIn, readVerdict, answered, readInto}
+use Rattle.text.proofs.Storing.{answered-held}
 use Rattle.text.proofs.Writing.{Wide, found}
 use Rattle.text_forms.specs.declared.Form.the-variants.{Old, New}
 use Rattle.text_forms.specs.Reading.{oldSegments, withAll, drawnVerdict, drawnInto}
@@ -107,14 +109,9 @@ module _ (numbers : List ℤ) where
 -- all numbers of an accepted drawing stand in it
 pub drawn-held : (old : List ℤ) (p : Parsed) {c : Choices} {n : ℕ} {l : List ℤ} → length old ≡ 1024 * width → outcome (Read c n) l ≡ drawnInto old p → n ≤ length l
 unfolding drawnVerdict
-drawn-held old (BadLine line) {c} {n} {l} room e = let q = ap (λ (o : Outcome). o .answer) e in absurd (differ (cc))
-drawn-held old (Drawn d numbers) {c} {n} {l} room e = by (wrongLength width 1024 (length numbers)) refl e
+drawn-held old p room e = answered-held (drawnVerdict p) p old few e
   where
-    by : (b : Bool) → wrongLength width 1024 (length numbers) ≡ b → outcome (Read c n) l ≡ answered (refuseIf 2 b) (Drawn d numbers) old → n ≤ length l
-    by true t e = let q = ap (λ (o : Outcome). o .answer) e in absurd (differ (cc))
-    by false t e =
-        let q = ap (λ (o : Outcome). o .answer) e in
-        let count : n ≡ length numbers = cc in
-        let list : l ≡ written numbers old = ap (λ (o : Outcome). o .list) e in
-        let few : length numbers ≤ length old = omega (arith, few-entries width 1024 (length numbers) t, whole-entries width 1024 (length numbers) t, room) in
-        omega (arith, count, ap length list, length-written numbers old few, few)
+    few : drawnVerdict p ≡ Accepted → length (numbersIn p) ≤ length old
+    few a =
+        let right = accepted-if 2 (wrongLength width 1024 (length (numbersIn p))) (accepted-then (malformed p) _ a .1) in
+        omega (arith, few-entries width 1024 (length (numbersIn p)) right, whole-entries width 1024 (length (numbersIn p)) right, room)
