@@ -1,18 +1,16 @@
 -- The laws of texts that are written and moved.
 use mathlib.Core.Path.{_≡_, refl, sym, ap, ap₂, subst, _∙_}
-use mathlib.Core.Bool.{Bool, true, false, cond, true≢false}
+use mathlib.Core.Bool.{true, false, true≢false}
 use mathlib.Core.List.{List}
-use Prim.Native.Nat.{ℕ, _*_, _≤_}
+use Prim.Native.Nat.{ℕ, _≤_}
 use native.Mathlib.Omega.{arith}
-use lib.ListN.{length, take}
+use lib.ListN.{length}
 use lib.IntN.{ℤ}
 use Rattle.integers.proofs.Booleans.{same-test}
 use Rattle.lists.specs.Written.{written}
-use Rattle.refusal.specs.declared.Verdict.{Verdict}
-use Rattle.refusal.specs.declared.Verdict.the-variants.{Accepted, Refused}
-use Rattle.refusal.specs.Order.{refuseIf, isAccepted, _then_}
-use Rattle.refusal.specs.Asked.{wrongLength, lent, tooShort}
-use Rattle.refusal.proofs.Order.{accepted-then, accepted-if, is-accepted}
+use Rattle.refusal.specs.declared.Verdict.the-variants.{Accepted}
+use Rattle.refusal.specs.Order.{isAccepted, _then_}
+use Rattle.refusal.proofs.Order.{accepted-then, is-accepted}
 use Rattle.refusal.proofs.Asked.{whole-entries}
 use Rattle.segm.specs.Segments.{Drawing, width, segments, laid}
 use Rattle.segm.proofs.Segments.Laid.{laid-segments}
@@ -20,7 +18,7 @@ use Rattle.checks.specs.Accepted.{accepts}
 use Rattle.checks.proofs.Runs.{passed}
 use Rattle.text.specs.declared.Choices.{Choices}
 use Rattle.text.specs.Grammar.{Parsed, BadLine, Drawn, mostBytes}
-use Rattle.text.specs.Storing.{malformed, choicesIn, numbersIn}
+use Rattle.text.specs.Storing.{choicesIn, numbersIn}
 use Rattle.text.proofs.Storing.StoredRows.{differ}
 use Rattle.text_forms.specs.declared.Form.{Form}
 use Rattle.text_forms.specs.declared.Form.the-variants.{New}
@@ -28,7 +26,7 @@ use Rattle.text_forms.specs.Forms.{writing}
 use Rattle.text_forms.specs.Reading.{parsedIn}
 use Rattle.text_forms.proofs.Forms.{Kept, Held, reads, held, one-text, moves}
 use Rattle.stored_text.specs.declared.Wrote.the-variants.{Done}
-use Rattle.stored_text.specs.Outcome.{Outcome, outcome, inputVerdict, lotsOf, answered, writtenUnless, writeOutcome, movedInto, moveOutcome}
+use Rattle.stored_text.specs.Outcome.{outcome, inputVerdict, lotsOf, writeOutcome, movedInto, moveOutcome}
 use Rattle.stored_text.specs.Laws.{bytesOf, acceptsParsed, acceptsText, ReadsBack, OnlyText, ThereAndBack, MovedSame, AcceptedAlike, AcceptedMoves}
 use Rattle.stored_text.proofs.Written.{writes, was-written, bytes-written}
 use Rattle.stored_text.proofs.Lots.{lots-kept, kept-lots}

@@ -1,20 +1,17 @@
 -- 14: which drawings it leaves.
-use mathlib.Core.Path.{_≡_, refl, sym, ap, _∙_}
+use mathlib.Core.Path.{_≡_, refl}
 use mathlib.Core.Bool.{Bool, true, false, cond}
-use Prim.Native.Nat.{ℕ, _<_}
+use Prim.Native.Nat.{ℕ}
 use native.Mathlib.Omega.{arith}
 use lib.ListN.{length}
 use lib.IntN.{pos}
 use Rattle.geom.proofs.Points.{eq-eqZ, ne-eqZ}
-use Rattle.lists.specs.Members.{_∈_}
 use Rattle.refusal.specs.declared.Verdict.the-variants.{Accepted}
-use Rattle.refusal.specs.Order.{first}
 use Rattle.refusal.proofs.Order.{first-none, all-none}
-use Rattle.segm.specs.declared.Segment.{Segment}
 use Rattle.segm.specs.Segments.{Drawing, segmentAt}
 use Rattle.segm.proofs.Segments.{everywhere, segment-in}
 use Rattle.text_forms.specs.declared.Form.{Form}
-use Rattle.text_forms.specs.declared.Form.the-variants.{Old, New}
+use Rattle.text_forms.specs.declared.Form.the-variants.{Old}
 use Rattle.text_forms.specs.Forms.{takesLot}
 use Rattle.text_forms.proofs.Forms.{Kept}
 use Rattle.stored_text.specs.Outcome.{lotAt, lotsOf}

@@ -21,7 +21,7 @@ use Rattle.text.specs.declared.Choices.{Choices}
 use Rattle.text.specs.declared.Reading.the-variants.{Read, Refused}
 use Rattle.text.specs.declared.lines.Scanned.{Scanned}
 use Rattle.text.specs.declared.lines.Scanned.the-variants as scanned-is
-use Rattle.text.specs.Grammar.{RowsFound, Bad, Rows, andLines, Parsed, BadLine, Drawn, choicesOf, parsedRows}
+use Rattle.text.specs.Grammar.{RowsFound, Bad, Rows, andLines, Parsed, Drawn, choicesOf, parsedRows}
 use Rattle.text.specs.Storing.{Outcome, outcome, malformed, numbersIn, readVerdict, answered, readInto, Nothing, Numbers, rowsStored, linesStored}
 use Rattle.text.proofs.Storing.StoredRows.{differ}
 pub mod StoredRows

@@ -1,7 +1,7 @@
 -- In the new form a drawing without lots has two bytes more for each segment.
 use mathlib.Core.Path.{_≡_, refl}
 use mathlib.Core.Bool.{true}
-use mathlib.Core.List.{List, [], _∷_, map}
+use mathlib.Core.List.{[], _∷_, map}
 use mathlib.Core.Logic.{inl, inr}
 use Prim.Native.Nat.{_+_, _*_}
 use native.Mathlib.Omega.{arith}

@@ -1,11 +1,11 @@
 -- The rows of a drawing's text, as they stand in its list of numbers; how many bytes they have.
-use mathlib.Core.Path.{_≡_, refl, sym, ap, _∙_}
+use mathlib.Core.Path.{_≡_, sym, ap, _∙_}
 use mathlib.Core.List.{List, [], _∷_, _++_, map}
 use mathlib.Core.Logic.{_⊎_, inl, inr}
-use Prim.Native.Nat.{ℕ, zero, suc, _+_, _*_, _-_, _<_, _≤_}
+use Prim.Native.Nat.{ℕ, suc, _+_, _*_, _-_, _<_, _≤_}
 use native.Mathlib.Numerals.{add-one}
 use native.Mathlib.Omega.{arith}
-use lib.ListN.{length, getD, take, drop, length-drop, length-take, length-map, drop-of-length-le}
+use lib.ListN.{length, take, drop, length-drop, length-take, length-map, drop-of-length-le}
 use lib.Seq.{drop-cons, take-take}
 use lib.IntN.{ℤ, pos}
 use Rattle.lists.specs.Members.{_∈_}

@@ -1,7 +1,6 @@
 -- The answer decides the arm.
 use borrow.Author.Needs.{needs}
 use mathlib.Core.Path.{sym, ap}
-use Rattle.build.specs.declared.run.Filled.{Filled}
 use Rattle.c_structs.specs.Structs.{writeOf}
 use Rattle.c_structs.proofs.write_of.Statement.{statement}
 use Rattle.c_structs.proofs.write_of.Tie as tie

@@ -1,6 +1,6 @@
 -- What was refused before stays; then the form decides.
 use borrow.Author.Needs.{needs}
-use mathlib.Core.Path.{_≡_, refl, sym, ap, ap₂, _∙_}
+use mathlib.Core.Path.{_≡_, refl, sym, ap₂, _∙_}
 use Rattle.refusal.specs.declared.Verdict.{Verdict}
 use Rattle.refusal.specs.Order.{_then_}
 use Rattle.refusal.proofs.Order.{refused-then}

@@ -15,7 +15,7 @@ use Rattle.text.specs.Grammar.{parsed}
 use Rattle.text.specs.Storing.{Outcome, outcome, readOutcome}
 use Rattle.text.proofs.Storing.{read-held}
 use Rattle.text_forms.specs.declared.Form.the-variants.{Old}
-use Rattle.text_forms.specs.Reading.{oldSegments, parsedIn, drawnInto}
+use Rattle.text_forms.specs.Reading.{parsedIn, drawnInto}
 use Rattle.text_forms.proofs.Old.{length-old}
 use Rattle.text_forms.proofs.Reading.{lines-in, oldRead, old-read}
 use Rattle.text_forms.proofs.read_old.Statement.{statement}

@@ -1,8 +1,5 @@
 -- Too short a list or not.
-use mathlib.Core.Path.{sym, ap}
-use mathlib.Core.Bool.{Bool, cond}
 use borrow.Author.Tests.{eq-eqb, ne-eqb}
-use Rattle.text.specs.declared.Reading.the-variants.{Refused}
 use Rattle.text_forms.proofs.refused.Statement.{statement}
 use Rattle.text_forms.proofs.refused.Tie as tie
 
