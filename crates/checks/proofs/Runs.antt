@@ -1,5 +1,5 @@
 -- What acceptance of a run says of what it is asked first, and of its drawing.
-use mathlib.Core.Path.{_≡_, ap, _∙_}
+use mathlib.Core.Path.{_≡_, refl, ap, _∙_}
 use mathlib.Core.Bool.{true}
 use Prim.Native.Nat.{_*_, _≤_}
 use native.Mathlib.Omega.{arith}
@@ -8,9 +8,9 @@ use lib.IntN.{pos}
 use Rattle.lists.specs.Members.{_∈_, any}
 use Rattle.geom.specs.Points.{within}
 use Rattle.refusal.specs.declared.Verdict.{Verdict}
-use Rattle.refusal.specs.declared.Verdict.the-variants.{Accepted}
+use Rattle.refusal.specs.declared.Verdict.the-variants.{Accepted, Refused}
 use Rattle.refusal.specs.Order.{_then_}
-use Rattle.refusal.specs.Asked.{wrongLength, Choice, unknownChoice, Lent, tooShort}
+use Rattle.refusal.specs.Asked.{wrongLength, Choice, unknownChoice, Lent, tooShort, askedFirst}
 use Rattle.refusal.proofs.Order.{accepted-then}
 use Rattle.refusal.proofs.Asked.{AskedPasses, asked-passes, passes-asked, few-entries, all-known, all-long}
 use Rattle.segm.specs.Segments.{width, count, segments}
@@ -41,6 +41,11 @@ passed r e = let both = accepted-then (asked r) _ e in record { asks = asked-pas
 pub passes : (r : Run) → Passed r → verdict r ≡ Accepted
 unfolding verdict asked
 passes r p = ap (λ (v : Verdict). v then drawingVerdict (segments (r .numbers))) (passes-asked _ _ _ (p .asks)) ∙ p .drawing
+
+-- numbers of a wrong length are refused whatever they are
+pub wrong-refused : (r : Run) → wrongLength width 1024 (length (r .numbers)) ≡ true → verdict r ≡ Refused 2 0
+unfolding verdict asked askedFirst
+wrong-refused r e = rw e refl
 
 -- the code asks first, then looks at the drawing
 pub checked-verdict : (r : Run) {v w : Verdict} → v ≡ asked r → w ≡ (v then drawingVerdict (segments (r .numbers))) → w ≡ verdict r

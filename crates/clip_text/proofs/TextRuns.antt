@@ -7,10 +7,11 @@ use lib.IntN.{ℤ}
 use Rattle.lists.proofs.Written.{take-written}
 use Rattle.segm.specs.Segments.{width}
 use Rattle.refusal.specs.Order.{refuseIf}
-use Rattle.refusal.specs.Asked.{wrongLength, askedFirst}
-use Rattle.checks.specs.Runs.{asked, verdict, clipRun}
+use Rattle.refusal.specs.Asked.{wrongLength}
+use Rattle.checks.specs.Runs.{clipRun}
+use Rattle.checks.proofs.Runs.{wrong-refused}
 use Rattle.string_clip.specs.declared.Clipped.the-variants.{Refused}
-use Rattle.string_clip.specs.Run.{Lists, Outcome, outcome, clipOutcome}
+use Rattle.string_clip.specs.Run.{Lists, Outcome, outcome, runOf, clipOutcome}
 use Rattle.text.specs.declared.Choices.{Choices}
 use Rattle.text.specs.declared.Reading.{Reading}
 use Rattle.text.specs.declared.Reading.the-variants as reading-is
@@ -24,10 +25,9 @@ module _ (ls : Lists) where
   abbrev run : Choices → List ℤ → Outcome
   run c l = clipOutcome l (c .rule) (c .invert) (c .boundary) ls
 
-  -- too many are refused whatever they are
-  wrong-refused : (c : Choices) (l : List ℤ) → wrongLength width 1024 (length l) ≡ true → outcome (Refused 2 0) ls ≡ run c l
-  unfolding clipOutcome verdict asked askedFirst clipRun
-  wrong-refused c l e = rw e refl
+  too-many : (c : Choices) (l : List ℤ) → wrongLength width 1024 (length l) ≡ true → outcome (Refused 2 0) ls ≡ run c l
+  unfolding clipOutcome clipRun
+  too-many c l e = rw (wrong-refused (runOf l (c .rule) (c .invert) (c .boundary) ls) e) refl
 
   -- what the code does once it has read: it runs on the numbers
   abbrev pub runRead : Reading → List ℤ → Outcome
@@ -41,5 +41,5 @@ module _ (ls : Lists) where
   run-read (Drawn c numbers) old = by (wrongLength width 1024 (length numbers)) refl
     where
       by : (b : Bool) → wrongLength width 1024 (length numbers) ≡ b → (let o = answered (refuseIf 2 b) (Drawn c numbers) old in runRead (o .answer) (o .list) ≡ run c numbers)
-      by true e = wrong-refused c numbers e
+      by true e = too-many c numbers e
       by false e = ap (run c) (take-written numbers old (length numbers) refl)

@@ -8,9 +8,10 @@ use lib.IntN.{ℤ}
 use Rattle.lists.proofs.Written.{take-written}
 use Rattle.refusal.specs.declared.Verdict.the-variants as verdict-is
 use Rattle.refusal.specs.Order.{refuseIf, _then_}
-use Rattle.refusal.specs.Asked.{wrongLength, askedFirst}
+use Rattle.refusal.specs.Asked.{wrongLength}
 use Rattle.segm.specs.Segments.{width, segments}
-use Rattle.checks.specs.Runs.{asked, verdict}
+use Rattle.checks.specs.Runs.{clipInput}
+use Rattle.checks.proofs.Runs.{wrong-refused}
 use Rattle.checks.proofs.Accepted.{verdict-good}
 use Rattle.text.specs.declared.Choices.{Choices}
 use Rattle.text.specs.declared.Reading.{Reading}
@@ -27,11 +28,6 @@ use Rattle.stored_text.specs.Outcome.{Outcome, outcome, inputVerdict, lo
 pub few-segments : (c : Choices) (numbers : List ℤ) → inputVerdict c numbers ≡ verdict-is.Accepted → length (segments numbers) ≤ 1024
 few-segments c numbers e = verdict-good _ e .faultless .few
 
--- too many numbers are refused whatever they are
-wrong-refused : (c : Choices) (numbers : List ℤ) → wrongLength width 1024 (length numbers) ≡ true → inputVerdict c numbers ≡ verdict-is.Refused 2 0
-unfolding verdict asked askedFirst
-wrong-refused c numbers e = rw e refl
-
 module _ (to : Form) (old : List ℕ) where
   -- what becomes of choices and numbers
   abbrev pub moved : Choices → List ℤ → Outcome
@@ -47,5 +43,5 @@ module _ (to : Form) (old : List ℕ) where
   moved-read (Drawn c l) numbers = by (wrongLength width 1024 (length l)) refl
     where
       by : (b : Bool) → wrongLength width 1024 (length l) ≡ b → (let o = storing.answered (refuseIf 2 b) (Drawn c l) numbers in movedRead (o .answer) (o .list) ≡ moved c l)
-      by true e = rw (wrong-refused c l e) refl
+      by true e = rw (wrong-refused (clipInput l (c .rule) (c .invert) (c .boundary)) e) refl
       by false e = ap (moved c) (take-written l numbers (length l) refl)
