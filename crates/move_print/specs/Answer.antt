@@ -15,6 +15,7 @@ abbrev pub printedOf : Wrote → List ℕ → List ℕ
 printedOf (Done count) bytes = bytes
 printedOf (Refused number place) bytes = refusedLine number place
 
+-- the same of an outcome
 unfoldable pub printed : Outcome → List ℕ
 printed o = printedOf (o .answer) (bytesOf o)
 

@@ -104,6 +104,7 @@ pub record ReturnedWrite : Type 0 where
 abbrev pub returnedWrite : Write → List ℕ → ReturnedWrite
 returnedWrite answer list = record { answer = answer; list = list }
 
+-- an outcome, with its answer in C's struct
 abbrev pub writeReturned : writer.Outcome → ReturnedWrite
 writeReturned o = returnedWrite (writeStruct (o .numbers)) (o .list)
 

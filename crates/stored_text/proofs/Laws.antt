@@ -24,7 +24,7 @@ use Rattle.text_forms.specs.declared.Form.{Form}
 use Rattle.text_forms.specs.declared.Form.the-variants.{New}
 use Rattle.text_forms.specs.Forms.{writing}
 use Rattle.text_forms.specs.Reading.{parsedIn}
-use Rattle.text_forms.proofs.Forms.{Kept, Held, reads, held, one-text, moves}
+use Rattle.text_forms.proofs.Forms.{Kept, Held, reads, held, one-text, holds-in}
 use Rattle.stored_text.specs.declared.Wrote.the-variants.{Done}
 use Rattle.stored_text.specs.Outcome.{outcome, inputVerdict, lotsOf, writeOutcome, movedInto, moveOutcome}
 use Rattle.stored_text.specs.Laws.{bytesOf, acceptsParsed, acceptsText, ReadsBack, OnlyText, ThereAndBack, MovedSame, AcceptedAlike, AcceptedMoves}
@@ -174,5 +174,5 @@ module _ (from to : Form) where
           let f = accepts-good to moved e in
           let few = held to moved (f .choices) (f .numbers) (f .good .parsed) .holds .few in
           let h = held from text c numbers q in
-          let same = reads (moves to (h .holds) kept few) ∙ ap (Drawn c) (sym (h .laid-out)) in
+          let same = reads (holds-in to (h .holds) kept few) ∙ ap (Drawn c) (sym (h .laid-out)) in
           accepts-verdict from text q ∙ sym (accepts-verdict to moved same) ∙ e

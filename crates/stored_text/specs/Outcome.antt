@@ -55,11 +55,12 @@ unfoldable pub lotsOf : Form → Drawing → Verdict
 lotsOf to d = first (lotAt to d) (length d)
 
 -- ---- the outcome
+-- a text that nothing refuses is written to the front of the list; a refusal writes nothing
 abbrev pub answered : Verdict → List ℕ → List ℕ → Outcome
 answered verdict-is.Accepted text old = outcome (Done (length text)) (written text old)
 answered (verdict-is.Refused number place) text old = outcome (Refused number place) old
 
--- a text is written to the front of the list, unless something was refused before or, last, the list is shorter than the text (11)
+-- what was refused before decides; last, 11: the list is shorter than the text
 unfoldable pub writtenUnless : Verdict → List ℕ → List ℕ → Outcome
 writtenUnless before text old = answered (before then refuseIf 11 (tooShort (length text) (lent (length old) 1))) text old
 
@@ -73,5 +74,6 @@ movedInto to old p =
     let d = segments (numbersIn p) in
     writtenUnless (malformed p then inputVerdict (choicesIn p) (numbersIn p) then lotsOf to d) (writing to (choicesIn p) d) old
 
+-- what a text holds in one form, written in the other
 unfoldable pub moveOutcome : (from to : Form) → List ℕ → List ℕ → Outcome
 moveOutcome from to text old = movedInto to old (parsedIn from text)

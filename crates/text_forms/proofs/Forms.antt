@@ -172,5 +172,5 @@ pub one-text : (form : Form) (s t : List ℕ) (c : Choices) (numbers : List ℤ)
 one-text form s t c numbers p q = held form s c numbers p .holds .is ∙ sym (held form t c numbers q .holds .is)
 
 -- in another form that has room for its lots it holds the same drawing, unless it gets too long
-pub moves : {from : Form} {text : List ℕ} {c : Choices} {d : Drawing} (to : Form) → Holds from text c d → Kept to d → length (writing to c d) ≤ mostBytes → Holds to (writing to c d) c d
-moves to h k few = record { is = refl; kept = k; small = h .small; few = few }
+pub holds-in : {from : Form} {text : List ℕ} {c : Choices} {d : Drawing} (to : Form) → Holds from text c d → Kept to d → length (writing to c d) ≤ mostBytes → Holds to (writing to c d) c d
+holds-in to h k few = record { is = refl; kept = k; small = h .small; few = few }

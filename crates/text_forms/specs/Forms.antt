@@ -14,9 +14,13 @@ use Rattle.writing.specs.Lines.{textOf}
 use Rattle.text_forms.specs.declared.Form.{Form}
 use Rattle.text_forms.specs.declared.Form.the-variants.{Old, New}
 
+-- all but the lot
+abbrev pub oldWidth : ℕ
+oldWidth = 6
+
 -- how many fields a segment's line has
 abbrev pub fieldsOf : Form → ℕ
-fieldsOf Old = 6
+fieldsOf Old = oldWidth
 fieldsOf New = width
 
 -- the numbers in it: the lot is the last

@@ -11,23 +11,24 @@ use Rattle.text.specs.Grammar.{Parsed, BadLine, Drawn, parsed}
 use Rattle.text.specs.Storing.{Outcome, malformed, numbersIn, answered}
 use Rattle.text_forms.specs.declared.Form.{Form}
 use Rattle.text_forms.specs.declared.Form.the-variants.{Old, New}
-use Rattle.text_forms.specs.Forms.{fieldsOf}
+use Rattle.text_forms.specs.Forms.{oldWidth, fieldsOf}
 
 -- ---- what a text holds
 -- n segments from lines of the old form: every lot is 0
 unfoldable pub oldSegmentsOf : ℕ → List ℤ → Drawing
 oldSegmentsOf zero l = []
-oldSegmentsOf (suc n) l = withLot (pos 0) (front l) ∷ oldSegmentsOf n (drop 6 l)
+oldSegmentsOf (suc n) l = withLot (pos 0) (front l) ∷ oldSegmentsOf n (drop oldWidth l)
 
 -- the drawing that a list of six numbers a segment holds
 unfoldable pub oldSegments : List ℤ → Drawing
-oldSegments l = oldSegmentsOf (length l / 6) l
+oldSegments l = oldSegmentsOf (length l / oldWidth) l
 
 -- seven numbers a segment, from those in lines of a form
 abbrev pub allNumbers : Form → List ℤ → List ℤ
 allNumbers Old l = laid (oldSegments l)
 allNumbers New l = l
 
+-- the same of what was read of a text
 abbrev pub withAll : Form → Parsed → Parsed
 withAll form (BadLine line) = BadLine line
 withAll form (Drawn c l) = Drawn c (allNumbers form l)

@@ -17,7 +17,7 @@ ghost use Rattle.segm.specs.Segments.{width, front, withLot, laid};
 ghost use Rattle.text.specs.declared.Reading.the-variants.{Refused};
 ghost use Rattle.text.specs.Storing.{outcome};
 ghost use Rattle.text_forms.specs.declared.Form.the-variants.{Old, New};
-ghost use Rattle.text_forms.specs.Forms.{fieldsOf};
+ghost use Rattle.text_forms.specs.Forms.{oldWidth, fieldsOf};
 ghost use Rattle.text_forms.specs.Reading.{oldSegments, parsedIn, drawnInto};
 
 // The form with lots, and the one from before them.
@@ -44,7 +44,7 @@ pub fn fields(form: Form) -> usize
 
 // The segment in a line of the old form.
 fn old_segment(l: &[i32]) -> Segment
-    requires { ⌜ length (now l) ≡ 6 ⌝ }
+    requires { ⌜ length (now l) ≡ oldWidth ⌝ }
     ensures { λ r. ⌜ r ≡ withLot (pos 0) (front (now (l .entry))) ⌝ }
 {
     let a = Point { x: l[0], y: l[1] };
@@ -85,7 +85,7 @@ fn refused(number: u32, place: usize) -> Reading
 
 // A text of the old form. The list `old` is working memory.
 fn read_old(text: &[u8], old: &mut [i32], numbers: &mut [i32]) -> Reading
-    requires { ⌜ (length (now old) ≡ 1024 * 6) × (length (now numbers) ≡ 1024 * width) ⌝ }
+    requires { ⌜ (length (now old) ≡ 1024 * oldWidth) × (length (now numbers) ≡ 1024 * width) ⌝ }
     ensures { λ r. ⌜ outcome r (now (numbers .exit)) ≡ drawnInto (now (numbers .entry)) (parsedIn Old (now (text .entry))) ⌝ }
 {
     match text::read(text, OLD_WIDTH, old) {
