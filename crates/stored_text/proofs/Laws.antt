@@ -2,14 +2,16 @@
 use mathlib.Core.Path.{_≡_, refl, sym, ap, ap₂, subst, _∙_}
 use mathlib.Core.Bool.{true, false, true≢false}
 use mathlib.Core.List.{List}
-use Prim.Native.Nat.{ℕ, _≤_}
+use Prim.Native.Nat.{ℕ, _*_, _≤_}
 use native.Mathlib.Omega.{arith}
+use borrow.Author.Tests.{le-ltb}
 use lib.ListN.{length}
 use lib.IntN.{ℤ}
 use Rattle.integers.proofs.Booleans.{same-test}
 use Rattle.lists.specs.Written.{written}
 use Rattle.refusal.specs.declared.Verdict.the-variants.{Accepted}
 use Rattle.refusal.specs.Order.{isAccepted, _then_}
+use Rattle.refusal.specs.Asked.{tooShort}
 use Rattle.refusal.proofs.Order.{accepted-then, is-accepted}
 use Rattle.refusal.proofs.Asked.{whole-entries}
 use Rattle.segm.specs.Segments.{Drawing, width, segments, laid}
@@ -17,17 +19,19 @@ use Rattle.segm.proofs.Segments.Laid.{laid-segments}
 use Rattle.checks.specs.Accepted.{accepts}
 use Rattle.checks.proofs.Runs.{passed}
 use Rattle.text.specs.declared.Choices.{Choices}
-use Rattle.text.specs.Grammar.{Parsed, BadLine, Drawn, mostBytes}
+use Rattle.text.specs.declared.Reading.the-variants.{Read}
+use Rattle.text.specs.Grammar.{Parsed, BadLine, Drawn, mostBytes, parsed}
+use Rattle.text.specs.Storing as reading
 use Rattle.text.specs.Storing.{choicesIn, numbersIn}
 use Rattle.text.proofs.Storing.StoredRows.{differ}
 use Rattle.text_forms.specs.declared.Form.{Form}
 use Rattle.text_forms.specs.declared.Form.the-variants.{New}
 use Rattle.text_forms.specs.Forms.{writing}
-use Rattle.text_forms.specs.Reading.{parsedIn}
+use Rattle.text_forms.specs.Reading.{withAll, parsedIn}
 use Rattle.text_forms.proofs.Forms.{Kept, Held, reads, held, one-text, holds-in}
 use Rattle.stored_text.specs.declared.Wrote.the-variants.{Done}
 use Rattle.stored_text.specs.Outcome.{outcome, inputVerdict, lotsOf, writeOutcome, movedInto, moveOutcome}
-use Rattle.stored_text.specs.Laws.{bytesOf, acceptsParsed, acceptsText, ReadsBack, OnlyText, ThereAndBack, MovedSame, AcceptedAlike, AcceptedMoves}
+use Rattle.stored_text.specs.Laws.{bytesOf, acceptsParsed, acceptsText, ReadsBack, ReadAgain, OnlyText, ThereAndBack, MovedSame, AcceptedAlike, AcceptedMoves}
 use Rattle.stored_text.proofs.Written.{writes, was-written, bytes-written}
 use Rattle.stored_text.proofs.Lots.{lots-kept, kept-lots}
 use Rattle.stored_text.proofs.Accepted.{accepted-fits, accepted-text}
@@ -121,6 +125,21 @@ reads-back numbers c old n e =
     let is = whole-laid c numbers (w .accepted) in
     let good = ap (λ (l : List ℤ). isAccepted (inputVerdict c l)) is ∙ ap isAccepted (w .accepted) in
     ap (parsedIn New) (bytes-written w) ∙ accepted-text c (segments numbers) good New (λ s m. refl) ∙ ap (Drawn c) is
+
+-- the reader reads the new form
+new-parsed : (p : Parsed) → withAll New p ≡ p
+new-parsed (BadLine line) = refl
+new-parsed (Drawn c numbers) = refl
+
+read-whole : (c : Choices) (numbers list : List ℤ) → length numbers ≤ length list → reading.readInto list (Drawn c numbers) ≡ reading.outcome (Read c (length numbers)) (written numbers list)
+unfolding reading.readVerdict tooShort
+read-whole c numbers list h = rw (le-ltb (length list) (1 * length numbers) (omega (arith, h)))
+
+pub read-again : ReadAgain
+unfolding reading.readOutcome parsedIn
+read-again numbers c old n list e room =
+    let t = bytesOf (writeOutcome numbers c old) in
+    ap (reading.readInto list) (sym (new-parsed (parsed width t)) ∙ reads-back numbers c old n e) ∙ read-whole c numbers list room
 
 pub only-text : (form : Form) → OnlyText form
 only-text form s t e q =

@@ -8,8 +8,10 @@ use lib.IntN.{ℤ}
 use Rattle.lists.specs.Written.{written}
 use Rattle.refusal.specs.declared.Verdict.the-variants.{Accepted}
 use Rattle.refusal.specs.Order.{isAccepted, _then_}
-use Rattle.segm.specs.Segments.{segments}
+use Rattle.segm.specs.Segments.{width, segments}
 use Rattle.text.specs.declared.Choices.{Choices}
+use Rattle.text.specs.declared.Reading.the-variants.{Read}
+use Rattle.text.specs.Storing as reading
 use Rattle.text.specs.Grammar.{Parsed, Drawn, mostBytes}
 use Rattle.text.specs.Storing.{malformed, choicesIn, numbersIn}
 use Rattle.text_forms.specs.declared.Form.{Form}
@@ -34,6 +36,11 @@ acceptsText form text = acceptsParsed (parsedIn form text)
 -- reading a written drawing yields its choices and its numbers
 abbrev pub ReadsBack : Type 0
 ReadsBack = (numbers : List ℤ) (c : Choices) (old : List ℕ) (n : ℕ) → (let o = writeOutcome numbers c old in o .answer ≡ Done n → parsedIn New (bytesOf o) ≡ Drawn c numbers)
+
+-- read into a list with room for them, they are what is told and stands at its front
+abbrev pub ReadAgain : Type 0
+ReadAgain = (numbers : List ℤ) (c : Choices) (old : List ℕ) (n : ℕ) (list : List ℤ) → (let o = writeOutcome numbers c old in
+    o .answer ≡ Done n → length numbers ≤ length list → reading.readOutcome width (bytesOf o) list ≡ reading.outcome (Read c (length numbers)) (written numbers list))
 
 -- an accepted text is the only text of its drawing and choices
 abbrev pub OnlyText : Form → Type 0
