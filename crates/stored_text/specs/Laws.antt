@@ -29,6 +29,7 @@ bytesOf o = take (o .numbers .count) (o .list)
 abbrev pub acceptsParsed : Parsed → Bool
 acceptsParsed p = isAccepted (malformed p then inputVerdict (choicesIn p) (numbersIn p))
 
+-- a text is accepted: it is well formed, and what it holds is accepted
 unfoldable pub acceptsText : Form → List ℕ → Bool
 acceptsText form text = acceptsParsed (parsedIn form text)
 
