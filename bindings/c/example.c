@@ -1,6 +1,5 @@
 /* The fills of a square that a line cuts, the line inside and outside of it, the two halves, the loops of a
-   line that touches itself, texts that are read and run, written and moved, refusals, and the pairs of
-   segments that are tried for a wrong meeting:
+   line that touches itself, texts that are read and run, written and moved, and refusals:
    cc -Ibindings/c bindings/c/example.c -Ltarget/staticlib -loverlay -o example */
 
 #include "overlay.h"
@@ -158,11 +157,6 @@ static void print_drawing(void) {
     print_old(text, written.count);
 }
 
-/* How many pairs are tried for a wrong meeting. */
-static void print_pairs(size_t numbers) {
-    printf("%" PRIu64 " pairs\n", overlay_pairs(drawing, numbers));
-}
-
 int main(void) {
     print_fills(NUMBERS);
     print_fills(NUMBERS - 1);
@@ -184,7 +178,5 @@ int main(void) {
                "5,0,6,0,0,1,0\n6,0,7,0,0,1,0\n7,0,8,0,0,1,0\n8,0,9,0,0,1,0\n9,0,10,0,0,1,0\n");
     print_there_and_back("1,0,1\n0,0,4,0,1,1\n0,0,4,4,-1,2\n4,0,4,4,1,0\n");
     print_drawing();
-    print_pairs(NUMBERS);
-    print_pairs(NUMBERS - 1);
     return 0;
 }

@@ -24,7 +24,7 @@
    3 to 7 and 13 are tried segment by segment, within one in the order above. overlay_split takes points
    instead of a drawing, and refuses by 2, 11 and 3 only; overlay_read takes a text, and refuses by 1
    and 11 only; where a text is written or moved 11 comes last, after 9 and 14, and where it is moved 1
-   comes first; overlay_pairs tells no refusal: as said there.
+   comes first: as said there.
 
    A list is passed as a pointer and its number of entries. No pointer may be NULL, not even for a list
    of no entries: pass the address of anything. Lists of one call must not overlap. Entries past the
@@ -34,10 +34,10 @@
    The rule is 0 even-odd, 1 nonzero, 2 positive or 3 negative.
 
    Nothing is allocated. A call with up to 128 segments needs up to 26 KB of stack for fills, 29 KB for a
-   clip, 73 KB for a slice, 24 KB to write a text, 76 KB to move one and 29 KB to count pairs; with more,
-   54 KB, 57 KB, 78 KB, 52 KB, 104 KB and 57 KB. A split needs up to 45 KB, a reading up to 1 KB. (A KB
-   is 1,024 bytes.) Calls share nothing but what they are passed, so any number of threads may call at
-   once, each with lists of its own. */
+   clip, 73 KB for a slice, 24 KB to write a text and 76 KB to move one; with more, 54 KB, 57 KB, 78 KB,
+   52 KB and 104 KB. A split needs up to 45 KB, a reading up to 1 KB. (A KB is 1,024 bytes.) Calls share
+   nothing but what they are passed, so any number of threads may call at once, each with lists of its
+   own. */
 
 #ifndef OVERLAY_H
 #define OVERLAY_H
@@ -168,12 +168,6 @@ struct overlay_written overlay_old_to_new(const uint8_t *text, size_t text_len, 
      11  the list is shorter than the moved text */
 struct overlay_written overlay_new_to_old(const uint8_t *text, size_t text_len, uint8_t *moved,
                                           size_t moved_len);
-
-/* How many pairs of segments are tried in the search for two that meet wrongly (8). Pairs come by lower,
-   then upper place, up to the one that is named or else the last; tried are those whose upper one does
-   not start to the right of the lower one's b, by x alone. 0 if a check before that search refuses: 2, 3
-   to 7 and 13. The number comes alone, without a refusal. */
-uint64_t overlay_pairs(const int32_t *segments, size_t segments_len);
 
 #ifdef __cplusplus
 }

@@ -8,7 +8,7 @@
 //! Any numbers may be passed: a drawing is either answered or refused, with the reason and the place. [`fills`], [`clip`],
 //! [`slice()`] and [`split`] are the runs. [`read`] and [`write()`] are for texts, which [`old_to_new`] and
 //! [`new_to_old`] move between the form with lots and the one before them. All these own their lists; the functions that
-//! end in `_into` write to lent ones. [`pairs()`] is a number alone: how many pairs are tried for a wrong meeting.
+//! end in `_into` write to lent ones.
 //!
 //! ```
 //! use jumperclay::{clip, fills, slice, ClipRule, Direction, Rule};
@@ -48,7 +48,6 @@
 
 mod clip;
 mod fills;
-mod pairs;
 mod points;
 pub mod raw;
 mod refusal;
@@ -59,7 +58,6 @@ mod write;
 
 pub use clip::{clip, clip_into, Clip, ClipRule, Totals};
 pub use fills::{fills, fills_into};
-pub use pairs::pairs;
 pub use points::{ContourTotals, Point};
 pub use refusal::{Reason, Refusal};
 pub use slice::{slice, slice_into, Contour, Direction};

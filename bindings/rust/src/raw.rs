@@ -159,9 +159,6 @@ extern "C" {
 
     /// A text of seven fields a segment in the form of six.
     pub fn overlay_new_to_old(text: *const u8, text_len: usize, moved: *mut u8, moved_len: usize) -> Written;
-
-    /// How many pairs of segments are tried in the search for a wrong meeting.
-    pub fn overlay_pairs(segments: *const i32, segments_len: usize) -> u64;
 }
 
 /// [`overlay_fills`] on slices.
@@ -261,10 +258,4 @@ pub fn old_to_new(text: &[u8], moved: &mut [u8]) -> Written {
 pub fn new_to_old(text: &[u8], moved: &mut [u8]) -> Written {
     // SAFETY: both pointers are valid for their lengths, and the borrows keep the lists apart.
     unsafe { overlay_new_to_old(text.as_ptr(), text.len(), moved.as_mut_ptr(), moved.len()) }
-}
-
-/// [`overlay_pairs`] on a slice.
-pub fn pairs(segments: &[i32]) -> u64 {
-    // SAFETY: the pointer is valid for the length.
-    unsafe { overlay_pairs(segments.as_ptr(), segments.len()) }
 }

@@ -1,8 +1,8 @@
 //! Each call on a thread with just as much stack as `overlay.h` says that it needs.
 
 use jumperclay::{
-    clip, fills, new_to_old, old_to_new, pairs, read, slice, split, write, Choices, ClipRule, Direction, Rule,
-    MOST_SEGMENTS, WIDTH,
+    clip, fills, new_to_old, old_to_new, read, slice, split, write, Choices, ClipRule, Direction, Rule, MOST_SEGMENTS,
+    WIDTH,
 };
 use std::thread;
 
@@ -14,7 +14,6 @@ const SPLIT: [usize; 2] = [45 << 10; 2];
 const READ: usize = 1 << 10;
 const WRITE: [usize; 2] = [24 << 10, 52 << 10];
 const MOVE: [usize; 2] = [76 << 10, 104 << 10];
-const PAIRS: [usize; 2] = [29 << 10, 57 << 10];
 /// What the thread and the safe function around the call take for themselves.
 const BESIDE: usize = 8 << 10;
 
@@ -54,13 +53,10 @@ fn drawings() {
             let numbers = drawing.clone();
             let inside = ClipRule { invert: false, boundary_included: true };
             let clipped = on_a_thread(CLIP[size], move || clip(&numbers, Rule::NonZero, inside).is_ok());
-            let numbers = drawing.clone();
             let sliced = on_a_thread(SLICE[size], move || {
-                slice(&numbers, Rule::NonZero, Direction::CounterClockwise, 0).is_ok()
+                slice(&drawing, Rule::NonZero, Direction::CounterClockwise, 0).is_ok()
             });
             assert_eq!([filled, clipped, sliced], [is_accepted; 3]);
-            let tried = pairs(&drawing);
-            assert_eq!(on_a_thread(PAIRS[size], move || pairs(&drawing)), tried);
         }
     }
 }

@@ -28,8 +28,7 @@ use Rattle.balance.specs.Balance.{balance, balances}
 use Rattle.drawing_check.specs.Drawing.{drawing_verdict}
 use Rattle.checks.specs.Runs.{Run, clip_input, asked, verdict}
 use Rattle.checks.specs.Accepted.{Good, accepts}
-use Rattle.meeting_search.proofs.Named.{no_meeting}
-use Rattle.drawing_check.proofs.Drawing.{balanced_at, drawing_passed}
+use Rattle.drawing_check.proofs.Drawing.{no_meeting, balanced_at, drawing_passed}
 use Rattle.checks.proofs.Runs.{asked_few, passed, passes}
 
 -- ---- balance: a point is an end, or nothing starts or ends there

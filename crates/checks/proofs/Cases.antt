@@ -12,8 +12,7 @@ use Rattle.balance.specs.Balance.{balance, balances}
 use Rattle.refusal.specs.declared.Verdict.{Verdict}
 use Rattle.refusal.specs.declared.Verdict.TheVariants.{Accepted, Refused}
 use Rattle.faults.specs.Faults.{ends_in_range, rises, winding_in_range, bits_in_range, lot_in_range, fault, fault_at, faults_of}
-use Rattle.meeting_search.specs.Named.{meeting_at, meetings_of}
-use Rattle.drawing_check.specs.Drawing.{unbalanced_at, unbalanced_of, drawing_verdict}
+use Rattle.drawing_check.specs.Drawing.{meeting_at, meetings_of, unbalanced_at, unbalanced_of, drawing_verdict}
 use Rattle.refusal.specs.Order.{first_from, first}
 use Rattle.refusal.specs.Asked.{wrong_length, unknown_choice, too_short, asked_first}
 use Rattle.checks.specs.Runs.{fills_run, clip_run, slice_run, asked, verdict}

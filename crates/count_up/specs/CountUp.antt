@@ -6,8 +6,7 @@ use Rattle.segm.specs.Segments.{Drawing, segment_at}
 use Rattle.strip.specs.Strip.{is_vertical, spans}
 use Rattle.strip.specs.Neighbours.{InOrder}
 use Rattle.scan.specs.declared.Sought.TheVariants.{At}
-use Rattle.lists.specs.Halving.{Changes}
-use Rattle.scan.specs.Scan.{below_at}
+use Rattle.scan.specs.Scan.{Changes, below_at}
 
 -- l: in order, those of the first m places that span strip x. With all places it is the list after the event at x; while segments enter, m have
 pub record OpenAt (d : Drawing) (m : ℕ) (x : ℤ) (l : List ℕ) : Type 0 where

@@ -1,24 +1,41 @@
--- What the verdict on a drawing says of its places: what it means that 9 fits nowhere, and how the code finds it; one check after the other.
+-- What the verdict on a drawing says of its places: what it means that 8 and 9 fit nowhere, and how the code finds them.
 use mathlib.Core.Path.{◌≡◌, refl, sym, ap, ◌∙◌}
+use mathlib.Core.Logic.{◌↔◌}
 use mathlib.Core.Bool.{Bool, true, false, not, cond, ◌&&◌}
 use Prim.Native.Nat.{ℕ, zero, suc, ◌+◌, ◌<◌, ◌≤◌}
 use native.Mathlib.Omega.{arith}
 use lib.Dec.{eqb, ltb}
-use lib.ListN.{length}
+use lib.ListN.{length, drop}
 use borrow.Author.Tests.{lt-ltb, le-ltb}
-use Rattle.integers.proofs.Booleans.{both_l, both_r}
+use Rattle.integers.proofs.Booleans.{clash, is_false, both_l, both_r}
+use Rattle.lists.specs.Members.{any}
+use Rattle.lists.proofs.Members.{pairs_of, pairs_places, any_some, any_false}
 use Rattle.refusal.specs.declared.Verdict.{Verdict}
 use Rattle.refusal.specs.declared.Verdict.TheVariants.{Accepted, Refused}
 use Rattle.refusal.specs.Order.{first_from, first, ◌then◌}
-use Rattle.refusal.proofs.Order.{first-none, accepted_then, refused_then, then_assoc}
+use Rattle.refusal.proofs.Order.{first-none, all_none, accepted_then, refused_then, then_assoc}
 use Rattle.segm.specs.Segments.{Drawing, nowhere, segment_at}
 use Rattle.faults.specs.Faults.{faults_of}
 use Rattle.faults.specs.Faultless.{Faultless}
 use Rattle.faults.proofs.Faultless.{faultless}
-use Rattle.lists.specs.FirstPlace.{first_place}
-use Rattle.balance.specs.Balance.{balances, unbalanced, first_unbalanced}
-use Rattle.meeting_search.specs.Named.{meetings_of}
-use Rattle.drawing_check.specs.Drawing.{unbalanced_at, unbalanced_of, drawing_verdict}
+use Rattle.faults.proofs.Faults.{last}
+use Rattle.faults.proofs.Faultless.{faultless}
+use Rattle.meetings.specs.Meetings.{meets_wrongly, NoneMeetWrongly}
+use Rattle.balance.specs.Balance.{balances, unbalanced, first_place, first_unbalanced}
+use Rattle.drawing_check.specs.Drawing.{meeting_at, meetings_of, unbalanced_at, unbalanced_of, drawing_verdict}
+
+-- ---- 8
+-- 8 fits nowhere exactly where no two segments meet wrongly
+pub no_meeting : (d : Drawing) → (meetings_of d ≡ Accepted) ↔ NoneMeetWrongly d
+unfolding meetings_of meeting_at segment_at
+no_meeting d = (
+  λ e. pairs_of (λ s t. meets_wrongly s t ≡ false) d nowhere (λ i h. any_false (meets_wrongly (segment_at d i)) (drop (suc i) d) (last (any (meets_wrongly (segment_at d i)) (drop (suc i) d)) 8 (omega arith) (first-none (meeting_at d) (length d) e i h))),
+  λ p. all_none (meeting_at d) (length d) (λ i h. ap (λ (b : Bool). cond b 8 0) (none p i h)),
+)
+  where
+    none : NoneMeetWrongly d → (i : ℕ) → i < length d → any (meets_wrongly (segment_at d i)) (drop (suc i) d) ≡ false
+    none p i h = is_false (any (meets_wrongly (segment_at d i)) (drop (suc i) d)) (λ e. let s = any_some (meets_wrongly (segment_at d i)) (drop (suc i) d) e in
+        clash s.passes (pairs_places (λ s t. meets_wrongly s t ≡ false) d nowhere p i h s.member s.in_list))
 
 -- ---- 9
 pub balanced_at : (d : Drawing) → unbalanced_of d ≡ Accepted → (i : ℕ) → i < length d → (balances d (segment_at d i).a ≡ true) × (balances d (segment_at d i).b ≡ true)

@@ -1,11 +1,20 @@
 -- The verdict on a drawing alone: refusals 3 to 9 and 13, each at the place of a segment. A place with nothing wrong has the number 0.
-use Rattle.std.specs.Prelude.{◌&&◌, cond, ℕ, length}
+use Rattle.std.specs.Prelude.{◌&&◌, cond, ℕ, suc, length, drop}
+use Rattle.lists.specs.Members.{any}
 use Rattle.refusal.specs.declared.Verdict.{Verdict}
 use Rattle.refusal.specs.Order.{first, ◌then◌}
 use Rattle.segm.specs.Segments.{Drawing, segment_at}
 use Rattle.faults.specs.Faults.{faults_of}
-use Rattle.meeting_search.specs.Named.{meetings_of}
+use Rattle.meetings.specs.Meetings.{meets_wrongly}
 use Rattle.balance.specs.Balance.{balances}
+
+-- 8, at the lower of two places
+unfoldable pub meeting_at : Drawing → ℕ → ℕ
+meeting_at d i = cond (any (meets_wrongly (segment_at d i)) (drop (suc i) d)) 8 0
+
+-- 8 by lower, then upper place
+unfoldable pub meetings_of : Drawing → Verdict
+meetings_of d = first (meeting_at d) (length d)
 
 -- 9, at a segment that touches an unbalanced point
 unfoldable pub unbalanced_at : Drawing → ℕ → ℕ

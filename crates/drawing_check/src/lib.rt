@@ -1,71 +1,126 @@
 // The verdict on a drawing alone, refusals 3 to 9 and 13, unless something was refused before; and what an accepted drawing leaves for a run: its nodes and top
 // counts.
-ghost use Rattle.std.specs.Prelude.{◌≡◌, ◌↔◌, ℕ, ◌*◌, ◌<◌, ◌≤◌, length, get_or, pos};
+ghost use Rattle.std.specs.Prelude.{◌≡◌, ℕ, ◌*◌, ◌<◌, ◌≤◌, length, get_or, drop, pos};
+ghost use Rattle.lists.specs.Members.{any};
+ghost use Rattle.lists.specs.UpFrom.{up_from};
 ghost use Rattle.refusal.specs.declared.Verdict.TheVariants.{Accepted};
 ghost use Rattle.refusal.specs.Order.{◌then◌};
 ghost use Rattle.segm.specs.Segments.{segments};
-ghost use Rattle.faults.specs.Faultless.{Faultless};
+ghost use Rattle.faults.specs.Faultless.{Proper, Faultless};
+ghost use Rattle.ends.specs.Ends.{end_before};
+ghost use Rattle.ends.specs.Ordering.{ordering};
+ghost use Rattle.meetings.specs.Meetings.{meets_wrongly};
 ghost use Rattle.count_up.specs.CountUp.{BoundedBy, Counted};
-ghost use Rattle.meeting_sweep.specs.declared.Swept.TheVariants.{Clear};
-ghost use Rattle.meeting_search.specs.Named.{meetings_of};
-ghost use Rattle.suspect_sweep.specs.Room.{SweepRoom};
-ghost use Rattle.drawing_check.specs.Drawing.{unbalanced_of, drawing_verdict};
+ghost use Rattle.balance.specs.Balance.{NodesByPoint};
+ghost use Rattle.drawing_check.specs.Drawing.{meeting_at, meetings_of, unbalanced_of, drawing_verdict};
 ghost use Rattle.drawing_check.specs.Memory.{DrawingRoom, EndsRoom, OrderedIn, NumberedIn, Checked};
 
-use meeting_sweep::Swept;
 use refusal::Verdict;
+use segm::Segment;
 
-// What the sweep says of a drawing whose ordered ends stand at the front of a list. Of a clear one it leaves the top counts.
-fn sweep_ends(s: &[i32], flat: &[u16], tops: &mut [i32]) -> Swept
-    requires { let d = segments s.now in Faultless d × OrderedIn d flat.now × (length d ≤ length tops.old) × BoundedBy 0 tops.old }
-    ensures { let d = segments s.now in ((result ≡ Clear) ↔ (meetings_of d ≡ Accepted)) × (result ≡ Clear → Counted d tops.new) }
+// Whether t meets wrongly with a segment from place j on.
+fn meets_any(s: &[i32], j: usize, t: Segment) -> bool
+    requires { Faultless (segments s.now) × Proper t }
+    ensures { result ≡ any (meets_wrongly t) (drop j (segments s.now)) }
 {
-    let e = 2 * segm::count(s);
-    meeting_sweep::sweep(s, &flat[..e], tops)
+    let n = segm::count(s);
+    let mut k = j;
+    while k < n {
+        if meetings::meets_wrongly(t, segm::segment_at(s, k)) {
+            return true;
+        }
+        k += 1;
+    }
+    false
 }
 
-// Refusal 8 of a drawing in which it fits, from the place that the sweep told. All lists but the drawing are working memory.
-fn name_pair(
-    s: &[i32],
-    first: usize,
-    flat: &mut [u16],
-    starts: &mut [u16],
-    nodes: &mut [u16],
-    tops: &mut [i32],
-    keys: &mut [u64],
-    scratch: &mut [u64],
-) -> Verdict
-    requires { let d = segments s.now in
-        Faultless d
-        × (meetings_of d ≡ Accepted → ⊥)
-        × SweepRoom (length d) flat.old starts.old nodes.old tops.old keys.old scratch.old }
+// Refusal 8 at place i.
+fn meeting_at(s: &[i32], i: usize) -> u32
+    requires { Faultless (segments s.now) × (i < length (segments s.now)) }
+    ensures { result ≡ meeting_at (segments s.now) i }
+{
+    if meets_any(s, i + 1, segm::segment_at(s, i)) {
+        return 8;
+    }
+    0
+}
+
+// The first place of a segment that meets a later one wrongly, of which there is one: no accepted drawing is searched.
+fn find_pair(s: &[i32]) -> Verdict
+    requires { Faultless (segments s.now) × (meetings_of (segments s.now) ≡ Accepted → ⊥) }
     ensures { result ≡ meetings_of (segments s.now) }
 {
-    if segm::count(s) <= segm::SMALL {
-        return suspect_sweep::name_small(s, first, flat, starts, nodes, tops, keys, scratch);
+    let n = segm::count(s);
+    let mut i: usize = 0;
+    while i < n {
+        let number = meeting_at(s, i);
+        if number != 0 {
+            return Verdict::Refused(number, i);
+        }
+        i += 1;
     }
-    suspect_sweep::name_any(s, first, flat, starts, nodes, tops, keys, scratch)
+    Verdict::Accepted
 }
 
-// Refusal 9, at the first place of a segment that touches an unbalanced point. The list `sums` is working memory.
-fn find_unbalanced(s: &[i32], nodes: &[u16], sums: &mut [i32]) -> Verdict
+// Refusal 8. The sweep tells whether it fits, and only then are pairs looked at, to name the place. Where it does not fit the sweep has left the top counts.
+fn find_meeting(s: &[i32], flat: &[u16], tops: &mut [i32]) -> Verdict
     requires { let d = segments s.now in
         Faultless d
-        × NumberedIn d nodes.now
-        × (2 * length d ≤ length sums.old)
+        × (flat.now ≡ ordering (end_before d) (up_from 0 (2 * length d)))
+        × (length d ≤ length tops.old)
+        × BoundedBy 0 tops.old }
+    ensures { let d = segments s.now in (result ≡ meetings_of d) × (result ≡ Accepted → Counted d tops.new) }
+{
+    if meeting_sweep::is_clear(s, flat, tops) {
+        return Verdict::Accepted;
+    }
+    find_pair(s)
+}
+
+// Refusal 9, at the first place of a segment that touches an unbalanced point.
+fn find_unbalanced(s: &[i32], nodes: &[u16], sums: &mut [i32]) -> Verdict
+    requires { Faultless (segments s.now)
+        × NodesByPoint (segments s.now) nodes.now
+        × (2 * length (segments s.now) ≤ length sums.old)
         × ((v : ℕ) → get_or sums.old v (pos 0) ≡ pos 0) }
     ensures { result ≡ unbalanced_of (segments s.now) }
 {
-    let n = segm::count(s);
-    let place = balance::first_unbalanced(s, &nodes[..2 * n], sums);
-    if n <= place {
+    let place = balance::first_unbalanced(s, nodes, sums);
+    if segm::count(s) <= place {
         return Verdict::Accepted;
     }
     Verdict::Refused(9, place)
 }
 
-// Refusals 8 and 9 of a drawing that 2 to 7 and 13 leave: its ends are ordered, and swept. Only where the sweep does not call it clear are pairs looked at, to
-// name the first. All lists are working memory; an accepted drawing's nodes and top counts are left in those before `keys`.
+// Refusals 8 and 9, by the ordered ends and their nodes; the top counts of a drawing that has neither. The list `sums` is working memory.
+fn find_by_ends(
+    s: &[i32],
+    flat: &[u16],
+    nodes: &[u16],
+    sums: &mut [i32],
+    tops: &mut [i32],
+) -> Verdict
+    requires { let d = segments s.now in
+        Faultless d
+        × OrderedIn d flat.now
+        × NumberedIn d nodes.now
+        × (2 * length d ≤ length sums.old)
+        × ((v : ℕ) → get_or sums.old v (pos 0) ≡ pos 0)
+        × (length d ≤ length tops.old)
+        × BoundedBy 0 tops.old }
+    ensures { let d = segments s.now in
+        (result ≡ (meetings_of d then unbalanced_of d)) × (result ≡ Accepted → Counted d tops.new) }
+{
+    let e = 2 * segm::count(s);
+    let meetings = find_meeting(s, &flat[..e], tops);
+    let Verdict::Accepted = meetings else {
+        return meetings;
+    };
+    find_unbalanced(s, &nodes[..e], sums)
+}
+
+// Refusals 8 and 9 of a drawing that 2 to 7 and 13 leave: its ends are ordered for it. All lists are working memory; an accepted drawing's nodes and top counts
+// are left in those before `keys`.
 fn check_ends(
     s: &[i32],
     flat: &mut [u16],
@@ -82,10 +137,7 @@ fn check_ends(
         Checked (meetings_of d then unbalanced_of d) d result flat.new starts.new nodes.new tops.new }
 {
     graph::write_nodes(s, flat, starts, nodes, keys, scratch);
-    match sweep_ends(s, flat, tops) {
-        Swept::Clear => find_unbalanced(s, nodes, sums),
-        Swept::Unclear(place) => { name_pair(s, place, flat, starts, nodes, tops, keys, scratch) }
-    }
+    find_by_ends(s, flat, nodes, sums, tops)
 }
 
 // The verdict on a small drawing, unless something was refused before. An accepted drawing's nodes and top counts are left in the lists, which are working

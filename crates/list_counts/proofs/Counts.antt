@@ -24,8 +24,7 @@ use Rattle.strip.proofs.Strip.Apart.{Apart, apart_sym, Over, over_wide, side_les
 use Rattle.strip.proofs.Strip.Compare.{later_j}
 use Rattle.strip.proofs.Strip.Tiers.{Tier}
 use Rattle.scan.specs.declared.Sought.TheVariants.{At}
-use Rattle.lists.specs.Halving.{Changes}
-use Rattle.scan.specs.Scan.{below_at}
+use Rattle.scan.specs.Scan.{Changes, below_at}
 use Rattle.strip.proofs.Neighbours.Upright.{Upright, vertical_upright}
 use Rattle.count_up.specs.CountUp.{OpenAt, last_of, Counts}
 use Rattle.count_up.proofs.CountUp.{open_over, open_tiers}

@@ -26,8 +26,7 @@ use Rattle.strip.proofs.Strip.Apart.{Apart, Over, over_wide, under_le, side_less
 use Rattle.strip.proofs.Strip.Above.{spans_on, spans-over, spans_past, above_on, above_yes}
 use Rattle.strip.proofs.Strip.Tiers.{Tier}
 use Rattle.scan.specs.declared.Sought.TheVariants.{At}
-use Rattle.lists.specs.Halving.{Changes}
-use Rattle.scan.specs.Scan.{is_below, below_at}
+use Rattle.scan.specs.Scan.{Changes, is_below, below_at}
 use Rattle.strip.specs.Neighbours.{LiesUnder}
 use Rattle.strip.proofs.Neighbours.Upright.{Upright, side_down}
 use Rattle.strip.proofs.Neighbours.Passes.{inner_a, foot_over}

@@ -4,5 +4,3 @@ pub mod Written
 pub mod UpFrom
 pub mod Entries
 pub mod Chain
-pub mod Halving
-pub mod FirstPlace

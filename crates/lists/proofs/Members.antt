@@ -34,9 +34,9 @@ module _ {A : Type 0} where
   stands (y ∷ l) z x (inr m) = let s = stands l z x m in record { place = suc s.place; inside = omega (arith, s.inside); is = s.is }
 
   -- two places, the earlier first
-  pub pairs_of_lem : (R : A → A → Type 0) (l : List A) (z : A) → ((i : ℕ) → i < length l → (y : A) → y ∈ drop (suc i) l → R (get_or l i z) y) → Pairs R l
-  pairs_of_lem R [] z h = tt
-  pairs_of_lem R (x ∷ l) z h = (λ y m. h 0 (omega arith) y m, pairs_of_lem R l z (λ i k. h (suc i) (omega arith)))
+  pub pairs_of : (R : A → A → Type 0) (l : List A) (z : A) → ((i : ℕ) → i < length l → (y : A) → y ∈ drop (suc i) l → R (get_or l i z) y) → Pairs R l
+  pairs_of R [] z h = tt
+  pairs_of R (x ∷ l) z h = (λ y m. h 0 (omega arith) y m, pairs_of R l z (λ i k. h (suc i) (omega arith)))
 
   pub pairs_places : (R : A → A → Type 0) (l : List A) (z : A) → Pairs R l → (i : ℕ) → i < length l → (y : A) → y ∈ drop (suc i) l → R (get_or l i z) y
   pairs_places R [] z p i h = absurd (omega arith)
@@ -233,13 +233,3 @@ module _ {A : Type 0} where
       go : (b : Bool) → keep P (map g l) ≡ map g (keep (λ y. P (g y)) l) → cond b (g x ∷ keep P (map g l)) (keep P (map g l)) ≡ map g (cond b (x ∷ keep (λ y. P (g y)) l) (keep (λ y. P (g y)) l))
       go true e = ap (g x ∷◌) e
       go false e = e
-
--- what holds of every two of a mapped list
-pub pairs_unmap : {A B : Type 0} (R : B → B → Type 0) (g : A → B) (l : List A) → Pairs R (map g l) → Pairs (λ x y. R (g x) (g y)) l
-pairs_unmap R g [] p = tt
-pairs_unmap R g (x ∷ l) p = (λ y m. p.0 (g y) (map_in g y l m), pairs_unmap R g l p.1)
-
--- two things that hold of every two
-pub pairs_both : {A : Type 0} (R S : A → A → Type 0) (l : List A) → Pairs R l → Pairs S l → Pairs (λ x y. R x y × S x y) l
-pairs_both R S [] p q = tt
-pairs_both R S (x ∷ l) p q = (λ y m. (p.0 y m, q.0 y m), pairs_both R S l p.1 q.1)

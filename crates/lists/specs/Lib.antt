@@ -3,5 +3,3 @@ pub mod Sums
 pub mod Written
 pub mod UpFrom
 pub mod Chain
-pub mod Halving
-pub mod FirstPlace

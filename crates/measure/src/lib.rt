@@ -7,7 +7,6 @@ ghost use Rattle.string_clip.specs.Run.{lists};
 ghost use Rattle.measure.specs.Numbers.{verdict_of, check_numbers, sweep_number, returned_both, both_numbers};
 
 use c_structs::Clip;
-use meeting_sweep::Swept;
 use refusal::Verdict;
 
 // A refusal's number and place, or 0 and 0.
@@ -96,10 +95,7 @@ fn is_swept(s: &[i32]) -> bool
         &mut scratch,
     );
     let e = 2 * segm::count(s);
-    match meeting_sweep::sweep(s, &flat[..e], &mut tops) {
-        Swept::Clear => true,
-        Swept::Unclear(_) => false,
-    }
+    meeting_sweep::is_clear(s, &flat[..e], &mut tops)
 }
 
 // What the sweep says of an accepted drawing: 1, clear, by proof, and the driver looks whether the compiled sweep says so. 2 of a refused one.

@@ -1,11 +1,10 @@
-// A plane sweep after Shamos and Hoey: whether no two segments of a drawing meet wrongly (`sweep`). It goes from left to right and compares neighbours only,
-// which is enough (`strip`). It says clear exactly where none meet wrongly, and of a clear drawing it leaves the top counts. Of any other it tells the place
-// of one segment that the failed test was made of, as a hint: no contract speaks of it.
+// A plane sweep after Shamos and Hoey: whether no two segments of a drawing meet wrongly. It goes from left to right and compares neighbours only, which is
+// enough (`strip`). It says clear exactly where none meet wrongly, and of a clear drawing it leaves the top counts.
 //
 // The status is the list of the open segments, those that span the strip just right of x, from the lowest up. It changes at events, the x at which segments
 // start or end. One event (`event`), which the first test that fails ends, and the sweep with it:
 // 1. the ends there, from the lowest up: none lies strictly between the ends of a vertical segment that starts there, and no two of these overlap
-//    (`verticals::unbroken_ends`);
+//    (`verticals::are_unbroken`);
 // 2. what ends there leaves the list, and the two beside it are compared as new neighbours (`open_list::leave_all`);
 // 3. what starts there, node by node, a node being all that starts at one point (`starts::start_all`): what is not vertical enters the list and is compared
 //    with both neighbours;
@@ -22,7 +21,7 @@
 // Names: `s` is the drawing, seven numbers a segment; `flat` its ends in order of x, then y (of n segments, end e below n is the a of segment e, and n + i the
 // b of segment i); `list[..used]` has the places of the open segments; `tops` a top count for each place; `passed` ends and `started` segments are behind the
 // sweep; `near` and `guess` are places of the list to look at first; `clear` says that all tests were passed so far.
-ghost use Rattle.std.specs.Prelude.{◌≡◌, ◌↔◌, true, ◌*◌, ◌≤◌, ◌<◌, length, get_or, take};
+ghost use Rattle.std.specs.Prelude.{◌≡◌, ◌↔◌, true, false, ◌*◌, ◌≤◌, ◌<◌, length, get_or, take};
 ghost use Rattle.geom.specs.Points.{eq_z};
 ghost use Rattle.lists.specs.UpFrom.{up_from};
 ghost use Rattle.segm.specs.Segments.{segments};
@@ -35,20 +34,11 @@ ghost use Rattle.scan.specs.Scan.{RoomFor};
 ghost use Rattle.count_up.specs.CountUp.{BoundedBy, Counted};
 ghost use Rattle.verticals.specs.Verticals.{Column};
 ghost use Rattle.starts.specs.Starts.{Splits};
-ghost use Rattle.meeting_sweep.specs.declared.Swept.TheVariants.{Clear};
 ghost use Rattle.meeting_sweep.specs.Events.{Past, Happened, ClearEvent};
 
 use open_list::Status;
 
-// What the sweep finds: that no two segments meet wrongly, or the place of one that a failed test was made of, as a hint.
-#[derive(Drop)]
-pub enum Swept {
-    Clear,
-    Unclear(usize),
-}
-
-// All that is at one x: the ends there are passed, then the starts. Places are sought near a guess. Of an end that breaks a vertical segment its own segment is
-// told.
+// All that is at one x: the ends there are passed, then the starts. Places are sought near a guess.
 fn event(
     s: &[i32],
     ends: &[u16],
@@ -77,14 +67,12 @@ fn event(
         (result.clear ≡ true → ((result.used ≤ to) × Happened d ends.now from to l l' tops.old tops.new × BoundedBy (2048000 * to) tops.new))
         × (ClearEvent d ends.now from to l → result.clear ≡ true) }
 {
-    let unbroken = verticals::unbroken_ends(s, ends);
-    if unbroken < ends.len() {
-        let i = graph::link_of(segm::count(s), ends[unbroken] as usize);
-        return open_list::unclear(i);
+    if !verticals::are_unbroken(s, ends) {
+        return open_list::unclear();
     }
     let left = open_list::leave_all(s, ends, list, used, guess);
     if !left.clear {
-        return left;
+        return open_list::unclear();
     }
     starts::start_all(s, from, to, list, left.used, left.near, tops)
 }
@@ -132,14 +120,14 @@ fn starts_past(s: &[i32], k: usize, e: usize) -> usize
 }
 
 // The sweep, from x to x of the ordered ends. The list is working memory; the tops are 0 before it.
-fn sweep_events(s: &[i32], flat: &[u16], list: &mut [u16], tops: &mut [i32]) -> Swept
+fn sweep_events(s: &[i32], flat: &[u16], list: &mut [u16], tops: &mut [i32]) -> bool
     requires { let d = segments s.now in
         Faultless d
         × (flat.now ≡ ordering (end_before d) (up_from 0 (2 * length d)))
         × RoomFor (length d) list.old
         × (length d ≤ length tops.old)
         × BoundedBy 0 tops.old }
-    ensures { ((result ≡ Clear) ↔ NoneMeetWrongly (segments s.now)) × (result ≡ Clear → Counted (segments s.now) tops.new) }
+    ensures { ((result ≡ true) ↔ NoneMeetWrongly (segments s.now)) × (result ≡ true → Counted (segments s.now) tops.new) }
 {
     let mut passed: usize = 0;
     let mut started: usize = 0;
@@ -159,24 +147,24 @@ fn sweep_events(s: &[i32], flat: &[u16], list: &mut [u16], tops: &mut [i32]) -> 
             tops,
         );
         if !held.clear {
-            return Swept::Unclear(held.near);
+            return false;
         }
         passed = ends;
         started = starts;
         used = held.used;
         near = held.near;
     }
-    Swept::Clear
+    true
 }
 
 // Whether no two segments meet wrongly, of a drawing with its ordered ends. Where none do the tops, which are 0 before, are their top counts.
-pub fn sweep(s: &[i32], flat: &[u16], tops: &mut [i32]) -> Swept
+pub fn is_clear(s: &[i32], flat: &[u16], tops: &mut [i32]) -> bool
     requires { let d = segments s.now in
         Faultless d
         × (flat.now ≡ ordering (end_before d) (up_from 0 (2 * length d)))
         × (length d ≤ length tops.old)
         × BoundedBy 0 tops.old }
-    ensures { ((result ≡ Clear) ↔ NoneMeetWrongly (segments s.now)) × (result ≡ Clear → Counted (segments s.now) tops.new) }
+    ensures { ((result ≡ true) ↔ NoneMeetWrongly (segments s.now)) × (result ≡ true → Counted (segments s.now) tops.new) }
 {
     if segm::count(s) <= segm::SMALL {
         let mut list = [0u16; 144];

@@ -33,10 +33,6 @@ meets_wrongly s t =
     || ((in_interior t s.a || in_interior t s.b)
     || same_ends s t))
 
--- t starts to the right of s's b, by x alone
-abbrev pub starts_right : Segment → Segment → Bool
-starts_right s t = lt_z s.b.x t.a.x
-
 -- no two segments of a drawing meet wrongly
 abbrev pub NoneMeetWrongly : Drawing → Type 0
 NoneMeetWrongly d = Pairs (λ s t. meets_wrongly s t ≡ false) d

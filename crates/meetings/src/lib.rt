@@ -1,7 +1,7 @@
 // When two segments meet wrongly.
 ghost use Rattle.std.specs.Prelude.{◌≡◌, ◌&&◌, ◌||◌};
 ghost use Rattle.faults.specs.Faultless.{Proper};
-ghost use Rattle.meetings.specs.Meetings.{parts, in_interior, same_ends, meets_wrongly, starts_right};
+ghost use Rattle.meetings.specs.Meetings.{parts, in_interior, same_ends, meets_wrongly};
 
 use segm::Segment;
 
@@ -63,21 +63,14 @@ fn same_ends(s: Segment, t: Segment) -> bool
     geom::same(b, d)
 }
 
-// Whether t starts to the right of s's b.
-pub fn starts_right(s: Segment, t: Segment) -> bool
-    ensures { result ≡ starts_right s t }
-{
-    let b = s.b;
-    let c = t.a;
-    b.x < c.x
-}
-
 // Whether two segments meet wrongly. One that starts to the right of the other's b does not: that is the cheap test, and the commonest.
 pub fn meets_wrongly(s: Segment, t: Segment) -> bool
     requires { Proper s × Proper t }
     ensures { result ≡ meets_wrongly s t }
 {
-    if starts_right(s, t) {
+    let b = s.b;
+    let c = t.a;
+    if b.x < c.x {
         return false;
     }
     if crosses(s, t) {

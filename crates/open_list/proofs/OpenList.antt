@@ -23,8 +23,7 @@ use Rattle.strip.proofs.Strip.Compare.{under_by_side_lem, by_side_irrefl, by_sid
 use Rattle.strip.proofs.Strip.Clear.{apart_clear}
 use Rattle.strip.proofs.Strip.Tiers.{Tier}
 use Rattle.strip.proofs.Neighbours.StripList.{strip_tiers}
-use Rattle.lists.specs.Halving.{Changes}
-use Rattle.scan.specs.Scan.{insert_at, remove_at, is_below, below_at}
+use Rattle.scan.specs.Scan.{insert_at, remove_at, is_below, below_at, Changes}
 use Rattle.scan.specs.declared.Sought.TheVariants.{Along}
 use Rattle.scan.proofs.Scan.{insert_in, in_insert, remove_in, in_remove, not_removed, pairs_remove}
 use Rattle.open_list.specs.OpenList.{FitsAt, ClosesAt, HasLeft, Entered, Marked, Marks, Spanning, CanLeave, CanEnter}

@@ -20,8 +20,7 @@ use scan::Sought;
 use segm::Segment;
 
 // How many segments are open, a place of the list, and whether all tests were passed so far. The place is where a segment left or entered: at one x ends and
-// starts come in order, so that of the next one is near; and what changes at the next x is often near the lowest that changed at this one. Where a test was
-// not passed it is the place of a segment of the drawing that the test was made of, as a hint: no contract speaks of it.
+// starts come in order, so that of the next one is near; and what changes at the next x is often near the lowest that changed at this one.
 #[derive(Drop)]
 pub struct Status {
     pub used: usize,
@@ -29,13 +28,13 @@ pub struct Status {
     pub clear: bool,
 }
 
-// A test was not passed, one that was made of the segment at this place of the drawing.
-pub fn unclear(place: usize) -> Status
+// A test was not passed.
+pub fn unclear() -> Status
     ensures { result.clear ≡ false }
 {
     Status {
         used: 0,
-        near: place,
+        near: 0,
         clear: false,
     }
 }
@@ -187,8 +186,7 @@ fn place_to_leave(s: &[i32], t: Segment, i: usize, list: &[u16], near: usize) ->
     scan::place_of(s, list, Sought::Along(t))
 }
 
-// The segment t, at place i of the drawing, leaves the list. Where the two beside it do not close the lower one is told: there is one, as nothing is asked at
-// the list's ends.
+// The segment t, at place i of the drawing, leaves the list.
 fn take_out(s: &[i32], t: Segment, i: usize, list: &mut [u16], used: usize, near: usize) -> Status
     requires { let d = segments s.now in let l = take used list.old in
         Faultless d
@@ -204,13 +202,13 @@ fn take_out(s: &[i32], t: Segment, i: usize, list: &mut [u16], used: usize, near
 {
     let k = place_to_leave(s, t, i, &list[..used], near);
     if used <= k {
-        return unclear(i);
+        return unclear();
     }
     if list[k] as usize != i {
-        return unclear(i);
+        return unclear();
     }
     if !closes_at(s, &list[..used], k) {
-        return unclear(list[k - 1] as usize);
+        return unclear();
     }
     scan::remove(list, used, k);
     let fewer = used - 1;
@@ -250,7 +248,7 @@ pub fn leave_all(s: &[i32], ends: &[u16], list: &mut [u16], used: usize, guess: 
     while k < ends.len() {
         let left = leave_one(s, ends[k], list, held, near);
         if !left.clear {
-            return left;
+            return unclear();
         }
         near = left.near;
         lowest = lowest_place(held == used, lowest, near);
@@ -328,7 +326,7 @@ fn enter_one(s: &[i32], i: usize, list: &mut [u16], used: usize, near: usize) ->
     }
     let place = place_to_enter(s, t, i as u16, &list[..used], near);
     if !place.fits {
-        return unclear(i);
+        return unclear();
     }
     let k = place.at;
     scan::insert(list, used, k, i as u16);
@@ -368,7 +366,7 @@ pub fn enter_all(
     while i < to {
         let entered = enter_one(s, i, list, held, near);
         if !entered.clear {
-            return entered;
+            return unclear();
         }
         near = entered.near;
         held = entered.used;

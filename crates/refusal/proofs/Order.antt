@@ -1,13 +1,12 @@
 -- One check after the other, and the first place with a refusal: what it means that nothing is refused, and that something is.
-use mathlib.Core.Path.{◌≡◌, refl, sym, ap, ap₂, ◌∙◌}
+use mathlib.Core.Path.{◌≡◌, refl, sym, ap, ◌∙◌}
 use mathlib.Core.Logic.{◌⊎◌, inl, inr}
 use mathlib.Core.Bool.{Bool, true, false, cond, true≢false}
 use Prim.Native.Nat.{ℕ, zero, suc, ◌+◌, ◌-◌, ◌<◌, ◌≤◌}
-use native.Mathlib.Nat.{eq-or-lt_of_le}
 use native.Mathlib.Numerals.{add-one}
 use native.Mathlib.Omega.{arith}
-use lib.Dec.{eqb, ltb}
-use borrow.Author.Tests.{eqb-true, eqb-false, eq-eqb, ne_eqb, ltb-true, ltb-false}
+use lib.Dec.{eqb}
+use borrow.Author.Tests.{eqb-true, eqb-false, eq-eqb, ne_eqb}
 use Rattle.integers.proofs.Booleans.{dec}
 use Rattle.refusal.specs.declared.Verdict.{Verdict}
 use Rattle.refusal.specs.declared.Verdict.TheVariants.{Accepted, Refused}
@@ -67,17 +66,6 @@ module _ (f : ℕ → ℕ) where
           let m : f i ≡ number = cc in
           record { inside = omega arith; is = ap f (sym p) ∙ m; some = λ o. eqb-false (f i) 0 z (m ∙ o) }
 
-  -- at no place before it is anything wrong
-  before_from : (left i number place : ℕ) → first_from f left i ≡ Refused number place → (k : ℕ) → i ≤ k → k < place → f k ≡ 0
-  unfolding first_from
-  before_from zero i number place e k h l = not_both (sym e)
-  before_from (suc left) i number place e k h l = go (dec (eqb (f i) 0)) (eq-or-lt_of_le h) (before_from left (suc i) number place)
-    where
-      go : (eqb (f i) 0 ≡ true) ⊎ (eqb (f i) 0 ≡ false) → (i ≡ k) ⊎ (i < k) → (first_from f left (suc i) ≡ Refused number place → (k : ℕ) → suc i ≤ k → k < place → f k ≡ 0) → f k ≡ 0
-      go (inl z) (inl q) rest = ap f (sym q) ∙ eqb-true (f i) 0 z
-      go (inl z) (inr q) rest = rest (sym (looked left i true z) ∙ e) k q l
-      go (inr z) q rest = let p : Refused (f i) i ≡ Refused number place = sym (looked left i false z) ∙ e in let m : i ≡ place = cc in absurd (omega arith)
-
 module _ (f : ℕ → ℕ) (n : ℕ) where
   pub first-none : first f n ≡ Accepted → (i : ℕ) → i < n → f i ≡ 0
   unfolding first
@@ -87,10 +75,6 @@ module _ (f : ℕ → ℕ) (n : ℕ) where
   unfolding first
   first-at number place e = let r = at_from f n 0 number place e in record { inside = omega (arith, r.inside); is = r.is; some = r.some }
 
-  pub first_before : (number place : ℕ) → first f n ≡ Refused number place → (k : ℕ) → k < place → f k ≡ 0
-  unfolding first
-  first_before number place e k l = before_from f n 0 number place e k (omega arith) l
-
   -- nothing is wrong at any place
   pub all_none : ((i : ℕ) → i < n → f i ≡ 0) → first f n ≡ Accepted
   all_none none = go (first f n) refl
@@ -99,27 +83,10 @@ module _ (f : ℕ → ℕ) (n : ℕ) where
       go Accepted e = refl
       go (Refused number place) e = let a = first-at number place e in absurd (a.some (sym a.is ∙ none place a.inside))
 
-  -- a place with a refusal, and none before it
-  pub first_is : (number place : ℕ) → place < n → f place ≡ number → (number ≡ 0 → ⊥) → ((k : ℕ) → k < place → f k ≡ 0) → first f n ≡ Refused number place
-  first_is number place inside is some none = go (first f n) refl
-    where
-      go : (v : Verdict) → first f n ≡ v → v ≡ Refused number place
-      go Accepted e = absurd (some (sym is ∙ first-none e place inside))
-      go (Refused m p) e = by (dec (ltb p place)) (dec (ltb place p))
-        where
-          by : (ltb p place ≡ true) ⊎ (ltb p place ≡ false) → (ltb place p ≡ true) ⊎ (ltb place p ≡ false) → Refused m p ≡ Refused number place
-          by (inl l) r = absurd ((first-at m p e).some (sym (first-at m p e).is ∙ none p (ltb-true p place l)))
-          by (inr l) (inl r) = absurd (some (sym is ∙ first_before m p e place (ltb-true place p r)))
-          by (inr l) (inr r) = let q : p ≡ place = omega (arith, ltb-false p place l, ltb-false place p r) in ap₂ Refused (sym (first-at m p e).is ∙ ap f q ∙ is) q
-
 -- ---- one after the other
 -- a refusal stays
 pub refused_then : (v w : Verdict) {number place : ℕ} → v ≡ Refused number place → (v then w) ≡ v
 refused_then v w {number} {place} e = ap (λ (u : Verdict). u then w) e ∙ sym e
-
-pub not_accepted_then : (v w : Verdict) → (v ≡ Accepted → ⊥) → (v then w) ≡ v
-not_accepted_then Accepted w h = absurd (h refl)
-not_accepted_then (Refused number place) w h = refl
 
 -- both accept
 pub accepted_then : (v w : Verdict) → (v then w) ≡ Accepted → (v ≡ Accepted) × (w ≡ Accepted)
@@ -127,10 +94,6 @@ accepted_then Accepted w e = (refl, e)
 accepted_then (Refused number place) w e = not_both e
 
 -- the one refuses, or the other
-pub refused_after : (v w : Verdict) {number place : ℕ} → (v then w) ≡ Refused number place → (v ≡ Refused number place) ⊎ ((v ≡ Accepted) × (w ≡ Refused number place))
-refused_after Accepted w e = inr (refl, e)
-refused_after (Refused number place) w e = inl e
-
 pub refused_by : {X : Type 0} (v w : Verdict) {number place : ℕ} → (v then w) ≡ Refused number place → (v ≡ Refused number place → X) → (w ≡ Refused number place → X) → X
 refused_by Accepted w e f g = g e
 refused_by (Refused number place) w e f g = f e

@@ -1,6 +1,6 @@
 -- The ordered list of the open segments: places of segments, the lowest first. Where a point or a segment stands in it, what enters and what is taken out.
 -- The contracts of `scan` cite these.
-use Rattle.std.specs.Prelude.{List, ◌∷◌, ◌++◌, ◌≡◌, Bool, true, ℕ, zero, suc, ◌+◌, ◌≤◌, ◌<◌, length, get_or, take, drop, set}
+use Rattle.std.specs.Prelude.{List, ◌∷◌, ◌++◌, ◌≡◌, Bool, true, false, ℕ, zero, suc, ◌+◌, ◌-◌, ◌≤◌, ◌<◌, length, get_or, take, drop, set}
 use Rattle.geom.specs.Points.{in_range}
 use Rattle.lists.specs.Members.{◌∈◌}
 use Rattle.segm.specs.Segments.{Drawing, segment_at}
@@ -8,6 +8,13 @@ use Rattle.faults.specs.Faultless.{Proper}
 use Rattle.strip.specs.Strip.{above, under_by_side}
 use Rattle.scan.specs.declared.Sought.{Sought}
 use Rattle.scan.specs.declared.Sought.TheVariants.{At, Along}
+
+-- r lies from low to high, and the test changes there from true to false
+pub record Changes (test : ℕ → Bool) (low high r : ℕ) : Type 0 where
+  pub from : low ≤ r
+  pub till : r ≤ high
+  pub before : low < r → test (r - 1) ≡ true
+  pub after : r < high → test r ≡ false
 
 -- the segment at place i is below a point, or below another segment
 unfoldable pub is_below : Drawing → Sought → ℕ → Bool

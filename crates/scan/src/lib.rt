@@ -4,8 +4,7 @@ ghost use Rattle.std.specs.Prelude.{◌≡◌, ◌+◌, ◌-◌, ◌≤◌, ◌<
 ghost use Rattle.segm.specs.Segments.{segments};
 ghost use Rattle.faults.specs.Faultless.{Proper};
 ghost use Rattle.strip.specs.Strip.{is_vertical, under_by_side};
-ghost use Rattle.lists.specs.Halving.{Changes};
-ghost use Rattle.scan.specs.Scan.{is_below, below_at, insert_at, remove_at, moved_up, moved_down, RoomFor, ProperAt, AllProper, SoughtInRange};
+ghost use Rattle.scan.specs.Scan.{is_below, below_at, insert_at, remove_at, moved_up, moved_down, RoomFor, Changes, ProperAt, AllProper, SoughtInRange};
 
 use geom::Point;
 use segm::Segment;

@@ -3,7 +3,7 @@
 // the list in which they stand has all that starts at their feet or lower, and what enters later starts at their heads or above.
 //
 // Names: places from..to of the drawing start at this x; `next` is the place after a node; `near` is a place of the list to look at first, and `high` the one
-// after those of a node; `standing` is the place up to which its vertical segments stand.
+// after those of a node.
 ghost use Rattle.std.specs.Prelude.{◌≡◌, true, ◌*◌, ◌≤◌, ◌<◌, length, take};
 ghost use Rattle.segm.specs.Segments.{segments};
 ghost use Rattle.faults.specs.Faultless.{Faultless};
@@ -67,13 +67,12 @@ fn start_node(
 {
     let entered = open_list::enter_all(s, from, to, list, used, guess);
     if !entered.clear {
-        return entered;
+        return open_list::unclear();
     }
     let near = lesser(entered.near, entered.used);
     let high = count_up::count_node(s, &list[..entered.used], from, near, tops);
-    let standing = verticals::stand_all(s, from, to, &list[..entered.used], high, tops);
-    if standing != to {
-        return open_list::unclear(standing);
+    if !verticals::stand_all(s, from, to, &list[..entered.used], high, tops) {
+        return open_list::unclear();
     }
     Status {
         used: entered.used,
@@ -116,7 +115,7 @@ pub fn start_all(
         let next = node_end(s, i, to);
         let started = start_node(s, i, next, list, held, near, tops);
         if !started.clear {
-            return started;
+            return open_list::unclear();
         }
         near = started.near;
         lowest = open_list::lowest_place(i == from, lowest, near);

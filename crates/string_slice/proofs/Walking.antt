@@ -16,7 +16,7 @@ use Rattle.segm.specs.Segments.{Drawing}
 use Rattle.lists.proofs.Written.{take_written}
 use Rattle.lists.proofs.Members.{in_map}
 use Rattle.contour.specs.Points.{coordinates, pair_up, AllInRange, cut}
-use Rattle.contour.proofs.Points.Coordinates.{pair-coordinates}
+use Rattle.contour.proofs.Points.Coordinates.{pair_coordinates}
 use Rattle.contour.proofs.Area.{near_all}
 use Rattle.contour.proofs.Points.CutWritten.{cut_written, tally_lengths}
 use Rattle.refusal.specs.declared.Verdict.{Verdict}
@@ -51,7 +51,7 @@ paths_written : (paths : List (List Point)) (old : List ℤ) → paths_in (writt
 unfolding written
 paths_written paths old =
     let r = drop (length (coordinates (flatten paths))) old in
-    (λ i. cut (length-map paths length i) (sym (append-nil (map length paths)) i) (pair-coordinates (flatten paths) r i)) ∙ cut_written paths [] (pair_up r)
+    (λ i. cut (length-map paths length i) (sym (append-nil (map length paths)) i) (pair_coordinates (flatten paths) r i)) ∙ cut_written paths [] (pair_up r)
 
 direction_back : (b : Bool) → eqb (one b) 1 ≡ b
 direction_back true = refl

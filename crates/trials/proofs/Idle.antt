@@ -23,8 +23,7 @@ use Rattle.refusal.specs.declared.Verdict.{Verdict}
 use Rattle.refusal.specs.declared.Verdict.TheVariants as verdict-is
 use Rattle.refusal.specs.Asked.{wrong_length, unknown_choice, too_short, asked_first}
 use Rattle.refusal.specs.Order.{first_from, first}
-use Rattle.meeting_search.specs.Named.{meeting_at, meetings_of}
-use Rattle.drawing_check.specs.Drawing.{unbalanced_at, unbalanced_of, drawing_verdict}
+use Rattle.drawing_check.specs.Drawing.{meeting_at, unbalanced_at, meetings_of, unbalanced_of, drawing_verdict}
 use Rattle.checks.specs.Runs.{Run, asked, verdict, clip_run}
 use Rattle.checks.specs.Accepted.{accepts, Fits, wrong_length_lem, coordinate_out, not_rising, winding_out, bits_out, lot_out, start_falls, wrong_meeting, a_unbalanced, b_unbalanced, unknown_choice_lem, too_short_lem}
 use Rattle.checks.proofs.Runs.Listed.{refused_fits}

@@ -1,4 +1,4 @@
-// Vertical segments, which are never open: their tests and their top counts. Beside the ends at their x, from the lowest up (`unbroken_ends`): no end lies
+// Vertical segments, which are never open: their tests and their top counts. Beside the ends at their x, from the lowest up (`are_unbroken`): no end lies
 // strictly between the ends of one, and no two overlap. Beside the list of the open segments, once all that starts at their feet has entered (`stand_all`):
 // each stands in a gap, the segment below the gap under its foot and the one above over its head, or they start there. Its top count is that of the segment
 // below the gap, and its own winding.
@@ -114,8 +114,7 @@ fn stand_one(s: &[i32], v: Segment, i: usize, list: &[u16], guess: usize, tops: 
     gap
 }
 
-// The first of places from..to whose segment is vertical and stands in no gap of the list, or `to` where all stand; the first one's gap is sought near a guess.
-// The top counts of those before it are written.
+// Whether every vertical segment from one place up to another stands in a gap of the list, the first one's sought near a guess. Their top counts are written.
 pub fn stand_all(
     s: &[i32],
     from: usize,
@@ -123,7 +122,7 @@ pub fn stand_all(
     list: &[u16],
     guess: usize,
     tops: &mut [i32],
-) -> usize
+) -> bool
     requires { let d = segments s.now in
         Faultless d
         × (to ≤ length d)
@@ -131,9 +130,9 @@ pub fn stand_all(
         × (length d ≤ length tops.old)
         × BoundedBy 2100000000 tops.old }
     ensures { let d = segments s.now in let l = list.now in
-        (result ≡ to → AllStand d from to l tops.old tops.new)
+        (result ≡ true → AllStand d from to l tops.old tops.new)
         × ((b : ℕ) → BoundedBy b tops.old → BoundedBy (b + 1000 * (to - from)) tops.new)
-        × (Clears d from to l → result ≡ to) }
+        × (Clears d from to l → result ≡ true) }
 {
     let mut near = guess;
     let mut i = from;
@@ -142,13 +141,13 @@ pub fn stand_all(
         if scan::is_vertical(v) {
             let gap = stand_one(s, v, i, list, near, tops);
             if !gap.clear {
-                return i;
+                return false;
             }
             near = gap.place;
         }
         i += 1;
     }
-    to
+    true
 }
 
 // The last vertical segment of a column of ends, by the heights of its foot and head, and whether all tests were passed so far.
@@ -193,11 +192,10 @@ fn pass_end(s: &[i32], e: usize, foot: i32, top: i32) -> Last
     }
 }
 
-// How many ends of a column come before the first that lies within a vertical segment that starts in it, or at which one starts that overlaps the last: all,
-// where there is none.
-pub fn unbroken_ends(s: &[i32], ends: &[u16]) -> usize
+// Whether no end of a column lies within a vertical segment that starts in it, and these do not overlap.
+pub fn are_unbroken(s: &[i32], ends: &[u16]) -> bool
     requires { Faultless (segments s.now) × Column (segments s.now) ends.now }
-    ensures { (result ≤ length ends.now) × ((result ≡ length ends.now) ↔ Unbroken (segments s.now) ends.now) }
+    ensures { (result ≡ true) ↔ Unbroken (segments s.now) ends.now }
 {
     let mut foot: i32 = -2147483648;
     let mut top: i32 = -2147483648;
@@ -205,11 +203,11 @@ pub fn unbroken_ends(s: &[i32], ends: &[u16]) -> usize
     while k < ends.len() {
         let last = pass_end(s, ends[k] as usize, foot, top);
         if !last.clear {
-            return k;
+            return false;
         }
         foot = last.foot;
         top = last.top;
         k += 1;
     }
-    k
+    true
 }

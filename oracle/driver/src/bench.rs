@@ -16,13 +16,13 @@ use jumperclay::raw;
 use std::hint::black_box;
 use std::time::{Duration, Instant};
 
-pub const SIZES: [usize; 3] = [64, 256, MOST_SEGMENTS];
+const SIZES: [usize; 3] = [64, 256, MOST_SEGMENTS];
 pub const NON_ZERO: i32 = 1;
 /// How long a row is timed before it is the next one's turn.
 const A_WHILE: Duration = Duration::from_millis(50);
 
 /// Few segments open at once, half of all open at once, and half of all at one point.
-pub const KINDS: [(&str, Make); 3] = [("mesh", mesh), ("nested", shapes::heaped), ("fan", shapes::wheel)];
+const KINDS: [(&str, Make); 3] = [("mesh", mesh), ("nested", shapes::heaped), ("fan", shapes::wheel)];
 
 /// What is timed, on drawings with these lines.
 struct Run {

@@ -3,9 +3,8 @@
 use crate::blocks::in_blocks;
 use crate::case::Difference;
 use crate::compare::compare;
-use crate::damage::{damaged, met_at_end};
+use crate::damage::damaged;
 use crate::generate::{Generator, JOINED, SCATTERED};
-use crate::pair_cases;
 use crate::placement;
 use crate::random::Random;
 use crate::refusals;
@@ -22,11 +21,8 @@ const LEAST_ACCEPTED: usize = 50_000;
 /// Damaged copies of each drawing; of one with many segments, one.
 const COPIES: usize = 2;
 
-/// So many of a hundred have a further copy, with a wrong meeting just where the search may leave a segment.
-const MET_AT_END: usize = 20;
-
-/// Compares the trial drawings, those with known faults or pairs, this many others and their damaged copies. False
-/// where something differs or is missing.
+/// Compares the trial drawings, those with known faults, this many others and their damaged copies. False where
+/// something differs or is missing.
 pub fn check(seed: u64, drawings: usize) -> bool {
     let work = |block, tally: &mut Tally| match block {
         0 => check_fixed(seed, tally),
@@ -52,8 +48,7 @@ fn is_enough(tally: &Tally, drawings: usize) -> bool {
 fn check_fixed(seed: u64, tally: &mut Tally) -> Result<(), String> {
     let trials = trials::slices().into_iter().map(|(_, numbers)| ("trial", numbers));
     let faults = refusals::faults().into_iter().map(|numbers| ("known fault or limit", numbers));
-    let pairs = pair_cases::drawings().into_iter().map(|numbers| ("known pairs", numbers));
-    trials.chain(faults).chain(pairs).enumerate().try_for_each(|(place, (kind, numbers))| {
+    trials.chain(faults).enumerate().try_for_each(|(place, (kind, numbers))| {
         let random = &mut Random::new(&[seed, place as u64]);
         check_drawing(kind, &numbers, true, random, tally).map_err(|found| found.report())
     })
@@ -82,10 +77,6 @@ fn check_one(generator: &Generator, random: &mut Random, tally: &mut Tally) -> R
     let copies = if numbers.len() > 1000 { 1 } else { COPIES };
     for _ in 0..copies {
         let copy = damaged(&numbers, random);
-        check_drawing(generator.name, &copy, false, random, tally)?;
-    }
-    if random.chance(MET_AT_END) {
-        let copy = met_at_end(&numbers, random);
         check_drawing(generator.name, &copy, false, random, tally)?;
     }
     Ok(())

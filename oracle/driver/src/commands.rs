@@ -1,7 +1,7 @@
 //! The driver's commands.
 
 #[cfg(feature = "rust")]
-use crate::{bench, bench_refused, bench_texts, store};
+use crate::{bench, bench_texts, store};
 use crate::{cases, check, check_moves, check_pipes, check_split, check_texts, stored, stored_checks, sweeps, theirs};
 use std::path::Path;
 
@@ -19,8 +19,7 @@ driver sweeps [FOLDER]               make the drawings that the definition of th
 driver bench                         time ours and the Rust (needs the Rust)
 driver bench sheets                  time them on the nine sheets alone
 driver bench alone                   time ours with nothing else between its calls
-driver bench texts                   time the reading, writing and moving of texts
-driver bench refused                 time the check of drawings in which segments meet wrongly";
+driver bench texts                   time the reading, writing and moving of texts";
 
 struct Options {
     seed: u64,
@@ -52,7 +51,7 @@ pub fn run(words: &[&str]) -> Option<bool> {
         ["cases", folder] => Some(cases::store(Path::new(folder))),
         ["sweeps"] => Some(sweeps::store(&sweeps::folder())),
         ["sweeps", folder] => Some(sweeps::store(Path::new(folder))),
-        ["bench"] | ["bench", "sheets" | "alone" | "texts" | "refused"] | ["store"] => {
+        ["bench"] | ["bench", "sheets" | "alone" | "texts"] | ["store"] => {
             Some(with_rust(&words.join(" "), &stored::folder()))
         }
         ["store", folder] => Some(with_rust("store", Path::new(folder))),
@@ -110,7 +109,6 @@ fn with_rust(command: &str, folder: &Path) -> bool {
         "bench sheets" => bench::bench_sheets(),
         "bench alone" => bench::bench_alone(),
         "bench texts" => bench_texts::bench(),
-        "bench refused" => bench_refused::bench(),
         _ => bench::bench(),
     }
 }

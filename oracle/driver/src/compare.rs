@@ -5,7 +5,7 @@ use crate::prose::Refusal;
 use crate::random::Random;
 use crate::tally::Tally;
 use crate::theirs::Theirs;
-use crate::{both, clip, fills, pairs, slice, verdict};
+use crate::{both, clip, fills, slice, verdict};
 
 /// Returns the refusal by known choices and lists long enough, if any. A thorough comparison has every rule and minimum
 /// area, also of a large drawing.
@@ -17,7 +17,6 @@ pub fn compare(
 ) -> Result<Option<Refusal>, Difference> {
     let case = Case::new(numbers);
     verdict::compare(&case, tally)?;
-    pairs::compare(&case, tally)?;
     // The Rust refuses nothing: it is given accepted drawings only.
     let mut theirs = case.is_accepted().then(|| Theirs::new(numbers));
     fills::compare(&case, theirs.as_mut(), random, tally)?;

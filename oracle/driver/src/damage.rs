@@ -1,6 +1,6 @@
 //! Damaged copies of good drawings.
 
-use crate::drawing::{numbers, read, Point, Segment, FARTHEST, MOST_LOT, MOST_SEGMENTS, MOST_WINDING, WIDTH};
+use crate::drawing::{numbers, read, Segment, FARTHEST, MOST_LOT, MOST_SEGMENTS, MOST_WINDING, WIDTH};
 use crate::random::Random;
 
 /// A copy damaged once to three times. Some are accepted all the same.
@@ -16,25 +16,6 @@ pub fn damaged(drawing: &[i32], random: &mut Random) -> Vec<i32> {
 pub fn repeated<T: Clone>(list: &[T], random: &mut Random, damage: fn(Vec<T>, &mut Random) -> Vec<T>) -> Vec<T> {
     let times = random.pick(&[1, 1, 1, 1, 2, 3]);
     (0..times).fold(list.to_vec(), |copy, _| damage(copy, random))
-}
-
-/// A copy with one segment more, which meets another wrongly and starts at that one's b by x: upright, through its b, or
-/// from the inside of an upright one to the right. (Apart from the damages above, by which stored answers are made.)
-pub fn met_at_end(drawing: &[i32], random: &mut Random) -> Vec<i32> {
-    let mut segments = read(drawing);
-    if segments.is_empty() {
-        return Vec::new();
-    }
-    let Segment { a, b, lot, .. } = random.pick(&segments);
-    let [one, other] = [(); 2].map(|()| random.within(1, 3));
-    let (p, q) = if a.0 == b.0 && b.1 - a.1 > 1 && random.chance(50) {
-        let inside = random.within(a.1 + 1, b.1 - 1);
-        ((a.0, inside), (a.0 + one, inside + other - 2))
-    } else {
-        ((b.0, b.1 - one), (b.0, b.1 + other))
-    };
-    insert_line(&mut segments, p, q, lot);
-    numbers(&segments)
 }
 
 /// One number replaced.
@@ -78,10 +59,7 @@ fn with_segments(drawing: Vec<i32>, random: &mut Random) -> Vec<i32> {
         3 => reverse(&mut segments[one]),
         4 => segments[one].b = segments[other].b,
         5 => segments[one].winding = random.within(-2, 2),
-        6 => {
-            let (from, to) = (segments[one], segments[other]);
-            insert_line(&mut segments, from.a, to.b, from.lot);
-        }
+        6 => insert_line(&mut segments, one, other),
         7 => segments[one].lot = random.pick(&[-1, MOST_LOT, MOST_LOT + 1, i32::MIN, i32::MAX]),
         _ => aim_at_middle(&mut segments, one, other),
     }
@@ -92,9 +70,10 @@ fn reverse(segment: &mut Segment) {
     (segment.a, segment.b) = (segment.b, segment.a);
 }
 
-/// A line between two points, in its place by a.
-fn insert_line(segments: &mut Vec<Segment>, p: Point, q: Point, lot: i32) {
-    let line = Segment { a: p.min(q), b: p.max(q), winding: 0, bits: 1, lot };
+/// A line from one segment to another, in its place by a.
+fn insert_line(segments: &mut Vec<Segment>, one: usize, other: usize) {
+    let (p, q) = (segments[one].a, segments[other].b);
+    let line = Segment { a: p.min(q), b: p.max(q), winding: 0, bits: 1, lot: segments[one].lot };
     segments.insert(segments.partition_point(|old| old.a < line.a), line);
 }
 

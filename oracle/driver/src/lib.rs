@@ -6,8 +6,6 @@ mod areas;
 #[cfg(feature = "rust")]
 mod bench;
 #[cfg(feature = "rust")]
-mod bench_refused;
-#[cfg(feature = "rust")]
 mod bench_texts;
 mod blocks;
 mod both;
@@ -48,8 +46,6 @@ mod mover;
 mod moves;
 mod nodes;
 mod output;
-mod pair_cases;
-mod pairs;
 mod pipe_tasks;
 mod placement;
 mod places;

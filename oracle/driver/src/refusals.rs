@@ -93,7 +93,7 @@ fn with(alterations: &[Alteration]) -> Vec<i32> {
 }
 
 /// Each refusal of a segment at its first, a middle and its last place. (9 at the last one is among the rows.)
-pub fn by_place() -> Vec<Vec<i32>> {
+fn by_place() -> Vec<Vec<i32>> {
     let alterations = [
         (0, AX, -FARTHEST - 1),
         (4, BY, FARTHEST + 1),
@@ -158,14 +158,14 @@ fn by_order() -> Vec<Vec<i32>> {
 }
 
 /// No numbers, and lengths of no whole segments.
-pub fn lengths() -> Vec<Vec<i32>> {
+fn lengths() -> Vec<Vec<i32>> {
     [0, 1, WIDTH - 1, A.len() - 1].map(|length| A[..length].to_vec()).into()
 }
 
 // ---- one, two and three segments
 
 /// Two segments with a line each: the first one's is drawn from a, the second one's from b.
-pub fn two([a, b, c, d]: [Point; 4]) -> Vec<i32> {
+fn two([a, b, c, d]: [Point; 4]) -> Vec<i32> {
     let line = |a, b, bits| Segment { a, b, winding: 0, bits, lot: 0 };
     numbers(&[line(a, b, 1), line(c, d, 2)])
 }

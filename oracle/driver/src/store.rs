@@ -1,21 +1,18 @@
 //! Makes the stored answers: fills, paths, contours and loops by the unchanged Rust, refusals by the prose check. Steps
-//! and travel of paths are counted here, as the Rust does not count them. What is written and moved, and the pairs tried,
-//! are by the prose.
+//! and travel of paths are counted here, as the Rust does not count them. What is written and moved is by the prose.
 
 use crate::areas::areas;
 use crate::case::Case;
 use crate::choices::{known, known_but, unknown, Choices, SliceChoices, MOST, RULES, SLICE_MOST};
 use crate::counts::Counts;
 use crate::damage::damaged;
-use crate::drawing::{comma_text, commas, pairs, read, MOST_POINTS, MOST_SEGMENTS, WIDTH};
+use crate::drawing::{comma_text, commas, pairs, MOST_POINTS, MOST_SEGMENTS, WIDTH};
 use crate::forms::{with_lots, without_lots};
 use crate::generate::{accepted, Generator, JOINED, SCATTERED};
 use crate::loops::Loops;
 use crate::move_cases;
 use crate::mover::Asked;
 use crate::output::{Output, CLIP_EACH, SLICE_EACH};
-use crate::pair_cases;
-use crate::pairs::Search;
 use crate::point_lists;
 use crate::prose::{of_split, Checked, Refusal};
 use crate::random::Random;
@@ -36,7 +33,7 @@ type Line = (String, String);
 type MakeLine = fn(usize, &mut Random) -> Line;
 
 /// How many lines there are of each kind. The trials and the refusals are as many as there are.
-fn kinds() -> [(usize, MakeLine); 16] {
+fn kinds() -> [(usize, MakeLine); 15] {
     [
         (320, accepted_fills),
         (80, refused_fills),
@@ -53,7 +50,6 @@ fn kinds() -> [(usize, MakeLine); 16] {
         (refusals::slices().len(), |place, _| slice_line(&refusals::slices()[place])),
         (move_cases::stored().len(), |place, _| text_line(&move_cases::stored()[place])),
         (18, accepted_text),
-        (pair_cases::drawings().len(), |place, _| pairs_line(&pair_cases::drawings()[place])),
     ]
 }
 
@@ -274,12 +270,6 @@ fn accepted_text(place: usize, random: &mut Random) -> Line {
     };
     let needed = asked.due().needed();
     text_line(&(asked, needed + place % 2))
-}
-
-/// The number of pairs tried, of a drawing refused or not.
-fn pairs_line(numbers: &[i32]) -> Line {
-    let tried = Search::new(&read(numbers), Checked::new(numbers).refused).tried();
-    (question("p", &[], numbers), tried.to_string())
 }
 
 /// One of the areas that a field of a line can hold.

@@ -1,9 +1,8 @@
 //! The stored answers: a drawing, a list of points or a text a line in one file, its answer in the same line of another.
 //! `f,rule,ax,ay,bx,by,winding,bits,lot,...` has the answer `number,place,count,fill,...`,
 //! `c,rule,invert,boundary,ax,...` has `number,place,paths,points,steps,travel,length,...,x,y,...`,
-//! `s,rule,direction,area,ax,...` has `number,place,contours,points,length,...,role,...,x,y,...`,
-//! `l,area,x,y,...` has `number,place,loops,points,length,...,x,y,...`, and `p,ax,...` has the number of pairs tried.
-//! Those of texts stand in `stored_texts.rs`.
+//! `s,rule,direction,area,ax,...` has `number,place,contours,points,length,...,role,...,x,y,...`, and
+//! `l,area,x,y,...` has `number,place,loops,points,length,...,x,y,...`. Those of texts stand in `stored_texts.rs`.
 
 use crate::choices::Choices;
 use crate::drawing::{commas, MOST_POINTS, MOST_SEGMENTS};
@@ -72,10 +71,10 @@ pub fn replay(folder: &Path) -> bool {
     same && lines > 0 && wrong.is_empty()
 }
 
-/// The letter and the numbers of a question, if it has any; none where something else follows the letter.
+/// The letter and the numbers of a question; none where something else follows the letter.
 pub fn parsed(question: &str) -> Option<(&str, Vec<i32>)> {
     let (run, numbers) = question.split_once(',')?;
-    let numbers: Result<Vec<i32>, _> = numbers.split_terminator(',').map(str::parse).collect();
+    let numbers: Result<Vec<i32>, _> = numbers.split(',').map(str::parse).collect();
     Some((run, numbers.ok()?))
 }
 
@@ -112,7 +111,6 @@ fn of_numbers(question: &str) -> Option<String> {
             let call = |out: &mut [_], lengths: &mut [_], _: &mut [_]| raw::split(points, min_area, out, lengths);
             Output::of_call([2 * MOST_POINTS, MOST_POINTS, 0], call).line()
         }
-        ("p", segments) => Some(raw::pairs(segments).to_string()),
         _ => None,
     }
 }

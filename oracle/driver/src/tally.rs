@@ -5,7 +5,6 @@ use crate::calls::{Call, Calls};
 use crate::choices::{Choices, SliceChoices};
 use crate::drawing::{read, Segment, MOST_LOT};
 use crate::marks;
-use crate::pairs;
 use crate::prose::{faults_at, Refusal};
 use crate::table::Table;
 
@@ -22,9 +21,6 @@ pub struct Tally {
     /// Accepted drawings asked what cleared them of wrong meetings, and those that only the search over pairs did.
     asked: usize,
     searched: usize,
-    /// The calls of overlay_pairs by the drawing's refusal, and what is to be said of them.
-    pairs_due: Table<u64, 1>,
-    pairs_marks: Table<&'static str, 1>,
     /// The calls of both clip runs at once.
     both: Table<&'static str, 1>,
     /// The clip and slice runs of accepted drawings.
@@ -86,12 +82,6 @@ impl Tally {
         self.searched += usize::from(by_search);
     }
 
-    /// A call of overlay_pairs: the number of the drawing's refusal, 0 for none, and which marks the search has.
-    pub fn add_pairs(&mut self, due: u64, marks: [bool; pairs::MARKS.len()]) {
-        self.pairs_due.add(due, 0);
-        self.pairs_marks.add_marks(pairs::MARKS, marks);
-    }
-
     /// A call of both clip runs at once, by its name.
     pub fn add_both(&mut self, name: &'static str) {
         self.both.add(name, 0);
@@ -120,8 +110,6 @@ impl Tally {
         self.calls.merge(other.calls);
         self.asked += other.asked;
         self.searched += other.searched;
-        self.pairs_due.merge(other.pairs_due);
-        self.pairs_marks.merge(other.pairs_marks);
         self.both.merge(other.both);
         self.clips.merge(other.clips);
         self.slices.merge(other.slices);
@@ -140,13 +128,9 @@ impl Tally {
         let faults = self.faults.lacking(&FAULTS).map(|name| format!("refusal {name} at one place"));
         let choices = self.clips.lacking(FILTERS.as_flattened()).chain(self.slices.lacking(&DIRECTIONS));
         let marks = self.clip_marks.lacking(&marks::CLIP).chain(self.slice_marks.lacking(&marks::SLICE));
-        let due = self.pairs_due.lacking(&pairs::DUE).map(|number| format!("refusal {number}"));
-        let pairs = due.chain(self.pairs_marks.lacking(&pairs::MARKS).map(|name| name.to_string()));
-        let pairs = pairs.map(|name| format!("overlay_pairs with {name}"));
         let both = self.both.lacking(&both::CALLS).map(|name| format!("measure_clip_both with {name}"));
         let names = choices.chain(marks).map(|name| name.to_string());
-        let drawings = sizes.chain(lots).chain(faults).chain(names);
-        self.calls.missing().into_iter().chain(drawings).chain(both).chain(pairs).collect()
+        self.calls.missing().into_iter().chain(sizes).chain(lots).chain(faults).chain(names).chain(both).collect()
     }
 
     pub fn print(&self) {
@@ -158,8 +142,6 @@ impl Tally {
         self.calls.print();
         let (asked, searched) = (self.asked, self.searched);
         println!("{asked} accepted drawings cleared of wrong meetings, {searched} of them by the search over pairs\n");
-        self.pairs_due.print("overlay_pairs by the drawing's refusal", ["calls"]);
-        self.pairs_marks.print("overlay_pairs with", ["calls"]);
         self.both.print("measure_clip_both with", ["calls"]);
         self.clips.print("clip runs by rule", ["0", "1", "2", "3"]);
         self.clip_marks.print("clip runs with", ["runs"]);

@@ -17,8 +17,7 @@ pub fn compare(case: &Case, tally: &mut Tally) -> Result<(), Difference> {
     same(case, "measure_sweep: 1 by the sweep alone, 0 by the search over pairs, 2 refused", BY_SWEEP, cleared)
 }
 
-/// The same answer by the prose and by ours.
-pub fn same<T: PartialEq + Debug>(case: &Case, run: &'static str, due: T, got: T) -> Result<(), Difference> {
+fn same<T: PartialEq + Debug>(case: &Case, run: &'static str, due: T, got: T) -> Result<(), Difference> {
     if got == due {
         return Ok(());
     }

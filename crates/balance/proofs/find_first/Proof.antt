@@ -4,9 +4,9 @@ use mathlib.Core.Path.{◌≡◌, sym, ap, ap₂, ◌∙◌}
 use mathlib.Core.Bool.{Bool, not, ◌&&◌}
 use native.Mathlib.Omega.{arith}
 use Prim.Native.Nat.{ℕ, ◌+◌, ◌-◌, ◌≤◌}
-use Rattle.lists.specs.FirstPlace.{first_place}
+use Rattle.balance.specs.Balance.{first_place}
 use Rattle.balance.specs.Sums.{ends_unbalanced}
-use Rattle.lists.proofs.FirstPlace.{place_passed, place_failed, place_end}
+use Rattle.balance.proofs.Balance.{place_passed, place_failed, place_end}
 use Rattle.balance.proofs.find_first.Statement.{statement}
 use Rattle.balance.proofs.find_first.Tie as tie
 

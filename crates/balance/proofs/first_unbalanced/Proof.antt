@@ -8,7 +8,7 @@ use lib.ListN.{length}
 use lib.IntN.{ℤ}
 use Rattle.segm.specs.Segments.{Drawing, segments}
 use Rattle.segm.proofs.Segments.{length-segments}
-use Rattle.lists.specs.FirstPlace.{first_place}
+use Rattle.balance.specs.Balance.{first_place}
 use Rattle.balance.specs.Sums.{Summed, HaveSums, ends_unbalanced}
 use Rattle.balance.proofs.Sums.{have_sums, first_is}
 use Rattle.balance.proofs.first_unbalanced.Statement.{statement}

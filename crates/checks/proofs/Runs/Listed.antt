@@ -23,12 +23,10 @@ use Rattle.faults.proofs.Faults.{NoFault, no_fault_at, Fault, three, four, five,
 use Rattle.faults.proofs.Faultless.{faultless}
 use Rattle.meetings.specs.Meetings.{meets_wrongly}
 use Rattle.balance.specs.Balance.{balances}
-use Rattle.meeting_search.specs.Named.{meeting_at, meetings_of}
-use Rattle.drawing_check.specs.Drawing.{unbalanced_at, unbalanced_of, drawing_verdict}
+use Rattle.drawing_check.specs.Drawing.{meeting_at, meetings_of, unbalanced_at, unbalanced_of, drawing_verdict}
 use Rattle.checks.specs.Runs.{Run, asked, verdict}
 use Rattle.checks.specs.Accepted.{Fits, wrong_length_lem, coordinate_out, not_rising, winding_out, bits_out, lot_out, start_falls, wrong_meeting, a_unbalanced, b_unbalanced, unknown_choice_lem, too_short_lem}
-use Rattle.meeting_search.proofs.Named.{no_meeting}
-use Rattle.drawing_check.proofs.Drawing.{balanced_at, DrawingPassed, drawing_passed}
+use Rattle.drawing_check.proofs.Drawing.{no_meeting, balanced_at, DrawingPassed, drawing_passed}
 use Rattle.checks.proofs.Runs.{Passed, passed, passes}
 
 module _ (r : Run) where

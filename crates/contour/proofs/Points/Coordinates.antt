@@ -33,10 +33,10 @@ written_point ps old q h k =
     ∙ written_more (coordinates (take q ps) ++ (p.x ∷ [])) old (2 * q + 1) p.y (omega (arith, n, length-append (coordinates (take q ps)) (p.x ∷ []))) (omega arith)
     ∙ ap (λ (l : List ℤ). written l old) (append_assoc (coordinates (take q ps)) (p.x ∷ []) (p.y ∷ []) ∙ sym (coordinates-++ (take q ps) (p ∷ [])) ∙ ap coordinates (sym (take-suc ps q origin h) ∙ ap (λ m. take m ps) (sym (add-one q))))
 
-pub pair-coordinates : (l : List Point) (r : List ℤ) → pair_up (coordinates l ++ r) ≡ l ++ pair_up r
+pub pair_coordinates : (l : List Point) (r : List ℤ) → pair_up (coordinates l ++ r) ≡ l ++ pair_up r
 unfolding coordinates pair_up
-pair-coordinates [] r = refl
-pair-coordinates (p ∷ l) r = ap (p ∷◌) (pair-coordinates l r)
+pair_coordinates [] r = refl
+pair_coordinates (p ∷ l) r = ap (p ∷◌) (pair_coordinates l r)
 
 -- ---- x, y pairs
 -- one number makes no pair
@@ -62,15 +62,15 @@ pair_up-drop (x ∷ []) (suc n) = let e : 2 * suc n ≡ suc (suc (2 * n)) = omeg
 pair_up-drop (x ∷ y ∷ l) (suc n) = let e : 2 * suc n ≡ suc (suc (2 * n)) = omega arith in rw e (pair_up-drop l n)
 
 -- the pair at place i
-pub pair-at : (l : List ℤ) (i : ℕ) → 2 * i + 1 < length l → get_or (pair_up l) i origin ≡ record { x = get_or l (2 * i) (pos 0); y = get_or l (2 * i + 1) (pos 0) }
+pub pair_at : (l : List ℤ) (i : ℕ) → 2 * i + 1 < length l → get_or (pair_up l) i origin ≡ record { x = get_or l (2 * i) (pos 0); y = get_or l (2 * i + 1) (pos 0) }
 unfolding pair_up
-pair-at [] i h = absurd (omega arith)
-pair-at (x ∷ []) i h = absurd (omega arith)
-pair-at (x ∷ y ∷ l) zero h = refl
-pair-at (x ∷ y ∷ l) (suc i) h =
+pair_at [] i h = absurd (omega arith)
+pair_at (x ∷ []) i h = absurd (omega arith)
+pair_at (x ∷ y ∷ l) zero h = refl
+pair_at (x ∷ y ∷ l) (suc i) h =
     let e : 2 * suc i ≡ suc (suc (2 * i)) = omega arith in
     let f : 2 * suc i + 1 ≡ suc (suc (2 * i + 1)) = omega arith in
-    pair-at l i (omega arith) ∙ sym (ap₂ (λ m n. record { x = get_or (x ∷ y ∷ l) m (pos 0); y = get_or (x ∷ y ∷ l) n (pos 0) }) e f)
+    pair_at l i (omega arith) ∙ sym (ap₂ (λ m n. record { x = get_or (x ∷ y ∷ l) m (pos 0); y = get_or (x ∷ y ∷ l) n (pos 0) }) e f)
 
 pub pair_past : (l : List ℤ) (i : ℕ) → length l ≤ 2 * i + 1 → get_or (pair_up l) i origin ≡ origin
 unfolding pair_up

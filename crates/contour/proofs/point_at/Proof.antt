@@ -6,7 +6,7 @@ use lib.ListN.{get_or}
 use mir.Syntax.{w32}
 use Prim.Native.Nat.{◌+◌, ◌*◌}
 use Rattle.integers.proofs.Machine.{read}
-use Rattle.contour.proofs.Points.Coordinates.{pair-at, pair_past}
+use Rattle.contour.proofs.Points.Coordinates.{pair_at, pair_past}
 use borrow.Author.Rules.{rules}
 use Rattle.contour.proofs.point_at_lem.Statement.{statement}
 use Rattle.contour.proofs.point_at_lem.Tie as tie
@@ -38,7 +38,7 @@ returns-2 c =
     let l = s.args.points.now in
     let i = s.args.i in
     ap₂ (λ u v. record { x = u; y = v }) (read w32 (get_or l (2 * i) (pos 0)) c.before.t8.given) (read w32 (get_or l (2 * i + 1) (pos 0)) c.t11.given)
-    ∙ sym (pair-at l i (omega (arith, c.before.before.if1.false)))
+    ∙ sym (pair_at l i (omega (arith, c.before.before.if1.false)))
 
 pub point-at-spec : {M : Type 1} → statement M
 point-at-spec =

@@ -20,7 +20,7 @@ use Rattle.segm.specs.declared.Segment.{Segment}
 use Rattle.lists.specs.Members.{◌∈◌}
 use Rattle.lists.specs.UpFrom.{up_from}
 use Rattle.segm.specs.Segments.{Drawing, segment_at, nowhere}
-use Rattle.lists.proofs.Members.{Stands, stands, pairs_of_lem, pairs_places, pairs_map, pairs_take, pairs_drop, in_after, in_at, in_take, in_drop, cases}
+use Rattle.lists.proofs.Members.{Stands, stands, pairs_of, pairs_places, pairs_map, pairs_take, pairs_drop, in_after, in_at, in_take, in_drop, cases}
 use Rattle.lists.proofs.UpFrom.{in_up_from, up_from_in}
 use Rattle.ends.specs.Ends.{end_point}
 use Rattle.ends.proofs.Ends.{end_a, end_b, end_near}
@@ -411,7 +411,7 @@ module _ (d : Drawing) (flat : List ℕ) where
 
       pub progress_last : length flat ≤ passed → NoneMeetWrongly d
       unfolding segment_at
-      progress_last h = pairs_of_lem (λ s t. meets_wrongly s t ≡ false) d nowhere each
+      progress_last h = pairs_of (λ s t. meets_wrongly s t ≡ false) d nowhere each
         where
           done : (i : ℕ) → i < length d → (seg i).b.x ≤ℤ a.x
           done i k = let s = end_stands i k in subst (λ z. z ≤ℤ a.x) (at_end i k) (a.behind s.place (omega (arith, s.inside)))

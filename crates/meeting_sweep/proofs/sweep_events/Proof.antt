@@ -11,7 +11,6 @@ use Rattle.integers.proofs.Booleans.{clash}
 use Rattle.segm.specs.Segments.{Drawing, segments}
 use Rattle.count_up.specs.CountUp.{Counts, Tops, BoundedBy}
 use Rattle.graph.proofs.Flat.{Ordered, ordered}
-use Rattle.meeting_sweep.proofs.Events.{not_clear}
 use Rattle.meeting_sweep.proofs.Events.Runs.{past_further}
 use Rattle.meeting_sweep.proofs.Events.Sweeping.{Progress, progress_first, progress_next, progress_places, progress_distinct, progress_last, all_started, column, left_open, splits_before, splits_after, coming}
 use Rattle.meeting_sweep.proofs.Events.ClearEvent.{clear_event}
@@ -105,7 +104,7 @@ returns c =
     let s = c.before.before.before.before.before.before.before.before.before.before.before.before.before.before.before.before in
     let past = c.before.before.before.before.before.before.before.before.before.before.before.ends-past.ensures in
     let starts = c.before.before.before.before.before.before.before.before.before.starts-past.ensures in
-    ((not_clear, λ apart. absurd (clash (c.before.before.before.before.before.event.ensures.1 (clear_event (segments s.args.s.now) s.args.flat.now s.requires.0 (ends s) apart l.invariant.progress c.before.before.before.before.before.before.before.before.before.before.before.before.loop-test.true past starts)) (not-true _ c.if1.true))), not_clear)
+    ((λ t. absurd (clash t refl), λ apart. absurd (clash (c.before.before.before.before.before.event.ensures.1 (clear_event (segments s.args.s.now) s.args.flat.now s.requires.0 (ends s) apart l.invariant.progress c.before.before.before.before.before.before.before.before.before.before.before.before.loop-test.true past starts)) (not-true _ c.if1.true))), λ t. absurd (clash t refl))
 
 loop-less : tie.Need-loop-smaller invariant-loop decreases-loop
 loop-less c =

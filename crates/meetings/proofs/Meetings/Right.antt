@@ -1,28 +1,21 @@
--- A segment that starts to the right of another's b does not meet it wrongly; and where starts rise, all after it start there too.
+-- A segment that starts to the right of another's b does not meet it wrongly.
 -- Were the ends of each strictly on opposite sides of the other, the lines would meet at one x that is at most the one's b.x and at least the other's a.x:
 -- `weigh` says so without dividing.
-use mathlib.Core.Path.{◌≡◌, sym, ap, ◌∙◌}
+use mathlib.Core.Path.{◌≡◌}
 use mathlib.Core.Logic.{◌⊎◌, inl, inr}
 use mathlib.Core.Bool.{true, false, ◌&&◌, ◌||◌}
-use Prim.Native.Nat.{ℕ, ◌<◌, ◌≤◌}
-use native.Mathlib.Nat.{eq-or-lt_of_le}
-use native.Mathlib.Omega.{arith}
-use lib.ListN.{length}
 use lib.IntN.{ℤ, pos, neg_ℤ, ◌+ℤ◌, ◌-ℤ◌, ◌*ℤ◌}
 use lib.Signed.{lt_z, ◌≤ℤ◌, ◌<ℤ◌}
 use Rattle.integers.proofs.Booleans.{both_l, both_r, one_of, neither, is_false, not_l, not_r}
 use Rattle.integers.proofs.Linear.{ints, of_pos, of_neg, of--, of-+}
 use Rattle.integers.proofs.Order.{lt_z_true, lt_lt_z, mul_pos, mul_nonneg, sub_pos, sub_nonneg, lt_le}
 use Rattle.integers.proofs.Ring.{neg, ◌⊞◌, ◌⊟◌, ◌⊠◌, ◌≐◌, con, ring8}
-use Rattle.lists.specs.Members.{Pairs}
-use Rattle.lists.proofs.Members.{pairs_map, pairs_places, in_after}
 use Rattle.geom.specs.declared.Point.{Point}
 use Rattle.geom.specs.Points.{eq_z, lt_p, eq_p, cross, between}
-use Rattle.geom.proofs.Points.{lt_p-true, lt_p_right, eq_p_apart, before_le, not_less_x}
+use Rattle.geom.proofs.Points.{lt_p-true, lt_p_right, eq_p_apart, before_le}
 use Rattle.geom.proofs.Points.CrossProduct.{cross_e}
 use Rattle.segm.specs.declared.Segment.{Segment}
-use Rattle.segm.specs.Segments.{Drawing, nowhere, segment_at}
-use Rattle.meetings.specs.Meetings.{side, parts, in_interior, same_ends, meets_wrongly, starts_right}
+use Rattle.meetings.specs.Meetings.{side, parts, in_interior, same_ends, meets_wrongly}
 use Rattle.faults.specs.Faultless.{Proper}
 
 -- the sides differ by the same on both
@@ -107,29 +100,10 @@ module _ (s t : Segment) (ps : Proper s) (pt : Proper t) (right : s.b.x <ℤ t.a
   far_b : s.b.x <ℤ t.b.x
   far_b = let h = before_le (lt_p-true pt.rises) in omega ints
 
-  starts_right_lem : meets_wrongly s t ≡ false
+  pub starts_right : meets_wrongly s t ≡ false
   unfolding meets_wrongly in_interior same_ends
-  starts_right_lem =
+  starts_right =
       neither (is_false (parts s t && parts t s) (λ e. no_crossing (parts-true s t (both_l (parts s t) (parts t s) e)) (parts-true t s (both_r (parts s t) (parts t s) e))))
       (neither (neither (beyond s.a s.b t.a (lt_p_right t.a s.b (lt_lt_z right))) (beyond s.a s.b t.b (lt_p_right t.b s.b (lt_lt_z far_b))))
       (neither (neither (outside t.a t.b s.a (lt_p_right t.a s.a (lt_lt_z left_a))) (outside t.a t.b s.b (lt_p_right t.a s.b (lt_lt_z right))))
       (not_l (eq_p s.b t.b) (eq_p_apart s.a t.a (λ e. let h = left_a in omega ints)))))
-
-pub right_apart : (s t : Segment) → Proper s → Proper t → starts_right s t ≡ true → meets_wrongly s t ≡ false
-right_apart s t ps pt e = starts_right_lem s t ps pt (lt_z_true e)
-
--- where starts rise
-abbrev Rising : Drawing → Type 0
-Rising d = Pairs (λ s t. lt_p t.a s.a ≡ false) d
-
-pub right_on : (d : Drawing) → Rising d → (s : Segment) → Pairs (λ t u. starts_right s t ≡ true → starts_right s u ≡ true) d
-right_on d rising s = pairs_map d (λ t u m n r e. let h : s.b.x <ℤ t.a.x = lt_z_true e in let k = not_less_x t.a u.a r in lt_lt_z {a = s.b.x} {b = u.a.x} (omega ints)) rising
-
--- by place
-pub right_at : (d : Drawing) → Rising d → (s : Segment) (k j : ℕ) → k ≤ j → j < length d → starts_right s (segment_at d k) ≡ true → starts_right s (segment_at d j) ≡ true
-unfolding segment_at
-right_at d rising s k j h l e = go (eq-or-lt_of_le h)
-  where
-    go : (k ≡ j) ⊎ (k < j) → starts_right s (segment_at d j) ≡ true
-    go (inl q) = ap (λ m. starts_right s (segment_at d m)) (sym q) ∙ e
-    go (inr q) = pairs_places (λ t u. starts_right s t ≡ true → starts_right s u ≡ true) d nowhere (right_on d rising s) k (omega arith) (segment_at d j) (in_after d nowhere k j q l) e

@@ -2,18 +2,19 @@
 use borrow.Author.Rules.{rules}
 use mathlib.Core.Path.{◌≡◌, sym, ◌∙◌}
 use mathlib.Core.Bool.{false, ◌||◌, ◌&&◌}
+use native.Mathlib.Omega.{arith}
+use mir.Syntax.{w32}
+use Rattle.integers.proofs.Machine.{res, flag_lt}
+use Rattle.integers.proofs.Order.{lt_z_true}
 use Rattle.meetings.specs.Meetings.{parts, in_interior, meets_wrongly}
-use Rattle.meetings.proofs.Meetings.Right.{right_apart}
+use Rattle.meetings.proofs.Meetings.Right.{starts_right}
 use Rattle.meetings.proofs.meets_wrongly.Statement.{statement}
 use Rattle.meetings.proofs.meets_wrongly.Tie as tie
 
-starts-right-requires : tie.Need-starts-right-requires
-starts-right-requires c κs = search rules
-
 returns : tie.Need-returns
 returns c =
-    let s = c.before.before in
-    sym (right_apart s.args.s s.args.t s.requires.0 s.requires.1 (sym c.before.starts_right_lem.ensures ∙ c.if1.true))
+    let a = c.before.before.before.before.before.before.before in
+    sym (starts_right a.args.s a.args.t a.requires.0 a.requires.1 (lt_z_true (flag_lt (res w32 a.args.s.b.x (omega arith)) (res w32 a.args.t.a.x (omega arith)) c.if1.true)))
 
 crosses-requires : tie.Need-crosses-requires
 crosses-requires c κs = search rules
@@ -21,7 +22,7 @@ crosses-requires c κs = search rules
 -- what is known past the first two tests
 module _ (c : tie.Else2) where
   abbrev start : tie.Start
-  start = c.before.before.before.before
+  start = c.before.before.before.before.before.before.before.before.before
 
   not-crossing : (parts start.args.s start.args.t && parts start.args.t start.args.s) ≡ false
   not-crossing = sym c.before.crosses.ensures ∙ c.if2.false
@@ -60,7 +61,6 @@ pub meets-wrongly-spec : {M : Type 1} → statement M
 meets-wrongly-spec =
     tie.close
     (tie.spec
-    starts-right-requires
     returns
     crosses-requires
     returns-2

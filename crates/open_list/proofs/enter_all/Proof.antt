@@ -38,17 +38,19 @@ enter-one-requires c κs =
     let s = c.before.before.before.before in
     (s.requires.0, omega (arith, s.requires.2), omega (arith, l.invariant.fewer, l.invariant.room, s.requires.2, s.requires.4), entered_known (omega (arith, l.invariant.until, s.requires.2)) s.requires.5 l.invariant.entered, l.invariant.entered.order)
 
+unclear-requires : tie.Need-unclear-requires invariant-loop decreases-loop
+unclear-requires c κs = search rules
+
 same_length : tie.Need-same-length invariant-loop decreases-loop
 same_length c = search rules
 
 returns : tie.Need-returns invariant-loop decreases-loop
 returns c =
-    let l = c.before.before.before.before.before.before.before.loop in
-    let s = c.before.before.before.before.before.before.before.before.before in
-    let one = c.before.before.before.before.enter_one in
+    let l = c.before.before.before.before.before.before.before.before.loop in
+    let s = c.before.before.before.before.before.before.before.before.before.before in
+    let one = c.before.before.before.before.before.enter_one in
     let next = can_enter_next (segments s.args.s.now) s.args.from l.i (l.i + 1) s.args.to (take s.args.used s.args.list.now) (take l.held l.list) l.invariant.since (omega arith) (omega arith) in
-    let unclear = not-true _ c.if1.true in
-    (λ t. absurd (clash t unclear), λ w. absurd (clash (one.ensures.1 (next w l.invariant.entered)) unclear))
+    (λ t. absurd (clash t c.unclear.ensures), λ w. absurd (clash (one.ensures.1 (next w l.invariant.entered)) (not-true _ c.before.if1.true)))
 
 add-i : tie.Need-overflow-add-i invariant-loop decreases-loop
 add-i c = search rules
@@ -88,6 +90,7 @@ enter-all-spec =
     decreases-loop
     loop-holds
     enter-one-requires
+    unclear-requires
     same_length
     returns
     add-i

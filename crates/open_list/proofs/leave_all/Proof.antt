@@ -45,17 +45,19 @@ leave-one-requires c κs =
     let s = c.before.before.before.before.before.before in
     (s.requires.0, s.requires.1 _ (in_at s.args.ends.now 0 l.k (omega arith)), omega (arith, l.invariant.fewer, l.invariant.room, s.requires.2), left_known s.requires.3 l.invariant.left, l.invariant.left.order, l.invariant.left.distinct)
 
+unclear-requires : tie.Need-unclear-requires invariant-loop decreases-loop
+unclear-requires c κs = search rules
+
 same_length : tie.Need-same-length invariant-loop decreases-loop
 same_length c = search rules
 
 returns : tie.Need-returns invariant-loop decreases-loop
 returns c =
-    let l = c.before.before.before.before.before.before.before.before.loop in
-    let s = c.before.before.before.before.before.before.before.before.before.before.before in
-    let one = c.before.before.before.before.leave-one in
+    let l = c.before.before.before.before.before.before.before.before.before.loop in
+    let s = c.before.before.before.before.before.before.before.before.before.before.before.before in
+    let one = c.before.before.before.before.before.leave-one in
     let next = can_leave_next (segments s.args.s.now) s.args.ends.now (take s.args.used s.args.list.now) (take l.held l.list) l.k (omega arith) in
-    let unclear = not-true _ c.if1.true in
-    (λ t. absurd (clash t unclear), λ w. absurd (clash (one.ensures.1 (next w l.invariant.left)) unclear))
+    (λ t. absurd (clash t c.unclear.ensures), λ w. absurd (clash (one.ensures.1 (next w l.invariant.left)) (not-true _ c.before.if1.true)))
 
 lowest-place-requires : tie.Need-lowest-place-requires invariant-loop decreases-loop
 lowest-place-requires c κs = search rules
@@ -102,6 +104,7 @@ leave-all-spec =
     mul-leave-one
     shared-slice-read-leave-one
     leave-one-requires
+    unclear-requires
     same_length
     returns
     lowest-place-requires

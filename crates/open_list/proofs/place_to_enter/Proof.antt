@@ -7,8 +7,7 @@ use Rattle.segm.specs.Segments.{segments}
 use Rattle.faults.specs.Faultless.{Proper}
 use Rattle.faults.proofs.Faultless.{proper_at}
 use Rattle.scan.specs.declared.Sought.TheVariants.{Along}
-use Rattle.lists.specs.Halving.{Changes}
-use Rattle.scan.specs.Scan.{below_at}
+use Rattle.scan.specs.Scan.{below_at, Changes}
 use Rattle.scan.proofs.Scan.{all_proper}
 use Rattle.open_list.proofs.OpenList.{changes_fit}
 use Rattle.open_list.proofs.place_to_enter.Statement.{statement}

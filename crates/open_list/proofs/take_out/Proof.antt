@@ -3,7 +3,7 @@ use borrow.Author.Rules.{rules}
 use mathlib.Core.Path.{◌≡◌, refl, sym, subst, ◌∙◌}
 use mathlib.Core.List.{[], ◌∷◌}
 use native.Mathlib.Omega.{arith}
-use Prim.Native.Nat.{◌+◌, ◌-◌, ◌<◌}
+use Prim.Native.Nat.{◌+◌, ◌<◌}
 use lib.ListN.{length, get_or, take}
 use lib.Seq.{length-take-le, get_or-take}
 use borrow.Author.Tests.{not-false, not-true}
@@ -71,22 +71,6 @@ closes-at-requires c κs =
     let s = c.before.before.before.before.before.before.before in
     (s.requires.0, s.requires.4, omega (arith, length-take-le s.args.used s.args.list.now (omega (arith, s.requires.3)), c.before.before.before.if1.false))
 
--- at the list's lower end nothing is asked
-sub-unclear : tie.Need-overflow-sub-unclear
-sub-unclear c =
-    let k = c.before.before.before.before.before.before.place-to-leave.result in
-    let h : k ≡ 0 → ⊥ = λ e. clash (c.before.closes_at.ensures.1 (λ j f _. absurd (omega arith))) (not-true _ c.if3.true) in
-    omega arith
-
-mul-unclear : tie.Need-overflow-mul-unclear
-mul-unclear c = search rules
-
-slice-read-unclear : tie.Need-slice-read-unclear
-slice-read-unclear c = search rules
-
-cast-unclear : tie.Need-overflow-cast-unclear
-cast-unclear c = omega (arith, c.slice-known3.given (c.before.before.before.before.before.before.before.place-to-leave.result - 1))
-
 unclear-requires-3 : tie.Need-unclear-requires-3
 unclear-requires-3 c κs = search rules
 
@@ -95,10 +79,10 @@ same-length-3 c = search rules
 
 returns-3 : tie.Need-returns-3
 returns-3 c =
-    let s = c.before.before.before.before.before.before.before.before.before.before.before in
-    let k = c.before.before.before.before.before.before.before.before.place-to-leave.result in (
+    let s = c.before.before.before.before.before.before.before.before.before.before in
+    let k = c.before.before.before.before.before.before.before.place-to-leave.result in (
       (λ t. absurd (clash t c.unclear3.ensures)),
-      (λ x w m. absurd (clash (c.before.before.before.closes_at.ensures.1 (closes (segments s.args.s.now) (take s.args.used s.args.list.now) s.requires.4 s.requires.5 w k)) (not-true _ c.before.before.if3.true))),
+      (λ x w m. absurd (clash (c.before.before.closes_at.ensures.1 (closes (segments s.args.s.now) (take s.args.used s.args.list.now) s.requires.4 s.requires.5 w k)) (not-true _ c.before.if3.true))),
     )
 
 remove-requires : tie.Need-remove-requires
@@ -149,10 +133,6 @@ take-out-spec =
     slice-reshare-prefix-closes-at
     slice-aggregate-closes-at
     closes-at-requires
-    sub-unclear
-    mul-unclear
-    slice-read-unclear
-    cast-unclear
     unclear-requires-3
     same-length-3
     returns-3

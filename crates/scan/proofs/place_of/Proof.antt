@@ -1,24 +1,48 @@
 -- What is before low is below, what is from high on is above, and they come together.
 use borrow.Author.Rules.{rules}
-use mathlib.Core.Path.{sym, ◌∙◌}
+use mathlib.Core.Path.{◌≡◌, sym, ap, ◌∙◌}
+use mathlib.Core.Bool.{Bool, true, false}
 use native.Mathlib.Omega.{arith}
-use Prim.Native.Nat.{◌-◌, ◌<◌}
+use Prim.Native.Nat.{ℕ, ◌+◌, ◌-◌, ◌/◌, ◌<◌, ◌≤◌}
 use lib.ListN.{length}
 use Rattle.segm.specs.Segments.{segments}
 use Rattle.lists.proofs.Members.{in_at}
-use Rattle.lists.proofs.Halving.{Between, whole, middle, upper, lower, met}
-use Rattle.scan.specs.Scan.{below_at}
+use Rattle.scan.specs.Scan.{below_at, Changes}
 use Rattle.scan.proofs.place_of.Statement.{statement}
 use Rattle.scan.proofs.place_of.Tie as tie
 
+-- the test changes from low to high
+record Between (test : ℕ → Bool) (many low high : ℕ) : Type 0 where
+  order : low ≤ high
+  till : high ≤ many
+  before : 0 < low → test (low - 1) ≡ true
+  after : high < many → test high ≡ false
+
+abbrev middle : ℕ → ℕ → ℕ
+middle low high = low + (high - low) / 2
+
+module _ {test : ℕ → Bool} {many low high : ℕ} (b : Between test many low high) where
+  upper : low < high → test (middle low high) ≡ true → Between test many (middle low high + 1) high
+  upper h e =
+      let last : middle low high + 1 - 1 ≡ middle low high = omega arith in
+      record { order = omega arith; till = b.till; before = λ _. ap test last ∙ e; after = b.after }
+
+  lower : low < high → test (middle low high) ≡ false → Between test many low (middle low high)
+  lower h e = record { order = omega arith; till = omega (arith, b.till); before = b.before; after = λ _. e }
+
+  met : high ≤ low → Changes test 0 many low
+  met h =
+      let one : low ≡ high = omega (arith, b.order) in
+      record { from = omega arith; till = omega (arith, b.till); before = b.before; after = λ l. ap test one ∙ b.after (omega arith) }
+
 abbrev invariant-loop : tie.invariant-loop
-invariant-loop s list sought low₀ high₀ low high = Between (below_at (segments s) sought list) 0 (length list) low high
+invariant-loop s list sought low₀ high₀ low high = Between (below_at (segments s) sought list) (length list) low high
 
 abbrev decreases-loop : tie.decreases-loop
 decreases-loop s list sought low₀ high₀ low high = high - low
 
 loop-holds : tie.Need-loop-init invariant-loop decreases-loop
-loop-holds c = whole _ (omega arith)
+loop-holds c = record { order = omega arith; till = omega arith; before = λ h. absurd (omega arith); after = λ h. absurd (omega arith) }
 
 sub-middle : tie.Need-overflow-sub-middle invariant-loop decreases-loop
 sub-middle c = search rules

@@ -11,7 +11,7 @@ use Rattle.lists.specs.Sums.{tally}
 use Rattle.lists.specs.Written.{written}
 use Rattle.lists.proofs.Written.{take_written, length_written, written_over}
 use Rattle.contour.specs.Points.{coordinates, pair_up, AllInRange, Writes}
-use Rattle.contour.proofs.Points.Coordinates.{length-coordinates, pair-coordinates}
+use Rattle.contour.proofs.Points.Coordinates.{length-coordinates, pair_coordinates}
 use Rattle.contour.proofs.Points.CutWritten.{cut_written, tally_lengths}
 use Rattle.contour.specs.Contour.{contour_of}
 use Rattle.slice_cut.specs.Cutting.{roles_of, paths_in, Holds, Stand}
@@ -24,7 +24,7 @@ module _ {loops : List (List Point)} {points₀ : List ℤ} {lengths₀ : List �
   loops_read : paths_in points (take n lengths) ≡ loops
   unfolding written
   loops_read =
-      rw (lengths_read, length-map loops length, w.points_are, pair-coordinates (flatten loops) (drop (length (coordinates (flatten loops))) points₀), ← append-nil (map length loops))
+      rw (lengths_read, length-map loops length, w.points_are, pair_coordinates (flatten loops) (drop (length (coordinates (flatten loops))) points₀), ← append-nil (map length loops))
       (cut_written loops [] (pair_up (drop (length (coordinates (flatten loops))) points₀)))
 
   pub loops_stand : length (flatten loops) ≤ 2048 → 2 * length (flatten loops) ≤ length points₀ → AllInRange (flatten loops) → Stand points (take n lengths)

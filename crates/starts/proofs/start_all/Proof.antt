@@ -58,20 +58,22 @@ start-node-requires c κs =
       inv.within,
     )
 
+unclear-requires : tie.Need-unclear-requires invariant-loop decreases-loop
+unclear-requires c κs = search rules
+
 same_length : tie.Need-same-length invariant-loop decreases-loop
-same_length c = omega (arith, c.before.before.before.before.before.start-node.auto, c.before.before.before.before.before.before.before.before.before.before.loop.invariant.room)
+same_length c = omega (arith, c.before.before.before.before.before.before.start-node.auto, c.before.before.before.before.before.before.before.before.before.before.before.loop.invariant.room)
 
 same-length-2 : tie.Need-same-length-2 invariant-loop decreases-loop
-same-length-2 c = omega (arith, c.before.before.before.before.before.start-node.auto, c.before.before.before.before.before.before.before.before.before.before.loop.invariant.room-tops)
+same-length-2 c = omega (arith, c.before.before.before.before.before.before.start-node.auto, c.before.before.before.before.before.before.before.before.before.before.before.loop.invariant.room-tops)
 
 returns : tie.Need-returns invariant-loop decreases-loop
 returns c =
-    let q = c.before.before.before.before.before.before.before.before.before.before in
-    let n = c.before.before.before.before.before.before.before.before.node_end in
-    let unclear = not-true _ c.if1.true in
-    let one = c.before.before.before.before.before.start-node in (
-      (λ t. absurd (clash t unclear)),
-      (λ w. absurd (clash (one.ensures.1 (can_start_next q.loop.invariant.since (omega (arith, n.ensures.since)) n.ensures.till w q.loop.invariant.started.entered)) unclear)),
+    let q = c.before.before.before.before.before.before.before.before.before.before.before in
+    let n = c.before.before.before.before.before.before.before.before.before.node_end in
+    let one = c.before.before.before.before.before.before.start-node in (
+      (λ t. absurd (clash t c.unclear.ensures)),
+      (λ w. absurd (clash (one.ensures.1 (can_start_next q.loop.invariant.since (omega (arith, n.ensures.since)) n.ensures.till w q.loop.invariant.started.entered)) (not-true _ c.before.if1.true))),
     )
 
 lowest-place-requires : tie.Need-lowest-place-requires invariant-loop decreases-loop
@@ -123,6 +125,7 @@ start-all-spec =
     loop-holds
     node-end-requires
     start-node-requires
+    unclear-requires
     same_length
     same-length-2
     returns

@@ -23,11 +23,14 @@ use Rattle.starts.proofs.start_node.Tie as tie
 enter-all-requires : tie.Need-enter-all-requires
 enter-all-requires c κs = search rules
 
+unclear-requires : tie.Need-unclear-requires
+unclear-requires c κs = search rules
+
 same_length : tie.Need-same-length
 same_length c = search rules
 
 returns : tie.Need-returns
-returns c = let unclear = not-true _ c.if1.true in (λ t. absurd (clash t unclear), λ w. absurd (clash (c.before.before.before.before.enter-all.ensures.1 w.entering) unclear))
+returns c = (λ t. absurd (clash t c.unclear.ensures), λ w. absurd (clash (c.before.before.before.before.before.enter-all.ensures.1 w.entering) (not-true _ c.before.if1.true)))
 
 -- what entered
 module _ (c : tie.After-lesser) where
@@ -112,8 +115,8 @@ stand-all-requires c κs =
     let t = c.before.before in
     ((s (k t)).pre.0, (s (k t)).pre.1, known (k t), omega (arith, (s (k t)).pre.4, t.before.count-node.auto), wide t)
 
-unclear-requires : tie.Need-unclear-requires
-unclear-requires c κs = search rules
+unclear-requires-2 : tie.Need-unclear-requires-2
+unclear-requires-2 c κs = search rules
 
 same-length-2 : tie.Need-same-length-2
 same-length-2 c = search rules
@@ -124,7 +127,7 @@ same-length-3 c = search rules
 returns-2 : tie.Need-returns-2
 returns-2 c =
     let t = c.before.before.before.before.before.before in
-    (λ e. absurd (clash e c.unclear.ensures), λ w. absurd (c.before.if2.true (c.before.before.before.stand-all.ensures.2 (w.clears (s (k t)).args.to (l' (k t)) (omega (arith, (s (k t)).pre.8.since)) (omega arith) (came (k t)).1))))
+    (λ e. absurd (clash e c.unclear2.ensures), λ w. absurd (clash (c.before.before.before.stand-all.ensures.2 (w.clears (s (k t)).args.to (l' (k t)) (omega (arith, (s (k t)).pre.8.since)) (omega arith) (came (k t)).1)) (not-true _ c.before.if2.true)))
 
 same-length-4 : tie.Need-same-length-4
 same-length-4 c = search rules
@@ -136,7 +139,7 @@ returns-3 : tie.Need-returns-3
 returns-3 c =
     let t = c.before.before.before.before.before in
     let stand = c.before.before.stand-all in
-    let all = stand.ensures.0 c.if2.false in
+    let all = stand.ensures.0 (not-false _ c.if2.false) in
     let to = (s (k t)).args.to in (
       (λ _. (
         (came (k t)).0,
@@ -155,6 +158,7 @@ start-node-spec =
     tie.close
     (tie.spec
     enter-all-requires
+    unclear-requires
     same_length
     returns
     lesser-requires
@@ -164,7 +168,7 @@ start-node-spec =
     slice-reshare-prefix-stand-all
     slice-aggregate-stand-all
     stand-all-requires
-    unclear-requires
+    unclear-requires-2
     same-length-2
     same-length-3
     returns-2

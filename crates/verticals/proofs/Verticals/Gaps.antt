@@ -28,8 +28,7 @@ use Rattle.strip.proofs.Strip.Gap.{side_own_a}
 use Rattle.strip.proofs.Strip.Apart.{Over, over_wide, side_less}
 use Rattle.strip.proofs.Neighbours.Upright.{Upright}
 use Rattle.scan.specs.declared.Sought.TheVariants.{At}
-use Rattle.lists.specs.Halving.{Changes}
-use Rattle.scan.specs.Scan.{is_below, below_at}
+use Rattle.scan.specs.Scan.{is_below, below_at, Changes}
 use Rattle.count_up.specs.CountUp.{last_in}
 use Rattle.count_up.proofs.CountUp.{last_cong}
 use Rattle.verticals.specs.Verticals.{lies_under, lies_above, InGapAt, StandsInGap, ClearIn, Stood, AllStand}

@@ -97,12 +97,11 @@ returns c =
     let one = c.before.before.before.stand-one in
     let i = q.loop.i in
     let v = c.before.before.before.before.before.before.before.segment_in in
-    let inside = c.before.before.before.before.before.before.before.before.loop-test.true in
-    let unclear : one.result.clear ≡ false = not-true _ c.if2.true in
+    let unclear = not-true _ c.if2.true in
     let upright = ap is_vertical (sym v.ensures) ∙ sym c.before.before.before.before.before.before.is-vertical.ensures ∙ c.before.before.before.before.before.if1.true in (
-      (λ t. absurd (omega arith)),
+      (λ t. absurd (clash t refl)),
       (λ b w j. let h = q.loop.invariant.within b w j in subst (λ (l : List ℤ). nat_abs (get_or l j (pos 0)) ≤ b + 1000 * (s.args.to - s.args.from)) (sym (one.ensures.1 unclear)) (omega (arith, h, q.loop.invariant.span))),
-      (λ f. absurd (clash (one.ensures.2 (subst (λ (u : Segment). ClearIn (segments s.args.s.now) u s.args.list.now) (sym v.ensures) (f i q.loop.invariant.since inside upright))) unclear)),
+      (λ f. absurd (clash (one.ensures.2 (subst (λ (u : Segment). ClearIn (segments s.args.s.now) u s.args.list.now) (sym v.ensures) (f i q.loop.invariant.since c.before.before.before.before.before.before.before.before.loop-test.true upright))) unclear)),
     )
 
 add-i : tie.Need-overflow-add-i invariant-loop decreases-loop
