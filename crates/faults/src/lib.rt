@@ -1,4 +1,6 @@
 // Refusals 3 to 7 and 13: what can be wrong with one segment, by place.
+#![tactic(auto)]
+
 ghost use Rattle.std.specs.Prelude.{◌≡◌};
 ghost use Rattle.refusal.specs.Order.{◌then◌};
 ghost use Rattle.segm.specs.Segments.{segments};

@@ -1,9 +1,10 @@
 // Points: their order, their range, cross products and distances, over i32 coordinates.
+#![tactic(auto)]
 ghost use Rattle.std.specs.Prelude.{◌≡◌, true, ◌≤◌, nat_abs, ◌-ℤ◌};
 ghost use Rattle.geom.specs.Points.{within, lt_p, eq_p, in_range, travel, cross, between};
 
 // A point, in hundredths of a millimetre, y up.
-#[derive(Drop)]
+#[derive(Clone, Copy)]
 pub struct Point {
     pub x: i32,
     pub y: i32,

@@ -1,9 +1,11 @@
 // Refusals in general: the verdict of a check, and the checks with place 0 that operations have: a wrong length, an unknown choice, a lent list that is too short.
+#![tactic(auto)]
+
 ghost use Rattle.std.specs.Prelude.{◌≡◌, ◌<◌};
 ghost use Rattle.refusal.specs.Asked.{wrong_length, up_to, unknown_choice, lent, too_short, asked_first};
 
 // What a check finds: nothing wrong, or a refusal's number and place.
-#[derive(Drop)]
+#[derive(Clone, Copy)]
 pub enum Verdict {
     Accepted,
     Refused(u32, usize),

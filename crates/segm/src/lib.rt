@@ -1,5 +1,7 @@
 // What a drawing is: segments, read from a flat list of numbers and written to one.
 // Any list of numbers can be read at any place; writing asks for room.
+#![tactic(auto)]
+
 ghost use Rattle.std.specs.Prelude.{◌≡◌, ◌++◌, ◌+◌, ◌*◌, ◌≤◌, ◌<◌, length, take, drop};
 ghost use Rattle.segm.specs.Segments.{width, count, segments, segment_at, numbers_of};
 
@@ -7,7 +9,7 @@ use geom::Point;
 
 // A segment from a to b, a being the lesser. The winding is positive when the outline runs from a to b. Of the line bits, 1 is a line drawn from a to b and 2 one
 // from b to a. The lot is that of the flour, 0 for none.
-#[derive(Drop)]
+#[derive(Clone, Copy)]
 pub struct Segment {
     pub a: Point,
     pub b: Point,

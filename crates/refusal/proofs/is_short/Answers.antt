@@ -6,13 +6,9 @@ use lib.Dec.{ltb}
 use Rattle.integers.proofs.Booleans.{same_test}
 use Rattle.refusal.specs.Asked.{too_short}
 use borrow.Author.Rules.{rules}
-use Rattle.refusal.proofs.is_short.Statement.{statement}
-use Rattle.refusal.proofs.is_short.Tie as tie
+use Rattle.refusal.proofs.is_short.Goals as goal
 
-div-result : tie.Need-nonzero-div-result
-div-result c = search rules
-
-returns : tie.Need-returns
+pub returns : goal.returns
 unfolding too_short
 returns c =
     let a = c.args in
@@ -20,6 +16,3 @@ returns c =
     same_test (ltb (a.entries / a.each) a.n) (ltb a.entries (a.each * a.n))
     (λ e. lt-ltb a.entries (a.each * a.n) (rw mul_comm (bound.0 (ltb-true (a.entries / a.each) a.n e))))
     (λ e. lt-ltb (a.entries / a.each) a.n (bound.1 (rw mul_comm (ltb-true a.entries (a.each * a.n) e))))
-
-pub is-short-spec : {M : Type 1} → statement M
-is-short-spec = tie.close (tie.spec div-result returns)

@@ -10,14 +10,16 @@ use mir.Val.{to_z, of_z}
 use Rattle.integers.proofs.Machine.{read}
 use Rattle.integers.proofs.Order.{abs--}
 use Rattle.geom.specs.Points.{travel}
-use Rattle.geom.proofs.travel.Statement.{statement}
-use Rattle.geom.proofs.travel.Tie as tie
+use Rattle.geom.proofs.travel.Goals as goal
+use Rattle.geom.proofs.travel.Lts
+use Rattle.geom.proofs.travel.Reads
+use Rattle.geom.proofs.travel.Tie
 
-distance-requires : tie.Need-distance-requires
-distance-requires c κs = search rules
+abbrev After-distance : Type 0
+After-distance = Lts.After-distance Tie.the-claims Reads.Pre Reads.Post
 
-distance-requires-2 : tie.Need-distance-requires-2
-distance-requires-2 c κs = search rules
+abbrev Start : Type 0
+Start = Lts.Start Tie.the-claims Reads.Pre Reads.Post
 
 -- what `distance` returned of two coordinates
 leg : (r : ℕ) (a b : ℤ) → r ≡ nat_abs (to_z w32 (of_z w32 a) -ℤ to_z w32 (of_z w32 b)) → mag a < 2 ^ 31 → mag b < 2 ^ 31 → r ≡ nat_abs (a -ℤ b)
@@ -30,33 +32,24 @@ abs_mag (negsuc n) = omega arith
 small : (a b : ℤ) → mag a < 2 ^ 31 → mag b < 2 ^ 31 → nat_abs (a -ℤ b) ≤ 2 ^ 32
 small a b ha hb = omega (arith, abs-- a b, abs_mag a, abs_mag b)
 
-module _ (c : tie.After-distance2) where
-  abbrev first : tie.After-distance
+module _ (c : goal.After-distance-2) where
+  abbrev first : After-distance
   first = c.before.before.before
 
-  abbrev s : tie.Start
+  abbrev s : Start
   s = c.before.before.before.before.before.before
 
   x-leg : first.distance.result ≡ nat_abs (s.args.q.x -ℤ s.args.p.x)
   x-leg = leg _ s.args.q.x s.args.p.x first.distance.ensures (omega arith) (omega arith)
 
-  y-leg : c.distance2.result ≡ nat_abs (s.args.q.y -ℤ s.args.p.y)
-  y-leg = leg _ s.args.q.y s.args.p.y c.distance2.ensures (omega arith) (omega arith)
+  y-leg : c.distance-2.result ≡ nat_abs (s.args.q.y -ℤ s.args.p.y)
+  y-leg = leg _ s.args.q.y s.args.p.y c.distance-2.ensures (omega arith) (omega arith)
 
-add-result : tie.Need-overflow-add-result
-add-result c =
+pub overflow_add-result : goal.overflow_add-result
+overflow_add-result c =
     let a = (s c).args in
     record { fits = omega (arith, x-leg c, y-leg c, small a.q.x a.p.x (omega arith) (omega arith), small a.q.y a.p.y (omega arith) (omega arith)) }
 
-returns : tie.Need-returns
+pub returns : goal.returns
 unfolding travel
 returns c = ap₂ ◌+◌ (x-leg c) (y-leg c)
-
-pub travel-spec : {M : Type 1} → statement M
-travel-spec =
-    tie.close
-    (tie.spec
-    distance-requires
-    distance-requires-2
-    add-result
-    returns)
