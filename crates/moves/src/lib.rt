@@ -1,11 +1,13 @@
 // What the clip walk and the slice walk share: a move is named by the end of a link that it leaves, and takes one of the link's two bits.
+#![tactic(auto)]
+
 ghost use Rattle.std.specs.Prelude.{◌≡◌, true, ◌*◌, ◌≤◌, ◌<◌, length, get_or, set};
 ghost use Rattle.moves.specs.Bits.{has, clear};
 ghost use Rattle.moves.specs.Moves.{remains, taken};
 ghost use Rattle.moves.specs.ByEnd.{move_of, link_at, no_link, visited};
 
 // A link: the nodes of its ends, and its bits that remain.
-#[derive(Drop)]
+#[derive(Clone, Copy)]
 pub struct Link {
     pub a: usize,
     pub b: usize,
@@ -13,7 +15,7 @@ pub struct Link {
 }
 
 // The end that a walk leaves next, or none: it stops.
-#[derive(Drop)]
+#[derive(Clone, Copy)]
 pub enum NextEnd {
     Stop,
     Leave(usize),
