@@ -1,4 +1,6 @@
 // The clip walk over flat lists: a move is named by the end of a link that it leaves, and takes one line bit.
+#![tactic(auto)]
+
 ghost use Rattle.std.specs.Prelude.{◌≡◌, ◌*◌, ◌≤◌, ◌<◌, length};
 ghost use Rattle.lists.specs.Written.{written};
 ghost use Rattle.graph.specs.Nodes.{part};
