@@ -23,28 +23,11 @@ at n e = ap (λ (i : Rule). filled i n) (sym e)
 pub returns-in-EvenOdd : goal.returns-in-EvenOdd
 unfolding filled
 returns-in-EvenOdd c =
-<<<<<<< HEAD
-    let s = c in
-    ap (λ z. not (eqb (of_z w32 (rem_z z (pos 2))) 0)) (to_z-of_z s.ranges.count) ∙ odd s.args.count ∙ at s.args.count c.in-EvenOdd.is
-=======
     ap (λ z. not (eqb (of_z w32 (rem_z z (pos 2))) 0)) (to_z-of_z c.ranges.count) ∙ odd c.args.count ∙ at c.args.count c.in-EvenOdd.is
->>>>>>> 5a429254c00bfd8fa9a466630a204f4b60a79dcf
 
 pub returns-in-NonZero : goal.returns-in-NonZero
 unfolding filled
 returns-in-NonZero c =
-<<<<<<< HEAD
-    let s = c in
-    ap not (bits_eq_z w32 s.args.count (pos 0) s.ranges.count.sfits (lit< tt)) ∙ at s.args.count c.in-NonZero.is
-
-pub returns-in-Positive : goal.returns-in-Positive
-unfolding filled
-returns-in-Positive c = let s = c in ap (lt_z (pos 0)) (to_z-of_z s.ranges.count) ∙ at s.args.count c.in-Positive.is
-
-pub returns-in-Negative : goal.returns-in-Negative
-unfolding filled
-returns-in-Negative c = let s = c in ap (λ z. lt_z z (pos 0)) (to_z-of_z s.ranges.count) ∙ at s.args.count c.in-Negative.is
-=======
     ap not (bits_eq_z w32 c.args.count (pos 0) c.ranges.count.sfits (lit< tt)) ∙ at c.args.count c.in-NonZero.is
 
 pub returns-in-Positive : goal.returns-in-Positive
@@ -54,4 +37,3 @@ returns-in-Positive c = ap (lt_z (pos 0)) (to_z-of_z c.ranges.count) ∙ at c.ar
 pub returns-in-Negative : goal.returns-in-Negative
 unfolding filled
 returns-in-Negative c = ap (λ z. lt_z z (pos 0)) (to_z-of_z c.ranges.count) ∙ at c.args.count c.in-Negative.is
->>>>>>> 5a429254c00bfd8fa9a466630a204f4b60a79dcf
