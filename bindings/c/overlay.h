@@ -1,5 +1,5 @@
 /* The string overlay for C, C++ and whatever reads C headers. Link with liboverlay.a, which
-   `rt staticlib overlay` puts into target/staticlib.
+   `tools/build overlay` puts into target/staticlib.
 
    A drawing is a list of segments, seven numbers each: ax, ay, bx, by, winding, line bits, lot. Point a
    is less than b, by x and then y, and the segments come in order of their a. The winding is positive

@@ -1,4 +1,4 @@
-//! Links the archive that `rt staticlib overlay` makes; JUMPERCLAY_LIB_DIR names another directory for it.
+//! Links the archive that `tools/build overlay` makes; JUMPERCLAY_LIB_DIR names another directory for it.
 
 use std::env;
 use std::path::PathBuf;
@@ -15,7 +15,7 @@ fn main() {
     println!("cargo:rerun-if-changed={}", archive.display());
     if !archive.exists() {
         eprintln!("There is no {}.", archive.display());
-        eprintln!("Run `rt staticlib overlay` in the root of the Jumperclay repository, which makes it,");
+        eprintln!("Run `tools/build overlay` in the root of the Jumperclay repository, which makes it,");
         eprintln!("or set JUMPERCLAY_LIB_DIR to the directory that has it.");
         exit(1);
     }

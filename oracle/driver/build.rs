@@ -1,4 +1,4 @@
-//! Links the archive that `rt staticlib measure` makes; JUMPERCLAY_LIB_DIR names another directory for it.
+//! Links the archive that `tools/build measure` makes; JUMPERCLAY_LIB_DIR names another directory for it.
 
 use std::env;
 use std::path::PathBuf;

@@ -1,4 +1,6 @@
 // The memory of first sightings: a map from points to numbers, by hash.
+#![tactic(auto)]
+
 mod memory;
 mod store;
 

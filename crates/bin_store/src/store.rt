@@ -8,21 +8,21 @@ use super::memory::find;
 use geom::Point;
 
 // How many bins are in use and how many items are stored; the items stand in the lists beside it.
-#[derive(Drop)]
+#[derive(Clone, Copy)]
 pub struct BinStore {
     pub bins: usize,
     pub count: usize,
 }
 
 // The memory after a look-up, and the number stored for the point.
-#[derive(Drop)]
+#[derive(Clone, Copy)]
 pub struct Inserted {
     pub store: BinStore,
     pub number: u16,
 }
 
 // How many items there are after a look-up, and the number stored for the point.
-#[derive(Drop)]
+#[derive(Clone, Copy)]
 pub struct Seen {
     pub count: usize,
     pub number: u16,

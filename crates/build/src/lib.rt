@@ -1,4 +1,6 @@
 // From a drawing to its fills and to the line bits of a clip run.
+#![tactic(auto)]
+
 mod filter;
 mod run;
 

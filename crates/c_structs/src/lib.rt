@@ -1,4 +1,6 @@
 // The structs of numbers that C is handed, and the answer of each run set out in one.
+#![tactic(auto)]
+
 ghost use Rattle.std.specs.Prelude.{◌≡◌};
 ghost use Rattle.c_structs.specs.Structs.{fills_of, clip_of, slice_of, split_of, read_of, write_of};
 

@@ -1,4 +1,6 @@
 // Which drawings are turned down, with which number and place: what each run asks first (2, 10, 11), then the verdict on its drawing.
+#![tactic(auto)]
+
 ghost use Rattle.std.specs.Prelude.{◌≡◌, ◌≤◌, length};
 ghost use Rattle.refusal.specs.declared.Verdict.TheVariants.{Accepted};
 ghost use Rattle.refusal.specs.Order.{◌then◌};

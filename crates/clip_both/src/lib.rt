@@ -1,4 +1,6 @@
 // Both clip runs of a drawing, inside and outside, by one check.
+#![tactic(auto)]
+
 ghost use Rattle.std.specs.Prelude.{◌≡◌, true, ◌↔◌, ◌≤◌, pos};
 ghost use Rattle.segm.specs.Segments.{count, segments};
 ghost use Rattle.checks.specs.Runs.{asked, verdict};

@@ -1,4 +1,6 @@
 // Runs the clip program's work on each file that an argument names. It assumes the contracts of the C functions that `io`, `os` and `libc` call for it.
+#![tactic(auto)]
+
 use libc::STDOUT_FILENO;
 
 fn run_one(i: usize) {

@@ -1,1 +1,2 @@
 // The claim about inside and outside together, and its proof. No code.
+#![tactic(auto)]

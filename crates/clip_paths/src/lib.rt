@@ -1,4 +1,6 @@
 // The paths of a clip run by the line bits of links: walked, written to lent lists, and what they come to.
+#![tactic(auto)]
+
 mod links;
 mod path;
 mod sums;

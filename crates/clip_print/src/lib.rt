@@ -1,4 +1,6 @@
 // The printed lines of a clip run, put into a lent list of bytes.
+#![tactic(auto)]
+
 ghost use Rattle.std.specs.Prelude.{◌+◌, ◌*◌, ◌≤◌, length};
 ghost use Rattle.lists.specs.Sums.{tally};
 ghost use Rattle.string_clip.specs.declared.Clipped.TheVariants.{Done};

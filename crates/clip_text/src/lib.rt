@@ -1,4 +1,6 @@
 // The clip run on a comma text, and what is printed of it. Any bytes and any length of the lent lists get an answer.
+#![tactic(auto)]
+
 mod program;
 
 ghost use Rattle.std.specs.Prelude.{◌≡◌, ◌*◌, ◌≤◌, length};

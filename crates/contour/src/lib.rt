@@ -1,4 +1,6 @@
 // Lists of points as flat lists of their coordinates: read, written and turned round, the area of a contour, and its role.
+#![tactic(auto)]
+
 ghost use Rattle.std.specs.Prelude.{◌≡◌, true, suc, ◌+◌, ◌*◌, ◌%◌, ◌≤◌, length, get_or, set};
 ghost use Rattle.geom.specs.Points.{in_range};
 ghost use Rattle.lists.specs.Written.{written};

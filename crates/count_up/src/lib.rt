@@ -1,4 +1,6 @@
 // The top counts of the segments that start at one point, by their places in the ordered list of the open ones.
+#![tactic(auto)]
+
 ghost use Rattle.std.specs.Prelude.{◌≡◌, ℕ, ◌≤◌, ◌<◌, length, nat_abs};
 ghost use Rattle.lists.specs.Members.{◌∈◌};
 ghost use Rattle.segm.specs.Segments.{segments};

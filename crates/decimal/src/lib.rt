@@ -1,9 +1,11 @@
 // Numbers as bytes.
+#![tactic(auto)]
+
 ghost use Rattle.std.specs.Prelude.{◌≡◌, ◌^◌, ◌<◌};
 ghost use Rattle.decimal.specs.Decimal.{is_digit, positive, unless_zero, field_of};
 
 // What a field of a text holds.
-#[derive(Drop)]
+#[derive(Clone, Copy)]
 pub enum Field {
     Number(i32),
     Malformed,

@@ -1,5 +1,7 @@
 // The verdict on a drawing alone, refusals 3 to 9 and 13, unless something was refused before; and what an accepted drawing leaves for a run: its nodes and top
 // counts.
+#![tactic(auto)]
+
 ghost use Rattle.std.specs.Prelude.{◌≡◌, ℕ, ◌*◌, ◌<◌, ◌≤◌, length, get_or, drop, pos};
 ghost use Rattle.lists.specs.Members.{any};
 ghost use Rattle.lists.specs.UpFrom.{up_from};

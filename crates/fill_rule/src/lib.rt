@@ -1,9 +1,11 @@
 // Fill rules, and the fill of a segment.
+#![tactic(auto)]
+
 ghost use Rattle.std.specs.Prelude.{◌≡◌, cond, pos, ◌≤ℤ◌};
 ghost use Rattle.fill_rule.specs.FillRule.{filled, rule_of, fill_of};
 
 // The four fill rules.
-#[derive(Drop)]
+#[derive(Clone, Copy)]
 pub enum Rule {
     EvenOdd,
     NonZero,

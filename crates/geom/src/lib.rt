@@ -1,5 +1,6 @@
 // Points: their order, their range, cross products and distances, over i32 coordinates.
 #![tactic(auto)]
+
 ghost use Rattle.std.specs.Prelude.{◌≡◌, true, ◌≤◌, nat_abs, ◌-ℤ◌};
 ghost use Rattle.geom.specs.Points.{within, lt_p, eq_p, in_range, travel, cross, between};
 

@@ -1,1 +1,2 @@
 // Laws of the integers, and no code: proofs/ has them.
+#![tactic(auto)]

@@ -1,4 +1,6 @@
 // For the driver alone: the verdict by itself, what the sweep over neighbours says of an accepted drawing, and both clip runs by one check.
+#![tactic(auto)]
+
 ghost use Rattle.std.specs.Prelude.{◌≡◌, true, length};
 ghost use Rattle.segm.specs.Segments.{segments};
 ghost use Rattle.checks.specs.Accepted.{Good};

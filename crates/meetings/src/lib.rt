@@ -1,4 +1,6 @@
 // When two segments meet wrongly.
+#![tactic(auto)]
+
 ghost use Rattle.std.specs.Prelude.{◌≡◌, ◌&&◌, ◌||◌};
 ghost use Rattle.faults.specs.Faultless.{Proper};
 ghost use Rattle.meetings.specs.Meetings.{parts, in_interior, same_ends, meets_wrongly};

@@ -1,4 +1,6 @@
 // What is printed for a text that is moved, and the work of the programs that move one.
+#![tactic(auto)]
+
 mod program;
 
 ghost use Rattle.std.specs.Prelude.{◌≡◌, length};

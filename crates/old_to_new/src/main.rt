@@ -1,5 +1,7 @@
 // A text without lots on standard input, the text of the same drawing with them, or its refusal, on standard output.
 // It assumes the contracts of C's `read` and `write`.
+#![tactic(auto)]
+
 use text_forms::Form;
 
 fn main() {

@@ -7,6 +7,8 @@
 //
 // Names: `list[..used]` has places of the drawing; k is a place of the list, i and j are places of the drawing with the segments t and u, and e is an end;
 // `near` is where the last one left or entered, `guess` where to look first.
+#![tactic(auto)]
+
 ghost use Rattle.std.specs.Prelude.{◌≡◌, [], ◌∷◌, ◌↔◌, true, false, ℕ, ◌+◌, ◌*◌, ◌≤◌, ◌<◌, length, get_or, take, ℤ};
 ghost use Rattle.lists.specs.Members.{◌∈◌};
 ghost use Rattle.segm.specs.Segments.{segments, segment_at};
@@ -21,7 +23,7 @@ use segm::Segment;
 
 // How many segments are open, a place of the list, and whether all tests were passed so far. The place is where a segment left or entered: at one x ends and
 // starts come in order, so that of the next one is near; and what changes at the next x is often near the lowest that changed at this one.
-#[derive(Drop)]
+#[derive(Clone, Copy)]
 pub struct Status {
     pub used: usize,
     pub near: usize,
@@ -275,7 +277,7 @@ fn fits_at(s: &[i32], list: &[u16], k: usize, i: u16) -> bool
 }
 
 // A place of the list, and whether a segment may stand there.
-#[derive(Drop)]
+#[derive(Clone, Copy)]
 struct Place {
     at: usize,
     fits: bool,

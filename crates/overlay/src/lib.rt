@@ -1,4 +1,6 @@
 // The functions that C and Rust call, and nothing else: numbers and slices in, a struct of numbers out.
+#![tactic(auto)]
+
 ghost use Rattle.std.specs.Prelude.{◌≡◌};
 ghost use Rattle.text_forms.specs.declared.Form.TheVariants.{Old, New};
 ghost use Rattle.overlay.specs.Numbers.{fills_numbers, returned, clip_lists, clip_numbers, returned_clip, slice_lists, slice_numbers, returned_slice, split_lists, split_numbers, returned_split, read_numbers, returned_read, write_numbers, move_numbers, returned_write};

@@ -1,5 +1,7 @@
 // The ordered list of the open segments, by their places, the lowest first: where a point or a segment stands in it, and how one enters and one leaves, in
 // place.
+#![tactic(auto)]
+
 ghost use Rattle.std.specs.Prelude.{◌≡◌, ◌+◌, ◌-◌, ◌≤◌, ◌<◌, length, take};
 ghost use Rattle.segm.specs.Segments.{segments};
 ghost use Rattle.faults.specs.Faultless.{Proper};
@@ -28,7 +30,7 @@ pub fn is_lower(t: Segment, u: Segment) -> bool
 }
 
 // What a place in the list is sought for: a point, or a segment.
-#[derive(Drop)]
+#[derive(Clone, Copy)]
 pub enum Sought {
     At(Point),
     Along(Segment),

@@ -1,4 +1,6 @@
 // Walks cut into loops, and loops made contours: each with its role, and turned round where it must be.
+#![tactic(auto)]
+
 ghost use Rattle.std.specs.Prelude.{◌≡◌, ◌*◌, ◌≤◌, length};
 ghost use mathlib.Core.List.{map, flatten};
 ghost use Rattle.lists.specs.Sums.{tally};
@@ -13,7 +15,7 @@ ghost use Rattle.slice_cut.specs.Cutting.{walk_contours, points_of, roles_of, co
 use split_loops::LoopTotals;
 
 // How many contours and points were found.
-#[derive(Drop)]
+#[derive(Clone, Copy)]
 pub struct Contours {
     pub contours: usize,
     pub points: usize,

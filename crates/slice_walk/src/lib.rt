@@ -1,4 +1,6 @@
 // The slice walk over flat lists: a move is named by the end of a link that it leaves, and takes one side bit.
+#![tactic(auto)]
+
 mod nearest;
 
 ghost use Rattle.std.specs.Prelude.{◌≡◌, ◌*◌, ◌%◌, ◌≤◌, ◌<◌, length, get_or};

@@ -11,14 +11,14 @@ ghost use Rattle.split_loops.specs.Splitting.{loop_totals, first_points, Adds, W
 use geom::Point;
 
 // How many loops and points were written.
-#[derive(Drop)]
+#[derive(Clone, Copy)]
 pub struct LoopTotals {
     pub loops: usize,
     pub points: usize,
 }
 
 // What was found of the points taken, and how many of them the buffer has.
-#[derive(Drop)]
+#[derive(Clone, Copy)]
 struct Taken {
     found: LoopTotals,
     len: usize,

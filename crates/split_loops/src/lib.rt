@@ -1,4 +1,6 @@
 // Loops: a list of points that are known to be good, cut at each that it comes back to, in working memory that is lent.
+#![tactic(auto)]
+
 mod buffer;
 
 pub use buffer::{LoopTotals, split_loops};

@@ -1,5 +1,7 @@
 // The writer of drawing texts, and the mover of stored texts from the form without lots to the one with them and back. Any numbers, any bytes and any length of
 // the lent list get an answer.
+#![tactic(auto)]
+
 ghost use Rattle.std.specs.Prelude.{◌≡◌, ◌*◌, ◌≤◌, length};
 ghost use Rattle.refusal.specs.declared.Verdict.TheVariants.{Accepted};
 ghost use Rattle.refusal.specs.Order.{◌then◌};

@@ -1,4 +1,6 @@
 // The clip run: the cut lines inside or outside a drawing's filled area, as paths.
+#![tactic(auto)]
+
 ghost use Rattle.std.specs.Prelude.{◌≡◌, ◌*◌, ◌≤◌, length, take};
 ghost use Rattle.segm.specs.Segments.{count, segments};
 ghost use Rattle.graph.specs.Nodes.{Nodes};

@@ -1,4 +1,6 @@
 // The slice run: a drawing's filled area cut along all its segments, as contours with roles.
+#![tactic(auto)]
+
 mod walks;
 
 ghost use Rattle.std.specs.Prelude.{◌≡◌, ◌≤◌};

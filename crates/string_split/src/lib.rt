@@ -1,4 +1,6 @@
 // The split run: any numbers and any lengths of lent lists get an answer.
+#![tactic(auto)]
+
 ghost use Rattle.std.specs.Prelude.{◌≡◌, length};
 ghost use Rattle.refusal.specs.Order.{first};
 ghost use Rattle.contour.specs.Points.{pair_up};
@@ -8,7 +10,7 @@ use refusal::Verdict;
 use split_loops::LoopTotals;
 
 // What a split run answers: what it found, or a refusal's number and place.
-#[derive(Drop)]
+#[derive(Clone, Copy)]
 pub enum Loops {
     Done(LoopTotals),
     Refused(u32, usize),

@@ -1,1 +1,2 @@
 // Small drawings that the definition of the sweep is computed on, and no code: proofs/ has them.
+#![tactic(auto)]

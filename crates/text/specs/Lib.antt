@@ -1,3 +1,4 @@
 pub mod Grammar
 pub mod Writing
 pub mod Storing
+pub mod Finding

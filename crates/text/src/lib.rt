@@ -1,6 +1,9 @@
 // The comma text: lines that end in LF, first `rule,invert,boundary`, then a segment's numbers each, as many as the caller says. Any bytes, any width and any
 // length of the lent list get an answer.
+#![tactic(auto)]
+
 mod lines;
+mod scan;
 
 ghost use Rattle.std.specs.Prelude.{◌≡◌};
 ghost use Rattle.text.specs.Storing.{outcome, read_outcome};
@@ -11,7 +14,7 @@ use lines::{Scanned, read_line, read_lines};
 pub const MOST_BYTES: usize = 65536;
 
 // The first line of a text.
-#[derive(Drop)]
+#[derive(Clone, Copy)]
 pub struct Choices {
     pub rule: i32,
     pub invert: i32,
@@ -19,7 +22,7 @@ pub struct Choices {
 }
 
 // What a text holds: its choices, and how many numbers come after them; or a refusal's number and place.
-#[derive(Drop)]
+#[derive(Clone, Copy)]
 pub enum Reading {
     Read(Choices, usize),
     Refused(u32, usize),
@@ -33,7 +36,7 @@ pub fn read(text: &[u8], width: usize, numbers: &mut [i32]) -> Reading
     if MOST_BYTES < text.len() {
         return Reading::Refused(1, 0);
     }
-    let end = bytes::scan::find(text, 0, text.len(), b'\n');
+    let end = scan::find(text, 0, text.len(), b'\n');
     if end == text.len() {
         return Reading::Refused(1, 1);
     }

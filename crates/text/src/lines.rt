@@ -3,10 +3,11 @@ ghost use Rattle.std.specs.Prelude.{◌≡◌, ◌+◌, ◌≤◌, length, drop,
 ghost use Rattle.text.specs.Grammar.{pieces, row, rows_from, most_bytes};
 ghost use Rattle.text.specs.Storing.{row_stored, list_if, rows_stored, lines_stored};
 
+use crate::scan;
 use decimal::Field;
 
 // What lines hold: the first bad one, or how many numbers there are.
-#[derive(Drop)]
+#[derive(Clone, Copy)]
 pub enum Scanned {
     Bad(usize),
     Good(usize),
@@ -29,7 +30,7 @@ pub fn read_line(s: &[u8], k: usize, numbers: &mut [i32], at: usize) -> bool
     let mut from: usize = 0;
     let mut i: usize = 0;
     while i < k {
-        let to = bytes::scan::find(s, from, s.len(), b',');
+        let to = scan::find(s, from, s.len(), b',');
         let Field::Number(z) = decimal::number(&s[from..to]) else {
             return false;
         };
@@ -52,7 +53,7 @@ pub fn read_lines(text: &[u8], from: usize, width: usize, numbers: &mut [i32]) -
     let mut line: usize = 2;
     let mut at: usize = 0;
     while start < text.len() {
-        let end = bytes::scan::find(text, start, text.len(), b'\n');
+        let end = scan::find(text, start, text.len(), b'\n');
         if end == text.len() {
             return Scanned::Bad(line);
         }

@@ -1,4 +1,6 @@
 // A drawing's text in its two forms: read into a list of numbers, seven a segment, and put from one. The old form is from before lots.
+#![tactic(auto)]
+
 mod putting;
 
 ghost use Rattle.std.specs.Prelude.{◌≡◌, cond, ◌*◌, ◌≤◌, eqb, length, pos};
@@ -16,7 +18,7 @@ use segm::Segment;
 use text::Reading;
 
 // The form with lots, and the one from before them.
-#[derive(Drop)]
+#[derive(Clone, Copy)]
 pub enum Form {
     Old,
     New,

@@ -1,5 +1,7 @@
 // What the programs that read a text share: whether they have it to its end, and an answer written in one call. It assumes the contracts of C's `read` and
 // `write`; no contract can say what these read or write.
+#![tactic(auto)]
+
 use libc::{STDERR_FILENO, STDOUT_FILENO};
 
 // One byte more than the longest text has: a longer one is seen to be too long.

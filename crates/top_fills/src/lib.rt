@@ -1,4 +1,6 @@
 // The fills of an accepted drawing by its top counts.
+#![tactic(auto)]
+
 ghost use Rattle.std.specs.Prelude.{◌≡◌, ◌≤◌, ◌<◌, length};
 ghost use Rattle.lists.specs.Written.{written};
 ghost use Rattle.segm.specs.Segments.{segments, segment_at};

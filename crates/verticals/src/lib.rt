@@ -7,6 +7,8 @@
 //
 // Names: v is a vertical segment, with its foot a and its head b; `foot` and `top` are their heights; k is a place of the list, i one of the drawing, and e is
 // an end.
+#![tactic(auto)]
+
 ghost use Rattle.std.specs.Prelude.{◌≡◌, ◌↔◌, true, false, ℕ, ◌+◌, ◌-◌, ◌*◌, ◌≤◌, ◌<◌, length, take, set, ◌+ℤ◌, ◌<ℤ◌};
 ghost use Rattle.geom.specs.Points.{in_range};
 ghost use Rattle.segm.specs.Segments.{segments, segment_at};
@@ -64,7 +66,7 @@ fn is_in_gap(s: &[i32], v: Segment, list: &[u16], k: usize) -> bool
 }
 
 // A place in the list, and whether a vertical segment stands in the gap there.
-#[derive(Drop)]
+#[derive(Clone, Copy)]
 struct Gap {
     place: usize,
     clear: bool,
@@ -151,7 +153,7 @@ pub fn stand_all(
 }
 
 // The last vertical segment of a column of ends, by the heights of its foot and head, and whether all tests were passed so far.
-#[derive(Drop)]
+#[derive(Clone, Copy)]
 struct Last {
     foot: i32,
     top: i32,

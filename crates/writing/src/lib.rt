@@ -1,5 +1,7 @@
 // Digits, commas, LF and other bytes, put into a lent list from a place on, and how many bytes numbers and lines have: who writes can see first that there is
 // room for all of it.
+#![tactic(auto)]
+
 ghost use Rattle.std.specs.Prelude.{◌≡◌, [], ◌∷◌, map, ◌+◌, ◌^◌, ◌≤◌, ◌<◌, length};
 ghost use Rattle.decimal.specs.Decimal.{decimal, signed};
 ghost use Rattle.writing.specs.Lines.{line_of, refused_line};

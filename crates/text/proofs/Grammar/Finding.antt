@@ -8,7 +8,7 @@ use borrow.Author.Tests.{eqb-true, eqb-false}
 use lib.Dec.{eqb}
 use lib.ListN.{length, take, drop, length-drop}
 use lib.Seq.{take-length, take_all, drop-drop}
-use Rattle.bytes.specs.Bytes.{slice, index_after, index_of}
+use Rattle.text.specs.Finding.{slice, index_after, index_of}
 use Rattle.text.specs.Grammar.{onto, pieces}
 
 -- ---- at the first such byte
