@@ -4,6 +4,8 @@
 //
 // Names: places from..to of the drawing start at this x; `next` is the place after a node; `near` is a place of the list to look at first, and `high` the one
 // after those of a node.
+#![tactic(auto)]
+
 ghost use Rattle.std.specs.Prelude.{◌≡◌, true, ◌*◌, ◌≤◌, ◌<◌, length, take};
 ghost use Rattle.segm.specs.Segments.{segments};
 ghost use Rattle.faults.specs.Faultless.{Faultless};
