@@ -21,6 +21,8 @@
 // Names: `s` is the drawing, seven numbers a segment; `flat` its ends in order of x, then y (of n segments, end e below n is the a of segment e, and n + i the
 // b of segment i); `list[..used]` has the places of the open segments; `tops` a top count for each place; `passed` ends and `started` segments are behind the
 // sweep; `near` and `guess` are places of the list to look at first; `clear` says that all tests were passed so far.
+#![tactic(auto)]
+
 ghost use Rattle.std.specs.Prelude.{◌≡◌, ◌↔◌, true, false, ◌*◌, ◌≤◌, ◌<◌, length, get_or, take};
 ghost use Rattle.geom.specs.Points.{eq_z};
 ghost use Rattle.lists.specs.UpFrom.{up_from};
