@@ -17,7 +17,7 @@ use Rattle.lists.specs.Members.{◌∈◌}
 use Rattle.lists.specs.UpFrom.{up_from}
 use Rattle.segm.specs.Segments.{Drawing, segment_at}
 use Rattle.lists.proofs.Members.{stands, in_at, in_take, in_drop, pairs_take, pairs_drop}
-use Rattle.strip.specs.Strip.{is_vertical, above}
+use Rattle.strip.specs.Strip.{is_vertical}
 use Rattle.strip.proofs.Strip.Apart.{over_wide}
 use Rattle.strip.proofs.Strip.Vertical.{wide_not_vertical}
 use Rattle.faults.specs.Faultless.{Faultless}

@@ -1,0 +1,25 @@
+-- From event to event.
+use mathlib.Core.Path.{◌≡◌}
+use mathlib.Core.List.{List}
+use Prim.Native.Nat.{ℕ, ◌-◌, ◌*◌, ◌≤◌}
+use lib.ListN.{length, take}
+use lib.IntN.{ℤ}
+use Rattle.segm.specs.Segments.{Drawing, segments}
+use Rattle.count_up.specs.CountUp.{Counts, Tops, BoundedBy}
+use Rattle.meeting_sweep.proofs.Events.Sweeping.{Progress}
+use Rattle.meeting_sweep.proofs.sweep_events.Given as goal
+
+pub record SweepInv (d : Drawing) (flat old list : List ℕ) (oldTops tops : List ℤ) (passed started used : ℕ) : Type 0 where
+  pub room : length list ≡ length old
+  pub room-tops : length tops ≡ length oldTops
+  pub within : started ≤ length d
+  pub few : used ≤ started
+  pub progress : Progress d flat passed started (take used list)
+  pub small : BoundedBy (2048000 * started) tops
+  pub counted : (counts : ℕ → ℤ) → Counts d counts → Tops counts started tops
+
+abbrev pub invariant-loop-passed : goal.invariant-loop-passed
+invariant-loop-passed l = SweepInv (segments l.s) l.flat l.initial.list l.list l.initial.tops l.tops l.passed l.started l.used
+
+abbrev pub decreases-loop-passed : goal.decreases-loop-passed
+decreases-loop-passed l = length l.flat - l.passed
