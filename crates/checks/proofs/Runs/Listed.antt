@@ -9,7 +9,7 @@ use lib.Seq.{get_or-drop}
 use Rattle.integers.proofs.Booleans.{dec, clash}
 use Rattle.lists.specs.Members.{◌∈◌, any}
 use Rattle.lists.proofs.Members.{stands, pairs_places, in_after, any_some, any_false}
-use Rattle.geom.specs.Points.{within, lt_p}
+use Rattle.geom.specs.Points.{lt_p}
 use Rattle.geom.proofs.Points.{lt_p_irrefl}
 use Rattle.refusal.specs.declared.Verdict.{Verdict}
 use Rattle.refusal.specs.declared.Verdict.TheVariants.{Accepted, Refused}
@@ -20,14 +20,13 @@ use Rattle.segm.specs.declared.Segment.{Segment}
 use Rattle.segm.specs.Segments.{Drawing, width, count, segments, nowhere, segment_at}
 use Rattle.faults.specs.Faults.{fault_at, faults_of}
 use Rattle.faults.proofs.Faults.{NoFault, no_fault_at, Fault, three, four, five, six, thirteen, seven, which}
-use Rattle.faults.proofs.Faultless.{faultless}
 use Rattle.meetings.specs.Meetings.{meets_wrongly}
 use Rattle.balance.specs.Balance.{balances}
 use Rattle.drawing_check.specs.Drawing.{meeting_at, meetings_of, unbalanced_at, unbalanced_of, drawing_verdict}
 use Rattle.checks.specs.Runs.{Run, asked, verdict}
 use Rattle.checks.specs.Accepted.{Fits, wrong_length_lem, coordinate_out, not_rising, winding_out, bits_out, lot_out, start_falls, wrong_meeting, a_unbalanced, b_unbalanced, unknown_choice_lem, too_short_lem}
 use Rattle.drawing_check.proofs.Drawing.{no_meeting, balanced_at, DrawingPassed, drawing_passed}
-use Rattle.checks.proofs.Runs.{Passed, passed, passes}
+use Rattle.checks.proofs.Runs.{Passed, passed}
 
 module _ (r : Run) where
   abbrev d : Drawing
