@@ -13,14 +13,14 @@ use moves::NextEnd;
 use nearest::find_nearest;
 
 // How a walk ends: back where it began, after so many moves, or where it finds no move.
-#[derive(Drop)]
+#[derive(Clone, Copy)]
 pub enum Walked {
     Closed(usize),
     Stuck,
 }
 
 // How all walks end: each back where it began, so many of them, or one where it finds no move.
-#[derive(Drop)]
+#[derive(Clone, Copy)]
 pub enum Walks {
     Done(usize),
     Stuck,

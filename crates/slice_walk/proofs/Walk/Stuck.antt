@@ -20,7 +20,7 @@ use Rattle.moves.specs.Moves.{Move, remains, taken, taken_all, bits_remaining, o
 use Rattle.moves.specs.Begins.{begins}
 use Rattle.moves.proofs.Moves.{takes_one}
 use Rattle.moves.proofs.Begins.{begins-some}
-use Rattle.slice_walk.specs.Walk.{move_from, nearest, if_remains, or_else, find_nearest, onto, bind, begun, till, walk_from, walks}
+use Rattle.slice_walk.specs.Walk.{move_from, nearest, if_remains, or_else, find_nearest, onto, till, walk_from, walks}
 use Rattle.slice_walk.proofs.Ends.{IfSome, nearest-remains}
 use Rattle.slice_walk.proofs.Walk.Till.{Begun, none_remain, till_home, till_on}
 use Rattle.slice_walk.proofs.Walk.AllWalks.{begun_first, fewer_after, walks_on}
@@ -46,10 +46,10 @@ module _ (links : Drawing) (direction : Bool) (k : ℕ) (p : Point) (bits : List
   is_other j = not (eqb j k) && remains bits (from j)
 
   -- of several links one is the nearest
-  nearest-some : (b : ℕ) (l : List ℕ) → (c : ℕ) × (nearest links direction p back (some b) l ≡ some c)
+  nearest-some : (l : List ℕ) (b : ℕ) → (c : ℕ) × (nearest links direction p back (some b) l ≡ some c)
   unfolding nearest
-  nearest-some b [] = (b, refl)
-  nearest-some b (j ∷ l) = nearest-some _ l
+  nearest-some [] b = (b, refl)
+  nearest-some (j ∷ l) b = nearest-some l _
 
   -- where a link of the node can be taken, a move is found
   pub find_some : (j : ℕ) → j ∈ node links p → remains bits (from j) ≡ true → (m : Move) × (find_nearest links direction k p bits ≡ some m)
@@ -57,7 +57,7 @@ module _ (links : Drawing) (direction : Bool) (k : ℕ) (p : Point) (bits : List
   find_some j i l = go (keep is_other (node links p)) refl (dec (eqb j k))
     where
       go : (o : List ℕ) → keep is_other (node links p) ≡ o → (eqb j k ≡ true) ⊎ (eqb j k ≡ false) → (m : Move) × (or_else from (nearest links direction p back none o) (if_remains bits (from k)) ≡ some m)
-      go (c ∷ o) e t = let r = nearest-some c o in (from r.0, ap (λ (x : Option ℕ). or_else from x (if_remains bits (from k))) r.1)
+      go (c ∷ o) e t = let r = nearest-some o c in (from r.0, ap (λ (x : Option ℕ). or_else from x (if_remains bits (from k))) r.1)
       go [] e (inl t) = (from k, rw (subst (λ n. remains bits (from n) ≡ true) (eqb-true j k t) l))
       go [] e (inr t) = absurd (subst (λ (o : List ℕ). j ∈ o) e (in_keep is_other j (node links p) i (both (ap not t) l)))
 
