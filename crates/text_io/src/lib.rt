@@ -3,6 +3,7 @@
 #![tactic(auto)]
 
 ghost use Rattle.std.specs.Prelude.{◌≤◌, length};
+ghost use Rattle.io.specs.Counts.{IsPrefixLen};
 
 use std::io::{Read, Write};
 
@@ -21,7 +22,7 @@ fn read_some<R: Read>(input: &mut R, list: &mut [u8]) -> usize
 
 // Reads until the list is full, the input ends or a read fails, and tells how many bytes that put at its front.
 pub fn read_full<R: Read>(input: &mut R, list: &mut [u8]) -> usize
-    ensures { result ≤ length list.new }
+    ensures { IsPrefixLen result list.new }
 {
     let mut done: usize = 0;
     while done < list.len() {
