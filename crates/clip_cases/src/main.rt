@@ -1,24 +1,74 @@
-// Runs the clip program's work on each file that an argument names. It assumes the contracts of the C functions that `io`, `os` and `libc` call for it.
+// Runs the clip program's work on each file that an argument names. It assumes what std claims of the C functions that it calls for it.
 #![tactic(auto)]
 
-use libc::STDOUT_FILENO;
+use std::alloc::Global;
+use std::env::{Env, FillError};
+use std::fs::{File, Files};
+use std::io::{Error, Write};
+use std::str;
 
-fn run_one(i: usize) {
-    let mut path = io::buffer();
-    let length = os::arg(i, &mut path);
-    let fd = os::open_read(&path[..length]);
-    if fd < 0 {
-        os::fail(&path[..length]);
-        return;
-    }
-    io::write_all(STDOUT_FILENO, &path[..length]);
-    io::write_all(STDOUT_FILENO, b":\n");
-    clip_text::run(fd);
-    libc::close(fd);
+// Room for the longest path.
+const PATH_MAX: usize = 4096;
+
+// Says on standard error what could not be opened, and why.
+fn fail<E: Write>(path: &[u8], why: &str, errors: &mut E) {
+    errors.write_all(path).is_ok();
+    errors.write_all(b": ").is_ok();
+    errors.write_all(why.as_bytes()).is_ok();
+    errors.write_all(b"\n").is_ok();
 }
 
-fn main() {
-    for i in 1..os::arg_count() {
-        run_one(i);
+// What the system calls an error, without the number that std puts behind it.
+fn words(text: &str) -> &str {
+    match text.split_once(" (os error ") {
+        Some((said, _)) => said,
+        None => text,
+    }
+}
+
+fn fail_by<E: Write>(alloc: Global, path: &[u8], error: Error, errors: &mut E) {
+    match format!(in alloc; "{error}") {
+        Ok(text) => fail(path, words(text.as_str()), errors),
+        Err(_) => fail(path, "it could not be opened", errors),
+    }
+}
+
+fn run_one<F: Files, W: Write, E: Write>(
+    files: &F,
+    alloc: Global,
+    path: &[u8],
+    output: &mut W,
+    errors: &mut E,
+) {
+    let Ok(name) = str::from_utf8(path) else {
+        fail(path, "its name is not UTF-8", errors);
+        return;
+    };
+    match File::open(files, name) {
+        Ok(file) => {
+            let mut input = file;
+            output.write_all(path).is_ok();
+            output.write_all(b":\n").is_ok();
+            clip_text::run(&mut input, output, errors);
+        }
+        Err(error) => fail_by(alloc, path, error, errors),
+    }
+}
+
+fn main(rt: HostRuntime) {
+    for i in 1..usize::MAX {
+        let mut path = [0u8; PATH_MAX];
+        let length = match rt.arg(i, &mut path) {
+            Ok(n) => n,
+            Err(FillError::TooLong) => 0,
+            Err(FillError::NotPresent) => break,
+        };
+        run_one(
+            &rt,
+            rt.alloc(),
+            &path[..length],
+            &mut rt.stdout(),
+            &mut rt.stderr(),
+        );
     }
 }

@@ -1,16 +1,24 @@
-// The work of the programs: reads a text from what is open, and writes it, moved, to standard output. What is written is `answer`'s, in one call. It assumes the
-// contracts of C's `read` and `write`.
+// The work of the programs: reads a text, and writes it, moved. What is written is `answer`'s, in one call. It assumes what std's readers and writers claim of
+// `read` and `write`.
 use super::answer;
+use std::io::{Read, Write};
 use text_forms::Form;
 
-// Reads the text that is open at fd, and writes its answer.
-pub fn run(name: &[u8], fd: i32, from: Form, to: Form) {
+// Reads the text that an input holds, and writes its answer.
+pub fn run<R: Read, W: Write, E: Write>(
+    name: &[u8],
+    input: &mut R,
+    from: Form,
+    to: Form,
+    output: &mut W,
+    errors: &mut E,
+) {
     let mut text = [0u8; text_io::ROOM];
-    let n = io::read_full(fd, &mut text);
-    if !text_io::is_whole(name, fd, n) {
+    let n = text_io::read_full(input, &mut text);
+    if !text_io::is_whole(name, input, n, errors) {
         return;
     }
     let mut out = [0u8; text::MOST_BYTES];
     let k = answer(&text[..n], from, to, &mut out);
-    text_io::print(name, &out[..k]);
+    text_io::print(name, &out[..k], output, errors);
 }
