@@ -8,7 +8,7 @@ ghost use Rattle.build.specs.Links.{keeps_sides, keeps, filter_of, masked_bits};
 use fill_rule::Rule;
 
 // The four filters of a clip run: which side of the outline, and whether lines on the outline count as inside.
-#[derive(Drop)]
+#[derive(Clone, Copy)]
 pub enum Filter {
     InsideIncluded,
     InsideExcluded,

@@ -9,7 +9,7 @@ ghost use Rattle.build.specs.Fills.{fills_outcome, outcome};
 use refusal::Verdict;
 
 // What a fills run answers: how many entries it wrote, or a refusal's number and place.
-#[derive(Drop)]
+#[derive(Clone, Copy)]
 pub enum Filled {
     Done(usize),
     Refused(u32, usize),

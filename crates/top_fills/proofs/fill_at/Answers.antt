@@ -1,5 +1,4 @@
 -- The top count less the winding is the bottom count, and fits.
-use borrow.Author.Rules.{rules}
 use mathlib.Core.Path.{◌≡◌, refl, sym, ap, ap₂, subst, ◌∙◌}
 use lib.Dec.{lit<}
 use lib.ListN.{get_or}

@@ -1,10 +1,9 @@
 -- What is written so far are the fills of the segments passed.
-use borrow.Author.Rules.{rules}
-use mathlib.Core.Path.{◌≡◌, refl, ap, ap₂, ◌∙◌}
+use mathlib.Core.Path.{refl, ap, ap₂, ◌∙◌}
 use mathlib.Core.List.{List, map}
 use native.Mathlib.Omega.{arith}
-use Prim.Native.Nat.{ℕ, ◌-◌, ◌<◌, ◌≤◌}
-use lib.ListN.{length, take, set, length-set}
+use Prim.Native.Nat.{ℕ, ◌<◌}
+use lib.ListN.{length, set, length-set}
 use lib.Seq.{take_all}
 use Rattle.lists.specs.Written.{written}
 use Rattle.segm.specs.Segments.{Drawing, segments, segment_at, nowhere}

@@ -1,16 +1,11 @@
 -- What is written so far are the fills of the segments passed.
-use borrow.Author.Rules.{rules}
-use mathlib.Core.Path.{◌≡◌, refl, ap, ap₂, ◌∙◌}
-use mathlib.Core.List.{List, map}
-use native.Mathlib.Omega.{arith}
-use Prim.Native.Nat.{ℕ, ◌-◌, ◌<◌, ◌≤◌}
-use lib.ListN.{length, take, set, length-set}
-use lib.Seq.{take_all}
+use mathlib.Core.Path.{◌≡◌}
+use mathlib.Core.List.{map}
+use Prim.Native.Nat.{◌-◌, ◌≤◌}
+use lib.ListN.{length, take}
 use Rattle.lists.specs.Written.{written}
-use Rattle.segm.specs.Segments.{Drawing, segments, segment_at, nowhere}
-use Rattle.lists.proofs.Written.{written_map}
-use Rattle.segm.proofs.Segments.{count_inside, count_past}
-use Rattle.ray.specs.Ray.{fill, fills}
+use Rattle.segm.specs.Segments.{segments}
+use Rattle.ray.specs.Ray.{fill}
 use Rattle.top_fills.proofs.write_fills.Given as goal
 
 abbrev pub invariant-loop-i : goal.invariant-loop-i
