@@ -15,7 +15,7 @@ use text::{Choices, Reading};
 use text_forms::Form;
 
 // How many bytes were written, or a refusal's number and place.
-#[derive(Drop)]
+#[derive(Clone, Copy)]
 pub enum Wrote {
     Done(usize),
     Refused(u32, usize),
