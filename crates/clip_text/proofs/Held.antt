@@ -14,7 +14,6 @@ use Rattle.refusal.specs.declared.Verdict.TheVariants as verdict-is
 use Rattle.checks.specs.Runs.{verdict}
 use Rattle.fill_rule.specs.FillRule.{rule_of}
 use Rattle.build.specs.Links.{filter_of}
-use Rattle.string_clip.specs.declared.Clipped.TheVariants.{Refused}
 use Rattle.clip_paths.specs.Paths.{clip_paths, totals}
 use Rattle.clip_claim.specs.Claim.{Tells}
 use Rattle.string_clip.specs.Run.{Lists, run_of, written_to, Outcome, answered, clip_outcome}
