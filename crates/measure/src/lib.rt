@@ -13,7 +13,7 @@ use refusal::Verdict;
 
 // A refusal's number and place, or 0 and 0.
 #[repr(C)]
-#[derive(Drop)]
+#[derive(Clone, Copy)]
 pub struct Check {
     pub number: u64,
     pub place: u64,
@@ -113,7 +113,7 @@ pub extern "C" fn measure_sweep(numbers: &[i32]) -> u64
 
 // The numbers of two clip runs.
 #[repr(C)]
-#[derive(Drop)]
+#[derive(Clone, Copy)]
 pub struct ClipBoth {
     pub inside: Clip,
     pub outside: Clip,

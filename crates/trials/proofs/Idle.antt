@@ -66,6 +66,7 @@ is_drawn = inl refl
 only-drawn : (δ : Direction) → δ ∈ drawn (segments bare) → travelled δ ≡ its_step
 unfolding drawn segments segments_of front count whole has travelled as_drawn the_segment
 only-drawn δ (inl e) = ap travelled e
+only-drawn δ (inr x') = elim x' [ ]
 
 -- no step, so none counted
 none_counted : (paths : List (List Point)) → paths ≡ [] → (σ : Step) → times σ (steps_of paths) ≡ 0
@@ -128,6 +129,7 @@ canned path differs inside outside e f h = go (h.once the_line is_drawn)
 upright-step : (δ : Direction) → δ ∈ drawn (segments upright) → (travelled δ).end.x ≡ pos 0
 unfolding drawn segments segments_of front count whole has travelled as_drawn
 upright-step δ (inl e) = ap (λ (ε : Direction). (travelled ε).end.x) e
+upright-step δ (inr x') = elim x' [ ]
 
 other-line : (inside outside : Outcome) → Holds inside outside → ¬ InsideAndOutside (segments upright) (rule_of (pos 1)) (pos 1) inside outside
 unfolding travelled as_drawn the_segment
