@@ -9,7 +9,7 @@ pub use links::clip_links;
 pub use sums::lines;
 
 // How many paths, points and steps a run found, and their travel.
-#[derive(Drop)]
+#[derive(Clone, Copy)]
 pub struct Totals {
     pub paths: usize,
     pub points: usize,

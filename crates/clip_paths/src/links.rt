@@ -13,7 +13,7 @@ use super::path::write_path;
 use super::sums::travel;
 
 // How many paths and points were written.
-#[derive(Drop)]
+#[derive(Clone, Copy)]
 pub struct Written {
     pub paths: usize,
     pub points: usize,

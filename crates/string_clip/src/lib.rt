@@ -19,7 +19,7 @@ use clip_paths::Totals;
 use refusal::Verdict;
 
 // What a clip run answers: its totals, or a refusal's number and place.
-#[derive(Drop)]
+#[derive(Clone, Copy)]
 pub enum Clipped {
     Done(Totals),
     Refused(u32, usize),
