@@ -1,14 +1,20 @@
 -- 14: which drawings it leaves.
-use mathlib.Core.Path.{◌≡◌, refl}
+use mathlib.Core.Path.{◌≡◌, refl, sym, ap, ◌∙◌}
 use mathlib.Core.Bool.{Bool, true, false, cond}
-use Prim.Native.Nat.{ℕ}
+use mathlib.Core.List.{List}
+use Prim.Native.Nat.{ℕ, ◌+◌, ◌-◌, ◌<◌}
 use native.Mathlib.Omega.{arith}
 use lib.ListN.{length}
-use lib.IntN.{pos}
+use lib.IntN.{ℤ, pos}
+use mir.Syntax.{w32}
+use mir.Val.{to_z, of_z}
+use Rattle.std.specs.Prelude.{FitsSigned}
+use mir.Facts.{to_z-of_z}
 use Rattle.geom.proofs.Points.{eq_eq_z, ne_eq_z}
-use Rattle.refusal.specs.declared.Verdict.TheVariants.{Accepted}
-use Rattle.refusal.proofs.Order.{first-none, all_none}
-use Rattle.segm.specs.Segments.{Drawing, segment_at}
+use Rattle.refusal.specs.declared.Verdict.TheVariants.{Accepted, Refused}
+use Rattle.refusal.specs.Order.{first_from}
+use Rattle.refusal.proofs.Order.{first-none, all_none, step-some, step-none}
+use Rattle.segm.specs.Segments.{Drawing, segments, segment_at}
 use Rattle.segm.proofs.Segments.{everywhere, segment_in}
 use Rattle.text_forms.specs.declared.Form.{Form}
 use Rattle.text_forms.specs.declared.Form.TheVariants.{Old}
@@ -25,6 +31,19 @@ module _ (d : Drawing) (i : ℕ) where
   pub lot_lost : ((segment_at d i).lot ≡ pos 0 → ⊥) → lot_at Old d i ≡ 14
   unfolding lot_at
   lot_lost f = rw (ne_eq_z f)
+
+-- ---- where the code stands
+module _ (numbers : List ℤ) (n i : ℕ) (h : i < n) where
+  abbrev lot_here : ℤ
+  lot_here = (segment_at (segments numbers) i).lot
+
+  pub lost_here : (of_z w32 lot_here ≡ 0 → ⊥) → first_from (lot_at Old (segments numbers)) (n - i) i ≡ Refused 14 i
+  lost_here f =
+      let lost = lot_lost (segments numbers) i (λ o. f (ap (of_z w32) o)) in
+      step-some (lot_at Old (segments numbers)) n i h (λ o. let bad : ◌≡◌ {A = ℕ} 14 0 = sym lost ∙ o in omega (arith, bad)) ∙ ap (λ m. Refused m i) lost
+
+  pub kept_here : of_z w32 lot_here ≡ 0 → FitsSigned w32 lot_here → first_from (lot_at Old (segments numbers)) (n - i) i ≡ first_from (lot_at Old (segments numbers)) (n - (i + 1)) (i + 1)
+  kept_here e fits = step-none (lot_at Old (segments numbers)) n i h (lot_kept (segments numbers) i (sym (to_z-of_z fits) ∙ ap (to_z w32) e))
 
 -- ---- a drawing
 at_kept : (form : Form) (d : Drawing) (i : ℕ) → lot_at form d i ≡ 0 → takes_lot form (segment_at d i).lot ≡ true

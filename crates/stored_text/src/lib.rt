@@ -51,6 +51,7 @@ pub fn write(numbers: &[i32], rule: i32, invert: i32, boundary: i32, out: &mut [
 }
 
 // The first place with a lot other than 0.
+#[tactic(auto, using(crate::proofs::Lots::lost_here, crate::proofs::Lots::kept_here))]
 fn first_lot(numbers: &[i32]) -> Verdict
     ensures { result ≡ lots_of Old (segments numbers.now) }
 {
