@@ -13,7 +13,7 @@ use text::Reading;
 
 // A refusal's number and place, or 0 and 0 and how many fills were written.
 #[repr(C)]
-#[derive(Drop)]
+#[derive(Clone, Copy)]
 pub struct Fills {
     pub number: u64,
     pub place: u64,
@@ -40,7 +40,7 @@ pub fn fills_of(answer: Filled) -> Fills
 
 // A refusal's number and place, or 0 and 0 and what a clip run found.
 #[repr(C)]
-#[derive(Drop)]
+#[derive(Clone, Copy)]
 pub struct Clip {
     pub number: u64,
     pub place: u64,
@@ -76,7 +76,7 @@ pub fn clip_of(answer: Clipped) -> Clip
 
 // A refusal's number and place, or 0 and 0 and what a slice run found.
 #[repr(C)]
-#[derive(Drop)]
+#[derive(Clone, Copy)]
 pub struct Slice {
     pub number: u64,
     pub place: u64,
@@ -106,7 +106,7 @@ pub fn slice_of(answer: Sliced) -> Slice
 
 // A refusal's number and place, or 0 and 0 and what a split run found.
 #[repr(C)]
-#[derive(Drop)]
+#[derive(Clone, Copy)]
 pub struct Split {
     pub number: u64,
     pub place: u64,
@@ -136,7 +136,7 @@ pub fn split_of(answer: Loops) -> Split
 
 // A refusal's number and place, or 0 and 0, how many numbers a text's segments have, and its choices.
 #[repr(C)]
-#[derive(Drop)]
+#[derive(Clone, Copy)]
 pub struct Read {
     pub number: u64,
     pub place: u64,
@@ -172,7 +172,7 @@ pub fn read_of(answer: Reading) -> Read
 
 // A refusal's number and place, or 0 and 0 and how many bytes were written.
 #[repr(C)]
-#[derive(Drop)]
+#[derive(Clone, Copy)]
 pub struct Write {
     pub number: u64,
     pub place: u64,

@@ -12,7 +12,7 @@ use refusal::Verdict;
 use string_clip::Clipped;
 
 // What two clip runs answer.
-#[derive(Drop)]
+#[derive(Clone, Copy)]
 pub struct Both {
     pub inside: Clipped,
     pub outside: Clipped,

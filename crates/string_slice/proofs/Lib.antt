@@ -1,4 +1,4 @@
 pub mod Cases
 pub mod Walking
 pub mod Run
-pub mod Contours
+pub mod SliceContours

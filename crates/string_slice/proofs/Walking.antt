@@ -44,7 +44,7 @@ use Rattle.string_slice.specs.Run.{Lists, lists, outcome, handed_over, answered}
 use Rattle.string_slice.specs.Walking.{WalkedAre, WalkedOf}
 use Rattle.contour.specs.Contour.{Contour}
 use Rattle.string_slice.specs.Contours.{side_bits, all_contours, slice_contours, of_walks}
-use Rattle.string_slice.proofs.Contours.{length_sides}
+use Rattle.string_slice.proofs.SliceContours.{length_sides}
 
 -- ---- paths and directions
 paths_written : (paths : List (List Point)) (old : List ℤ) → paths_in (written (coordinates (flatten paths)) old) (map length paths) ≡ paths

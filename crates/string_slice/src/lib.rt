@@ -14,7 +14,7 @@ use slice_cut::cut_walks;
 use walks::{Walked, make_walks};
 
 // What a slice run answers: what it found, or a refusal's number and place.
-#[derive(Drop)]
+#[derive(Clone, Copy)]
 pub enum Sliced {
     Done(Contours),
     Refused(u32, usize),

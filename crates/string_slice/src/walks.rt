@@ -17,7 +17,7 @@ use refusal::Verdict;
 use slice_walk::Walks;
 
 // What the first stage answers: how many walks there are, or a refusal's number and place.
-#[derive(Drop)]
+#[derive(Clone, Copy)]
 pub enum Walked {
     Done(usize),
     Refused(u32, usize),

@@ -31,7 +31,7 @@ use Rattle.clip_paths.specs.Paths.{clip_paths}
 use Rattle.clip_paths.proofs.Paths.Lots.{paths_unlotted}
 use Rattle.string_clip.specs.Run as clip
 use Rattle.string_slice.specs.Contours.{slice_contours}
-use Rattle.string_slice.proofs.Contours.{slice_unlotted}
+use Rattle.string_slice.proofs.SliceContours.{slice_unlotted}
 use Rattle.string_slice.specs.Run as slice
 use Rattle.trials.specs.Lots.{run_with, LotsDecideNothingElse}
 
