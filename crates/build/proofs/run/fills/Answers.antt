@@ -1,14 +1,12 @@
 -- What is asked first, then the drawing, in memory for a small one or for any.
-use mathlib.Core.Path.{◌≡◌, sym, ap, ◌∙◌}
+use mathlib.Core.Path.{◌≡◌, sym, ◌∙◌}
 use native.Mathlib.Omega.{arith}
 use lib.ListN.{length}
-use lib.IntN.{ℤ}
 use mir.Facts.{to_z-of_z}
 use Rattle.segm.proofs.Segments.{length-segments}
 use Rattle.checks.specs.Runs.{Run, fills_run, asked}
 use Rattle.checks.proofs.Runs.{asked_few, checked_verdict}
 use Rattle.drawing_check.proofs.Memory.{small_memory, any_memory}
-use Rattle.build.specs.Fills.{fills_outcome}
 use Rattle.build.proofs.run.fills.Goals as goal
 use Rattle.build.proofs.run.fills.Lts
 use Rattle.build.proofs.run.fills.Reads
@@ -35,26 +33,18 @@ pub check_small-checked-requires : goal.check_small-checked-requires
 check_small-checked-requires c =
     let s = c in
     let n = c in
-    let t = c in
-    (omega (arith, length-segments s.args.numbers.now, n.count.ensures, t.if-count-le-SMALL.true), small_memory s.args.numbers.now (omega (arith, n.count.ensures, t.if-count-le-SMALL.true)))
+    (omega (arith, length-segments s.args.numbers.now, n.count.ensures), small_memory s.args.numbers.now (omega (arith, n.count.ensures)))
 
 pub fills_by-requires : goal.fills_by-requires
 unfolding fills_run
 fills_by-requires c =
     let k = c in
     let n = c in
-    let t = c in
     let v = c in (
       rw (to_z-of_z (s k.before.before.before.before.before.before.before.before.before.before.before.before.before).ranges.rule) (checked_verdict (run k.before.before.before.before.before.before.before.before.before.before.before.before.before) (asked_is k.before.before.before.before.before.before.before.before.before.before.before.before.before) v.check_small-checked.ensures.0),
       λ e. (v.check_small-checked.ensures.1 e).counts_are,
-      λ few. omega (arith, length-segments (s k.before.before.before.before.before.before.before.before.before.before.before.before.before).args.numbers.now, n.count.ensures, t.if-count-le-SMALL.true, v.check_small-checked.auto.tops),
+      λ few. omega (arith, length-segments (s k.before.before.before.before.before.before.before.before.before.before.before.before.before).args.numbers.now, n.count.ensures, v.check_small-checked.auto.tops),
     )
-
-pub returns-then-count-le-SMALL : goal.returns-then-count-le-SMALL
-returns-then-count-le-SMALL c =
-    let w = c in
-    let s = c in
-    w.fills_by.ensures ∙ ap (λ (z : ℤ). fills_outcome s.args.numbers.now z s.args.fills.now) (to_z-of_z s.ranges.rule)
 
 pub check_any-checked-requires : goal.check_any-checked-requires
 unfolding fills_run
@@ -71,9 +61,3 @@ fills_by-requires-2 c =
       λ e. (v.check_any-checked.ensures.1 e).counts_are,
       λ few. omega (arith, few, v.check_any-checked.auto.tops),
     )
-
-pub returns : goal.returns
-returns c =
-    let w = c in
-    let s = c in
-    w.fills_by-2.ensures ∙ ap (λ (z : ℤ). fills_outcome s.args.numbers.now z s.args.fills.now) (to_z-of_z s.ranges.rule)
