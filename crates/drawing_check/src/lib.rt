@@ -145,6 +145,7 @@ fn check_ends(
 // The verdict on a small drawing, unless something was refused before. An accepted drawing's nodes and top counts are left in the lists, which are working
 // memory of the run that comes; after a refusal they hold anything. What only the check needs it owns, by size: a run calls this one or the next, so that of
 // this memory a small drawing has no more on the stack than it needs.
+#[inline(never)]
 pub fn check_small(
     before: Verdict,
     s: &[i32],
@@ -177,6 +178,7 @@ pub fn check_small(
 }
 
 // The same of any drawing.
+#[inline(never)]
 pub fn check_any(
     before: Verdict,
     s: &[i32],

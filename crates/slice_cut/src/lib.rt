@@ -131,6 +131,7 @@ fn cut_all(
 }
 
 // The contours of all walks, with memory for those of a small drawing or of any.
+#[inline(never)]
 pub fn cut_walks(
     walks: &[i32],
     walk_lengths: &[u16],

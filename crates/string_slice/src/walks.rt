@@ -196,6 +196,7 @@ fn walks_any(
 }
 
 // Checks a drawing, unless something was refused before, and makes its walks where it is accepted: their points, how many each has, and its direction.
+#[inline(never)]
 pub fn make_walks(
     before: Verdict,
     s: &[i32],

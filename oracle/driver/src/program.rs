@@ -16,7 +16,7 @@ impl Program {
         let path = in_repository("target/bin").join(name);
         let is_there = path.is_file();
         if !is_there {
-            println!("the program {name} is NOT at {}: rt check {name} makes it", path.display());
+            println!("the program {name} is NOT at {}: tools/build {name} makes it", path.display());
         }
         is_there.then_some(Self { path })
     }

@@ -16,10 +16,10 @@ const FILE: &str = "proofs/Drawings.antt";
 
 const HEAD: &str = "\
 -- Small drawings, each with a rule and its fills by the unchanged Rust. The driver makes this file (`driver sweeps`).
-use mathlib.Core.List.{List, [], _∷_, _++_}
+use mathlib.Core.List.{List, [], ◌∷◌, ◌++◌}
 use Prim.Native.Nat.{ℕ}
 use lib.IntN.{ℤ, pos, negsuc}
-use Rattle·segm.specs.CaseA.{segment}
+use Rattle.segm.specs.CaseA.{segment}
 
 pub record Drawn : Type 0 where
   pub rule : ℤ

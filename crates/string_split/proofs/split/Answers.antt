@@ -7,7 +7,6 @@ use lib.ListN.{length}
 use lib.IntN.{ℤ}
 use Rattle.geom.specs.declared.Point.{Point}
 use Rattle.contour.specs.Points.{pair_up, Writes}
-use Rattle.contour.proofs.Points.Coordinates.{length_pairs}
 use Rattle.refusal.specs.declared.Verdict.{Verdict}
 use Rattle.split_loops.specs.declared.buffer.LoopTotals.{LoopTotals}
 use Rattle.string_split.specs.declared.Loops.TheVariants.{Done}
@@ -15,7 +14,6 @@ use Rattle.split_loops.specs.Loops.{split_loops}
 use Rattle.split_loops.specs.Splitting.{loop_totals}
 use Rattle.string_split.specs.Run.{Lists, lists, outcome, answered, split_outcome}
 use Rattle.string_split.proofs.Run.{AcceptedSplit, accepted_split}
-use Rattle.split_loops.proofs.Splitting.{small_working, any_working}
 use Rattle.string_split.proofs.split.Goals as goal
 
 pub returns-in-Refused : goal.returns-in-Refused
@@ -31,8 +29,8 @@ returns-in-Refused c =
     λ w e. ap (λ (w : Verdict). answered w loops old) (sym e ∙ c.check_split.ensures) in
     by_verdict _ c.in-Refused.is
 
-pub split_loops-requires : goal.split_loops-requires
-split_loops-requires c =
+pub split_small-requires : goal.split_small-requires
+split_small-requires c =
     let points : List ℤ =
     c.args.points.now in
     let old : Lists =
@@ -40,7 +38,7 @@ split_loops-requires c =
     let given : AcceptedSplit points (length old.out) (length old.lengths) =
     accepted_split points (length old.out) (length old.lengths) (sym c.check_split.ensures ∙ c.in_default.is) in
     let g = given in
-    (g.splittable, small_working (length (pair_up points)) (omega (arith, length_pairs points, c.if-points-le-SMALL_COORDINATES.true)), g.out_fits, g.lengths_fit)
+    (g.splittable, omega arith, g.out_fits, g.lengths_fit)
 
 pub returns-then-points-le-SMALL_COORDINATES : goal.returns-then-points-le-SMALL_COORDINATES
 unfolding split_outcome
@@ -55,10 +53,10 @@ returns-then-points-le-SMALL_COORDINATES c =
     λ w e. ap (λ (w : Verdict). answered w loops old) (sym e ∙ c.check_split.ensures) in
     let by_loops : (found : LoopTotals) (out : List ℤ) (lengths : List ℕ) → (found ≡ loop_totals loops) × Writes loops old.out old.lengths out lengths → outcome (Done found) (lists out lengths) ≡ split_outcome points c.args.min_area old =
     λ found out lengths e. (λ i. outcome (Done (e.0 i)) (lists (e.1.points_are i) (e.1.lengths_are i))) ∙ by_verdict _ c.in_default.is in
-    by_loops _ _ _ c.split_loops.ensures
+    by_loops _ _ _ c.split_small.ensures
 
-pub split_loops-requires-2 : goal.split_loops-requires-2
-split_loops-requires-2 c =
+pub split_any-requires : goal.split_any-requires
+split_any-requires c =
     let points : List ℤ =
     c.args.points.now in
     let old : Lists =
@@ -66,7 +64,7 @@ split_loops-requires-2 c =
     let given : AcceptedSplit points (length old.out) (length old.lengths) =
     accepted_split points (length old.out) (length old.lengths) (sym c.check_split.ensures ∙ c.in_default.is) in
     let g = given in
-    (g.splittable, any_working (length (pair_up points)) (omega (arith, length_pairs points, g.splittable.few)), g.out_fits, g.lengths_fit)
+    (g.splittable, g.out_fits, g.lengths_fit)
 
 pub returns : goal.returns
 unfolding split_outcome
@@ -81,4 +79,4 @@ returns c =
     λ w e. ap (λ (w : Verdict). answered w loops old) (sym e ∙ c.check_split.ensures) in
     let by_loops : (found : LoopTotals) (out : List ℤ) (lengths : List ℕ) → (found ≡ loop_totals loops) × Writes loops old.out old.lengths out lengths → outcome (Done found) (lists out lengths) ≡ split_outcome points c.args.min_area old =
     λ found out lengths e. (λ i. outcome (Done (e.0 i)) (lists (e.1.points_are i) (e.1.lengths_are i))) ∙ by_verdict _ c.in_default.is in
-    by_loops _ _ _ c.split_loops-2.ensures
+    by_loops _ _ _ c.split_any.ensures
