@@ -1,6 +1,14 @@
 #!/usr/bin/env python3
-"""same.py OLD NEW: whether specs and clauses differ in spelling alone; prints what differs, and the pairs of names."""
+"""Whether a repository says in today's spelling what it said in the older one, by words.
+
+usage: python3 tools/same_words.py OLD NEW     OLD a checkout before the port, NEW one after it
+
+It parses each declaration of specs/, each requires and ensures of src/ and each statement of proofs/ (files of lemmas, not the proofs of functions) in the
+older spelling and in today's, compares them as trees, and prints what differs, what is missing, and the pairs of names that are no mere respelling. What a name
+means it can't tell, nor does it look at code, types of parameters, imports or bodies of proofs. Exits with 1 where a statement of specs/ or src/ differs.
+"""
 import os,re,sys
+if len(sys.argv)!=3: sys.exit(__doc__)
 OLD,NEW=sys.argv[1:3]
 def strip(t,mark):
     out=[]
@@ -141,38 +149,110 @@ def clauses(t):
             cl.append((c.group(1),(c.group(2) or '').strip(),seg[c.end():j-1].strip()))
         res.append((name,cl))
     return res
-for top,ds,fs in os.walk(os.path.join(OLD,'crates')):
-    ds[:]=[x for x in ds if x not in('out','target')]
-    for f in sorted(fs):
-        p=os.path.join(top,f); rel=os.path.relpath(p,OLD); q=os.path.join(NEW,rel)
-        if '/specs/' in rel and f.endswith('.antt'):
-            if not os.path.exists(q): print('MISSING',rel); bad+=1; continue
-            A=decls(open(p).read()); B=decls(open(q).read())
-            if len(A)!=len(B): print('COUNT',rel,len(A),len(B)); bad+=1; continue
-            for a,b in zip(A,B): compare(a,b,rel)
-        if '/src/' in rel and f.endswith('.rt'):
-            if not os.path.exists(q): print('MISSING',rel); bad+=1; continue
-            A=clauses(open(p).read()); B=clauses(open(q).read())
-            if [x[0] for x in A]!=[x[0] for x in B]: print('FNS',rel,[x[0] for x in A if x[0] not in [y[0] for y in B]],[x[0] for x in B if x[0] not in [y[0] for y in A]]); bad+=1; continue
-            for (na,ca),(nb,cb) in zip(A,B):
-                if [c[0] for c in ca]!=[c[0] for c in cb]: print('CLAUSES',rel,na,[c[0] for c in ca],[c[0] for c in cb]); bad+=1; continue
-                for x,y in zip(ca,cb):
-                    old=x[2].strip()
-                    ren={}
-                    m=re.match(r'λ (\w+)\. ',old)
-                    if m and x[0]=='ensures': ren={m.group(1):'result'}; old=old[m.end():].strip()
-                    old=re.sub(r'^⌜(.*)⌝$',r'\1',old.strip(),flags=re.S)
-                    compare(old,y[2],rel+':'+na+':'+x[0],ren)
-print('compared',n,'bad',bad)
-multi=[(a,{b:len(v) for b,v in bs.items()}) for a,bs in pairs.items() if len(bs)>1]
-print('one name, several:',len(multi))
-for a,bs in multi: print('  ',a,bs)
-back={}
-for a,bs in pairs.items():
-    for b in bs: back.setdefault(b,set()).add(a)
-print('several names, one:')
-for b,as_ in back.items():
-    if len(as_)>1: print('  ',b,as_)
-def plain(s): return re.sub(r'[-_.]','',s).lower()
-odd=sorted({(a,b) for a,bs in pairs.items() for b in bs if plain(a)!=plain(b)})
-print('other words:',odd)
+
+LEMMAS = re.compile(r"^(\s*)(?:(?:pub|abbrev|unfoldable) )*([^\s:(){}\[\],;.\"=]+) : (.*)$")
+# a file of lemmas that has another name today
+MOVED = {'crates/string_slice/proofs/Contours.antt': 'crates/string_slice/proofs/SliceContours.antt'}
+
+
+def plain(s):
+    return re.sub(r"[-_.◌«»]", '', s.replace('′', "'").replace('″', "''")).lower()
+
+
+def statements(path):
+    """The statements of a file of lemmas, those inside modules and where too: name and type."""
+    lines = strip(open(path, encoding='utf-8').read(), '--').split('\n')
+    out, i = [], 0
+    while i < len(lines):
+        m = LEMMAS.match(lines[i])
+        i += 1
+        if not m or lines[i - 1].lstrip().startswith(('use ', 'module', 'let ')):
+            continue
+        deep, text = len(m.group(1)), m.group(3)
+        while i < len(lines) and lines[i].strip() and len(lines[i]) - len(lines[i].lstrip()) > deep and not lines[i].lstrip().startswith('unfolding '):
+            text += '\n' + lines[i]
+            i += 1
+        out.append((m.group(2), text))
+    return out
+
+
+def key(name):
+    word = re.sub(r"[-_]", '', re.sub(r"_lem$", '', name.replace('′', "'").replace('″', "''").replace('◌', '')))
+    return word[:1] + word[1:].lower()
+
+
+def compare_lemmas(rel, old, new):
+    """How many statements of the old file there are; prints those that the new one lacks or says otherwise."""
+    today = {}
+    for name, text in statements(new):
+        today.setdefault(key(name), []).append(text)
+    for name, text in statements(old):
+        for k, other in enumerate(today.get(key(name), [])):
+            before = len(pairs)
+            seen = dict(pairs)
+            pairs.clear()
+            a, b = canon(parse(toks(text), False), False, {}), canon(parse(toks(other), True), True, {})
+            alike = same(a, b, rel) and all(plain(x) == plain(y) or (x, y) in KNOWN or y.endswith('_lem') for x, ys in pairs.items() for y in ys)
+            pairs.clear()
+            pairs.update(seen)
+            if alike:
+                today[key(name)].pop(k)
+                break
+        else:
+            print('LEMMA', rel, name, 'is missing' if not today.get(key(name)) else 'differs')
+    return len(statements(old))
+
+
+# names of the library then and now
+KNOWN = {('getD', 'get_or'), ('Bool·beq', 'beq'), ('isEq', 'compare_is_eq'), ('Option·map', 'Option.map'), ('.fits', '.ranges')}
+
+
+def compare_tree():
+    global bad
+    lemmas = 0
+    for top, ds, fs in os.walk(os.path.join(OLD, 'crates')):
+        ds[:] = [x for x in ds if x not in ('out', 'target')]
+        for f in sorted(fs):
+            p = os.path.join(top, f)
+            rel = os.path.relpath(p, OLD)
+            q = os.path.join(NEW, MOVED.get(rel, rel))
+            is_spec, is_code = '/specs/' in rel and f.endswith('.antt'), '/src/' in rel and f.endswith('.rt')
+            is_lemmas = '/proofs/' in rel and f.endswith('.antt') and f not in ('Proof.antt', 'Lib.antt')
+            if not (is_spec or is_code or is_lemmas):
+                continue
+            if not os.path.exists(q):
+                print('MISSING', rel)
+                bad += 1
+                continue
+            if is_lemmas:
+                lemmas += compare_lemmas(rel, p, q)
+                continue
+            if is_spec:
+                before, after = decls(open(p).read()), decls(open(q).read())
+                if len(before) != len(after):
+                    print('COUNT', rel, len(before), len(after))
+                    bad += 1
+                    continue
+                for a, b in zip(before, after):
+                    compare(a, b, rel)
+                continue
+            after = dict(clauses(open(q).read()))
+            for name, old in clauses(open(p).read()):
+                new = after.get(name)
+                if new is None or [c[0] for c in old] != [c[0] for c in new]:
+                    print('CLAUSES', rel, name, [c[0] for c in old], None if new is None else [c[0] for c in new])
+                    bad += 1
+                    continue
+                for x, y in zip(old, new):
+                    text, ren = x[2].strip(), {}
+                    m = re.match(r'λ (\w+)\. ', text)
+                    if m and x[0] == 'ensures':
+                        ren, text = {m.group(1): 'result'}, text[m.end():].strip()
+                    text = re.sub(r'^⌜(.*)⌝$', r'\1', text.strip(), flags=re.S)
+                    compare(text, y[2], rel + ':' + name + ':' + x[0], ren)
+    print('compared', n, 'declarations and clauses,', bad, 'differ;', lemmas, 'statements of lemmas')
+    print('names that are no mere respelling:', sorted({(a, b) for a, bs in pairs.items() for b in bs if plain(a) != plain(b)}))
+
+
+compare_tree()
+sys.exit(1 if bad else 0)
