@@ -6,6 +6,7 @@ use Prim.Native.Nat.{ℕ, ◌*◌, zero, suc, ◌+◌, ◌-◌, ◌<◌, ◌≤�
 use native.Mathlib.Numerals.{add-one}
 use native.Mathlib.Omega.{arith}
 use lib.ListN.{length}
+use Rattle.std.specs.Prelude.{Some, None}
 use Rattle.segm.specs.Segments.{Drawing}
 use Rattle.graph.specs.Nodes.{Nodes}
 use Rattle.balance.specs.Balance.{NodesByPoint, first_place}
@@ -15,19 +16,19 @@ nodes_by_point are each = record { each_end = each; few = are.few; same = are.sa
 
 module _ (test : ℕ → Bool) where
   -- one place of the search
-  step : (n i : ℕ) → i < n → first_place test (n - i) i ≡ cond (test i) i (first_place test (n - (i + 1)) (i + 1))
+  step : (n i : ℕ) → i < n → first_place test (n - i) i ≡ cond (test i) (Some i) (first_place test (n - (i + 1)) (i + 1))
   unfolding first_place
   step n i h = let e : n - i ≡ suc (n - suc i) = omega arith in rw (add-one, e)
 
-  pub place_passed : (n i : ℕ) → i < n → test i ≡ true → first_place test (n - i) i ≡ i
+  pub place_passed : (n i : ℕ) → i < n → test i ≡ true → first_place test (n - i) i ≡ Some i
   place_passed n i h e = step n i h ∙ simp e
 
   pub place_failed : (n i : ℕ) → i < n → test i ≡ false → first_place test (n - i) i ≡ first_place test (n - (i + 1)) (i + 1)
   place_failed n i h e = step n i h ∙ simp e
 
-  pub place_end : (n i : ℕ) → i ≤ n → n ≤ i → first_place test (n - i) i ≡ n
+  pub place_end : (n i : ℕ) → n ≤ i → first_place test (n - i) i ≡ None
   unfolding first_place
-  place_end n i h k = let e : n - i ≡ 0 = omega arith in rw e (omega arith)
+  place_end n i k = let e : n - i ≡ 0 = omega arith in rw e
 
 -- two tests that say the same of every place looked at
 pub same_first : (f g : ℕ → Bool) (left i : ℕ) → ((k : ℕ) → k < i + left → f k ≡ g k) → first_place f left i ≡ first_place g left i

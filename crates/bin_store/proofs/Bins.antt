@@ -2,3 +2,4 @@
 pub mod Items
 pub mod Links
 pub mod Stored
+pub mod Sighted

@@ -1,11 +1,10 @@
 -- The memory of first sightings as the code has it: items in order of storing, each linked to the one stored before it in its bin.
-use Rattle.std.specs.Prelude.{◌≡◌, List, map, true, false, ℕ, suc, ◌+◌, ◌*◌, ◌%◌, ◌<◌, ◌≤◌, length, get_or, take, ℤ, pos, nat_abs, ◌+ℤ◌, ◌*ℤ◌}
+use Rattle.std.specs.Prelude.{◌≡◌, List, map, true, false, ℕ, suc, ◌*◌, ◌%◌, ◌<◌, ◌≤◌, length, get_or, ℤ, pos, nat_abs, ◌+ℤ◌, ◌*ℤ◌, Option, Some, None}
 use Rattle.geom.specs.declared.Point.{Point}
 use Rattle.geom.specs.Points.{eq_p}
 use Rattle.lists.specs.UpFrom.{up_from}
 use Rattle.contour.specs.Points.{pair_up, origin}
-use Rattle.bin_store.specs.declared.store.BinStore.{BinStore}
-use Rattle.bin_store.specs.Sightings.{Sighting, sighting, number_of, sight}
+use Rattle.bin_store.specs.Sightings.{Sighting, sighting}
 
 -- `bin_index` of p, of this many bins. The last number keeps the sum from being negative for every point in range
 unfoldable pub bin_index : ℕ → Point → ℕ
@@ -43,11 +42,10 @@ pub record Binned (count : ℕ) (heads nexts : List ℕ) (seen : List ℤ) (numb
   pub seen_fit : 2 * count ≤ length seen
   pub numbers_fit : count ≤ length numbers
 
--- what a look-up of p finds: the item that holds p, or 0
-pub record LookedUp (count : ℕ) (seen : List ℤ) (p : Point) (r : ℕ) : Type 0 where
-  pub among_items : r ≤ count
-  pub none : r ≡ 0 → Unseen count seen p
-  pub holds : (j : ℕ) → r ≡ suc j → eq_p (point_of seen j) p ≡ true
+-- what a look-up of p finds: the item that holds p, if any does
+abbrev pub LookedUp : ℕ → List ℤ → Point → Option ℕ → Type 0
+LookedUp count seen p None = Unseen count seen p
+LookedUp count seen p (Some i) = (i < count) × (eq_p (point_of seen i) p ≡ true)
 
 -- room for one item more
 pub record RoomForItem (count : ℕ) (nexts : List ℕ) (seen : List ℤ) (numbers : List ℕ) : Type 0 where
@@ -55,16 +53,3 @@ pub record RoomForItem (count : ℕ) (nexts : List ℕ) (seen : List ℤ) (numbe
   pub nexts_fit : count < length nexts
   pub seen_fit : 2 * suc count ≤ length seen
   pub numbers_fit : count < length numbers
-
--- the memory and its lists: the bins in use are the first
-pub record BinsInUse (s : BinStore) (heads nexts : List ℕ) (seen : List ℤ) (numbers : List ℕ) : Type 0 where
-  pub bins_fit : s.bins ≤ length heads
-  pub binned : Binned s.count (take s.bins heads) nexts seen numbers
-
--- what a sighting of p leaves of a memory s that held m, and the number r that it tells
-pub record Sights (m : List Sighting) (p : Point) (number : ℕ) (s s' : BinStore) (heads nexts : List ℕ) (seen : List ℤ) (numbers : List ℕ) (r : ℕ) : Type 0 where
-  pub holds : memory s'.count seen numbers ≡ sight m p number
-  pub tells : r ≡ number_of (memory s'.count seen numbers) p
-  pub same_bins : s'.bins ≡ s.bins
-  pub one_more : s'.count ≤ s.count + 1
-  pub bins_in_use : BinsInUse s' heads nexts seen numbers

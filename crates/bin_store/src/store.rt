@@ -1,106 +1,109 @@
-// The memory beside its lists: by value, lent by `&mut`, and by plain parameters.
-ghost use Rattle.std.specs.Prelude.{◌≡◌, true, ◌+◌, ◌≤◌};
+// The memory over lent lists: made empty, and a point looked up or stored, by value and by `&mut`.
+ghost use Rattle.std.specs.Prelude.{◌≡◌, true, ◌<◌, length};
 ghost use Rattle.geom.specs.Points.{in_range};
-ghost use Rattle.bin_store.specs.Sightings.{number_of, sight};
-ghost use Rattle.bin_store.specs.Bins.{memory, Binned, RoomForItem, BinsInUse, Sights};
+ghost use Rattle.bin_store.specs.Bins.{bin_index, LookedUp};
+ghost use Rattle.bin_store.specs.Stores.{IsBinned, HasRoom, IsUnseen, Same, Stores, Sights};
 
-use super::memory::find;
 use geom::Point;
+use std::mem;
 
-// How many bins are in use and how many items are stored; the items stand in the lists beside it.
-#[derive(Clone, Copy)]
-pub struct BinStore {
-    pub bins: usize,
+// A map from points to numbers: for each bin the item stored last, and for each item the one stored before it in its bin, its point and its number.
+// In the first two lists an item is named by one more than its place, and 0 is none: so 16 bits do, and empty bins are zeros.
+#[derive(Default, Drop)]
+pub struct BinStore<'a> {
+    pub heads: &'a mut [u16],
+    pub nexts: &'a mut [u16],
+    pub seen: &'a mut [i32],
+    pub numbers: &'a mut [u16],
     pub count: usize,
 }
 
-// The memory after a look-up, and the number stored for the point.
-#[derive(Clone, Copy)]
-pub struct Inserted {
-    pub store: BinStore,
-    pub number: u16,
-}
-
-// How many items there are after a look-up, and the number stored for the point.
-#[derive(Clone, Copy)]
-pub struct Seen {
-    pub count: usize,
-    pub number: u16,
-}
-
-// The number stored for p, which is this one if p was not sighted before.
-pub fn insert(
-    store: BinStore,
-    heads: &mut [u16],
-    nexts: &mut [u16],
-    seen: &mut [i32],
-    numbers: &mut [u16],
-    p: Point,
-    number: u16,
-) -> Inserted
-    requires { BinsInUse store heads.old nexts.old seen.old numbers.old × RoomForItem store.count nexts.old seen.old numbers.old × (in_range p ≡ true) }
-    ensures { Sights (memory store.count seen.old numbers.old) p number store result.store heads.new nexts.new seen.new numbers.new result.number }
+// The bin of p, as the Rust has it but for the number of bins.
+fn bin_index(bins: usize, p: Point) -> usize
+    requires { (0 < bins) × (in_range p ≡ true) }
+    ensures { result ≡ bin_index bins p }
 {
-    let bins = store.bins;
-    let count = store.count;
-    let j = find(&heads[..bins], nexts, seen, count, p);
-    if 0 < j {
-        return Inserted {
-            store: store,
-            number: numbers[j - 1],
-        };
+    let hash = 31 * p.x as i64 + 17 * p.y as i64 + 805306368;
+    hash as usize % bins
+}
+
+impl<'a> BinStore<'a> {
+    // An empty memory in these lists, with as many bins as there are heads.
+    pub fn new(
+        heads: &'a mut [u16],
+        nexts: &'a mut [u16],
+        seen: &'a mut [i32],
+        numbers: &'a mut [u16],
+    ) -> BinStore<'a>
+        requires { 0 < length heads.old }
+        ensures binned { IsBinned result }
+        ensures empty { result.count ≡ 0 }
+        ensures same_lists { Same heads.entry result.heads × Same nexts.entry result.nexts × Same seen.entry result.seen × Same numbers.entry result.numbers }
+    {
+        heads.fill(0);
+        BinStore {
+            heads,
+            nexts,
+            seen,
+            numbers,
+            count: 0,
+        }
     }
-    super::memory::store(&mut heads[..bins], nexts, seen, numbers, count, p, number);
-    Inserted {
-        store: BinStore {
-            bins: bins,
-            count: count + 1,
-        },
-        number: number,
+
+    // The item that holds p.
+    #[tactic(auto, using(crate::proofs::Bins::Links::bin_below))]
+    fn find(&self, p: Point) -> Option<usize>
+        requires { IsBinned self.now × (in_range p ≡ true) }
+        ensures { LookedUp self.now.count self.now.seen.now p result }
+    {
+        let b = bin_index(self.heads.len(), p);
+        let mut j = self.heads[b] as usize;
+        while 0 < j {
+            let i = j - 1;
+            if geom::same(contour::point_at(self.seen, i), p) {
+                return Some(i);
+            }
+            j = self.nexts[i] as usize;
+        }
+        None
     }
-}
 
-// The same, the memory lent.
-pub fn insert_if_not_exist(
-    store: &mut BinStore,
-    heads: &mut [u16],
-    nexts: &mut [u16],
-    seen: &mut [i32],
-    numbers: &mut [u16],
-    p: Point,
-    number: u16,
-) -> u16
-    requires { BinsInUse store.old heads.old nexts.old seen.old numbers.old × RoomForItem store.old.count nexts.old seen.old numbers.old × (in_range p ≡ true) }
-    ensures { Sights (memory store.old.count seen.old numbers.old) p number store.old store.new heads.new nexts.new seen.new numbers.new result }
-{
-    let r = insert(*store, heads, nexts, seen, numbers, p, number);
-    *store = r.store;
-    r.number
-}
+    // Stores p and its number as the next item.
+    #[tactic(auto, using(crate::proofs::Bins::Links::bin_below))]
+    fn store(&mut self, p: Point, number: u16)
+        requires { IsBinned self.old × HasRoom self.old × (in_range p ≡ true) × IsUnseen self.old p }
+        ensures { Stores self.old p number self.new }
+    {
+        let b = bin_index(self.heads.len(), p);
+        let i = self.count;
+        self.nexts[i] = self.heads[b];
+        self.heads[b] = (i + 1) as u16;
+        contour::put_point(self.seen, i, p);
+        self.numbers[i] = number;
+        self.count = i + 1;
+    }
 
-// The same by plain parameters, with as many bins as there are heads: its callers need no memory of their own.
-pub fn sight_point(
-    count: usize,
-    heads: &mut [u16],
-    nexts: &mut [u16],
-    seen: &mut [i32],
-    numbers: &mut [u16],
-    p: Point,
-    number: u16,
-) -> Seen
-    requires { Binned count heads.old nexts.old seen.old numbers.old × RoomForItem count nexts.old seen.old numbers.old × (in_range p ≡ true) }
-    ensures { (memory result.count seen.new numbers.new ≡ sight (memory count seen.old numbers.old) p number)
-        × (result.number ≡ number_of (memory result.count seen.new numbers.new) p)
-        × (result.count ≤ count + 1)
-        × Binned result.count heads.new nexts.new seen.new numbers.new }
-{
-    let mut store = BinStore {
-        bins: heads.len(),
-        count: count,
-    };
-    let told = insert_if_not_exist(&mut store, heads, nexts, seen, numbers, p, number);
-    Seen {
-        count: store.count,
-        number: told,
+    // The memory after a look-up of p, and the number stored for p, which is this one if p was not sighted before.
+    pub fn insert(mut self, p: Point, number: u16) -> (BinStore<'a>, u16)
+        requires { IsBinned self × HasRoom self × (in_range p ≡ true) }
+        ensures { Sights self.entry p number result.0 result.1 }
+    {
+        let found = self.find(p);
+        if let Some(i) = found {
+            let told = self.numbers[i];
+            return (self, told);
+        }
+        self.store(p, number);
+        (self, number)
+    }
+
+    // The same, the memory lent.
+    pub fn insert_if_not_exist(&mut self, p: Point, number: u16) -> u16
+        requires { IsBinned self.old × HasRoom self.old × (in_range p ≡ true) }
+        ensures { Sights self.old p number self.new result }
+    {
+        let (after, told) = mem::take(self).insert(p, number);
+        *self = after;
+        told
     }
 }

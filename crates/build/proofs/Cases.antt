@@ -14,11 +14,12 @@ use Rattle.balance.specs.Balance.{balance, balances}
 use Rattle.faults.specs.Faults.{ends_in_range, rises, winding_in_range, bits_in_range, lot_in_range, fault, fault_at, faults_of}
 use Rattle.drawing_check.specs.Drawing.{meeting_at, unbalanced_at, meetings_of, unbalanced_of, drawing_verdict}
 use Rattle.refusal.specs.Asked.{wrong_length, unknown_choice, too_short, asked_first}
-use Rattle.refusal.specs.Order.{first_from, first}
+use Rattle.refusal.specs.Order.{refusal, first_from, first}
 use Rattle.checks.specs.Runs.{asked, verdict, fills_run}
 use Rattle.segm.specs.CaseA.{segment, A}
 use Rattle.fill_rule.specs.declared.Rule.TheVariants.{EvenOdd}
-use Rattle.build.specs.declared.run.Filled.TheVariants.{Refused}
+use Rattle.std.specs.Prelude.{Err}
+use Rattle.refusal.specs.declared.Kind.TheVariants.{UnknownChoice, TooShort}
 use Rattle.fill_rule.specs.FillRule.{filled, rule_of, fill_of}
 use Rattle.strip.specs.Strip.{spans, above, clockwise}
 use Rattle.ray.specs.Ray.{met, bottom, top, fill, fills}
@@ -50,8 +51,8 @@ noise = 21 ∷ 22 ∷ 23 ∷ 24 ∷ 25 ∷ 26 ∷ 27 ∷ 28 ∷ 29 ∷ 30 ∷ 31
 
 pub record Cases : Type 0 where
   -- refused: nothing is written
-  pub unknown_rule : fills_outcome A (pos 4) noise ≡ outcome (Refused 10 0) noise
-  pub one_short : fills_outcome A (pos 1) (1 ∷ 2 ∷ 3 ∷ 4 ∷ 5 ∷ 6 ∷ 7 ∷ 8 ∷ []) ≡ outcome (Refused 11 0) (1 ∷ 2 ∷ 3 ∷ 4 ∷ 5 ∷ 6 ∷ 7 ∷ 8 ∷ [])
+  pub unknown_rule : fills_outcome A (pos 4) noise ≡ outcome (Err (refusal UnknownChoice 0)) noise
+  pub one_short : fills_outcome A (pos 1) (1 ∷ 2 ∷ 3 ∷ 4 ∷ 5 ∷ 6 ∷ 7 ∷ 8 ∷ []) ≡ outcome (Err (refusal TooShort 0)) (1 ∷ 2 ∷ 3 ∷ 4 ∷ 5 ∷ 6 ∷ 7 ∷ 8 ∷ [])
   -- counts 2 in the square, -1 in its hole, 1 in the small one: no two rules fill the same
   pub three_counts : bottoms three ≡ pos 2 ∷ pos 0 ∷ pos 2 ∷ negsuc 0 ∷ pos 2 ∷ negsuc 0 ∷ pos 2 ∷ pos 0 ∷ pos 1 ∷ pos 0 ∷ pos 1 ∷ pos 0 ∷ []
   pub by_even_odd : fills (rule_of (pos 0)) (segments three) ≡ 0 ∷ 0 ∷ 0 ∷ 2 ∷ 9 ∷ 2 ∷ 1 ∷ 0 ∷ 2 ∷ 1 ∷ 14 ∷ 1 ∷ []

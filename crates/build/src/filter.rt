@@ -66,10 +66,7 @@ pub fn masked_bits(s: &[i32], rule: Rule, filter: Filter, tops: &[i32], bits: &m
         × (length bits.old ≡ length (segments s.now)) }
     ensures { bits.new ≡ masked_bits rule filter (segments s.now) }
 {
-    let n = segm::count(s);
-    let mut i: usize = 0;
-    while i < n {
-        bits[i] = kept_bits(filter, top_fills::fill_at(s, rule, tops, i));
-        i += 1;
+    for (i, bit) in bits.iter_mut().enumerate() {
+        *bit = kept_bits(filter, top_fills::fill_at(s, rule, tops, i));
     }
 }

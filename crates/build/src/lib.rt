@@ -5,4 +5,4 @@ mod filter;
 mod run;
 
 pub use filter::{Filter, filter_of, keeps_sides, masked_bits};
-pub use run::{Filled, fills};
+pub use run::fills;

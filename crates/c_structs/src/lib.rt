@@ -4,11 +4,10 @@
 ghost use Rattle.std.specs.Prelude.{◌≡◌};
 ghost use Rattle.c_structs.specs.Structs.{fills_of, clip_of, slice_of, split_of, read_of, write_of};
 
-use build::Filled;
-use stored_text::Wrote;
-use string_clip::Clipped;
-use string_slice::Sliced;
-use string_split::Loops;
+use clip_paths::Totals;
+use refusal::Refusal;
+use split_loops::LoopTotals;
+use string_slice::Contours;
 use text::Reading;
 
 // A refusal's number and place, or 0 and 0 and how many fills were written.
@@ -21,20 +20,22 @@ pub struct Fills {
 }
 
 // The answer of a fills run.
-pub fn fills_of(answer: Filled) -> Fills
-    ensures { result ≡ fills_of answer }
-{
-    match answer {
-        Filled::Done(written) => Fills {
-            number: 0,
-            place: 0,
-            count: written as u64,
-        },
-        Filled::Refused(number, place) => Fills {
-            number: number as u64,
-            place: place as u64,
-            count: 0,
-        },
+impl From<Result<usize, Refusal>> for Fills {
+    ghost from_gives = { λ answer told. told ≡ fills_of answer };
+
+    fn from(answer: Result<usize, Refusal>) -> Fills {
+        match answer {
+            Ok(written) => Fills {
+                number: 0,
+                place: 0,
+                count: written as u64,
+            },
+            Err(refusal) => Fills {
+                number: refusal.kind.number() as u64,
+                place: refusal.place as u64,
+                count: 0,
+            },
+        }
     }
 }
 
@@ -51,26 +52,28 @@ pub struct Clip {
 }
 
 // The answer of a clip run.
-pub fn clip_of(answer: Clipped) -> Clip
-    ensures { result ≡ clip_of answer }
-{
-    match answer {
-        Clipped::Done(found) => Clip {
-            number: 0,
-            place: 0,
-            paths: found.paths as u64,
-            points: found.points as u64,
-            steps: found.steps as u64,
-            travel: found.travel,
-        },
-        Clipped::Refused(number, place) => Clip {
-            number: number as u64,
-            place: place as u64,
-            paths: 0,
-            points: 0,
-            steps: 0,
-            travel: 0,
-        },
+impl From<Result<Totals, Refusal>> for Clip {
+    ghost from_gives = { λ answer told. told ≡ clip_of answer };
+
+    fn from(answer: Result<Totals, Refusal>) -> Clip {
+        match answer {
+            Ok(found) => Clip {
+                number: 0,
+                place: 0,
+                paths: found.paths as u64,
+                points: found.points as u64,
+                steps: found.steps as u64,
+                travel: found.travel,
+            },
+            Err(refusal) => Clip {
+                number: refusal.kind.number() as u64,
+                place: refusal.place as u64,
+                paths: 0,
+                points: 0,
+                steps: 0,
+                travel: 0,
+            },
+        }
     }
 }
 
@@ -85,22 +88,24 @@ pub struct Slice {
 }
 
 // The answer of a slice run.
-pub fn slice_of(answer: Sliced) -> Slice
-    ensures { result ≡ slice_of answer }
-{
-    match answer {
-        Sliced::Done(found) => Slice {
-            number: 0,
-            place: 0,
-            contours: found.contours as u64,
-            points: found.points as u64,
-        },
-        Sliced::Refused(number, place) => Slice {
-            number: number as u64,
-            place: place as u64,
-            contours: 0,
-            points: 0,
-        },
+impl From<Result<Contours, Refusal>> for Slice {
+    ghost from_gives = { λ answer told. told ≡ slice_of answer };
+
+    fn from(answer: Result<Contours, Refusal>) -> Slice {
+        match answer {
+            Ok(found) => Slice {
+                number: 0,
+                place: 0,
+                contours: found.contours as u64,
+                points: found.points as u64,
+            },
+            Err(refusal) => Slice {
+                number: refusal.kind.number() as u64,
+                place: refusal.place as u64,
+                contours: 0,
+                points: 0,
+            },
+        }
     }
 }
 
@@ -115,22 +120,24 @@ pub struct Split {
 }
 
 // The answer of a split run.
-pub fn split_of(answer: Loops) -> Split
-    ensures { result ≡ split_of answer }
-{
-    match answer {
-        Loops::Done(found) => Split {
-            number: 0,
-            place: 0,
-            loops: found.loops as u64,
-            points: found.points as u64,
-        },
-        Loops::Refused(number, place) => Split {
-            number: number as u64,
-            place: place as u64,
-            loops: 0,
-            points: 0,
-        },
+impl From<Result<LoopTotals, Refusal>> for Split {
+    ghost from_gives = { λ answer told. told ≡ split_of answer };
+
+    fn from(answer: Result<LoopTotals, Refusal>) -> Split {
+        match answer {
+            Ok(found) => Split {
+                number: 0,
+                place: 0,
+                loops: found.loops as u64,
+                points: found.points as u64,
+            },
+            Err(refusal) => Split {
+                number: refusal.kind.number() as u64,
+                place: refusal.place as u64,
+                loops: 0,
+                points: 0,
+            },
+        }
     }
 }
 
@@ -147,26 +154,28 @@ pub struct Read {
 }
 
 // The answer of the reading of a text.
-pub fn read_of(answer: Reading) -> Read
-    ensures { result ≡ read_of answer }
-{
-    match answer {
-        Reading::Read(choices, count) => Read {
-            number: 0,
-            place: 0,
-            count: count as u64,
-            rule: choices.rule,
-            invert: choices.invert,
-            boundary: choices.boundary,
-        },
-        Reading::Refused(number, place) => Read {
-            number: number as u64,
-            place: place as u64,
-            count: 0,
-            rule: 0,
-            invert: 0,
-            boundary: 0,
-        },
+impl From<Result<Reading, Refusal>> for Read {
+    ghost from_gives = { λ answer told. told ≡ read_of answer };
+
+    fn from(answer: Result<Reading, Refusal>) -> Read {
+        match answer {
+            Ok(read) => Read {
+                number: 0,
+                place: 0,
+                count: read.count as u64,
+                rule: read.choices.rule,
+                invert: read.choices.invert,
+                boundary: read.choices.boundary,
+            },
+            Err(refusal) => Read {
+                number: refusal.kind.number() as u64,
+                place: refusal.place as u64,
+                count: 0,
+                rule: 0,
+                invert: 0,
+                boundary: 0,
+            },
+        }
     }
 }
 
@@ -180,19 +189,21 @@ pub struct Write {
 }
 
 // The answer of the writer or the mover of texts.
-pub fn write_of(answer: Wrote) -> Write
-    ensures { result ≡ write_of answer }
-{
-    match answer {
-        Wrote::Done(written) => Write {
-            number: 0,
-            place: 0,
-            count: written as u64,
-        },
-        Wrote::Refused(number, place) => Write {
-            number: number as u64,
-            place: place as u64,
-            count: 0,
-        },
+impl From<Result<usize, Refusal>> for Write {
+    ghost from_gives = { λ answer told. told ≡ write_of answer };
+
+    fn from(answer: Result<usize, Refusal>) -> Write {
+        match answer {
+            Ok(written) => Write {
+                number: 0,
+                place: 0,
+                count: written as u64,
+            },
+            Err(refusal) => Write {
+                number: refusal.kind.number() as u64,
+                place: refusal.place as u64,
+                count: 0,
+            },
+        }
     }
 }

@@ -15,7 +15,7 @@ use Rattle.lists.proofs.Members.{pairs_map, pairs_places, in_after}
 use Rattle.geom.specs.declared.Point.{Point}
 use Rattle.geom.specs.Points.{eq_p}
 use Rattle.geom.proofs.Points.{eq_z-true, eq_p-true}
-use Rattle.refusal.specs.declared.Verdict.TheVariants.{Accepted}
+use Rattle.refusal.specs.Order.{accepted}
 use Rattle.refusal.specs.Asked.{Choice, unknown_choice, Lent, too_short}
 use Rattle.refusal.proofs.Order.{accepted_then, is_accepted_lem}
 use Rattle.segm.specs.declared.Segment.{Segment}
@@ -66,7 +66,7 @@ balanced_all d ends p = go (end d p)
     go (free h) = balance_free d p h
 
 -- ---- the law
-pub drawing_good : (d : Drawing) → length d ≤ 1024 → drawing_verdict d ≡ Accepted → Good d
+pub drawing_good : (d : Drawing) → length d ≤ 1024 → drawing_verdict d ≡ accepted → Good d
 unfolding segment_at
 drawing_good d few e =
     let c = drawing_passed d e in
@@ -76,13 +76,13 @@ drawing_good d few e =
       balanced = balanced_all d (everywhere d (λ s. (balances d s.a ≡ true) × (balances d s.b ≡ true)) (balanced_at d c.balanced));
     }
 
-pub verdict_good : (r : Run) → verdict r ≡ Accepted → Good (segments r.numbers)
+pub verdict_good : (r : Run) → verdict r ≡ accepted → Good (segments r.numbers)
 unfolding verdict
 verdict_good r e = let both = accepted_then (asked r) _ e in drawing_good (segments r.numbers) (asked_few r both.0) both.1
 
 -- an accepted drawing: what a run was lent does not count
 module _ (numbers : List ℤ) (rule invert boundary : ℤ) (e : accepts numbers rule invert boundary ≡ true) where
-  pub accepted_input : verdict (clip_input numbers rule invert boundary) ≡ Accepted
+  pub accepted_input : verdict (clip_input numbers rule invert boundary) ≡ accepted
   unfolding accepts
   accepted_input = is_accepted_lem _ e
 
@@ -90,7 +90,7 @@ module _ (numbers : List ℤ) (rule invert boundary : ℤ) (e : accepts numbers 
   accepted_good = verdict_good _ accepted_input
 
   -- any run on it is accepted, if its choices are known and its lists long enough
-  pub accepted_run : (choices : List Choice) (lists : List Lent) → any unknown_choice choices ≡ false → any (too_short (count numbers)) lists ≡ false → verdict (record { numbers = numbers; choices = choices; lists = lists }) ≡ Accepted
+  pub accepted_run : (choices : List Choice) (lists : List Lent) → any unknown_choice choices ≡ false → any (too_short (count numbers)) lists ≡ false → verdict (record { numbers = numbers; choices = choices; lists = lists }) ≡ accepted
   accepted_run choices lists known long =
       let p = passed _ accepted_input in
       passes _ (record { asks = record { right_length = p.asks.right_length; known = known; long = long }; drawing = p.drawing })

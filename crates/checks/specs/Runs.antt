@@ -1,7 +1,7 @@
 -- The runs on a drawing: which choices each has, what its lent lists must hold, and the verdict on it.
 use Rattle.std.specs.Prelude.{List, [], ◌∷◌, ℕ, length, ℤ, pos}
 use Rattle.lists.specs.Members.{any}
-use Rattle.refusal.specs.declared.Verdict.{Verdict}
+use Rattle.refusal.specs.Order.{Verdict}
 use Rattle.refusal.specs.Order.{◌then◌}
 use Rattle.refusal.specs.Asked.{wrong_length, Choice, up_to, unknown_choice, Lent, lent, too_short, asked_first}
 use Rattle.segm.specs.Segments.{width, count, segments}

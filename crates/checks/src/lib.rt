@@ -2,15 +2,14 @@
 #![tactic(auto)]
 
 ghost use Rattle.std.specs.Prelude.{◌≡◌, ◌≤◌, length};
-ghost use Rattle.refusal.specs.declared.Verdict.TheVariants.{Accepted};
-ghost use Rattle.refusal.specs.Order.{◌then◌};
 ghost use Rattle.lists.specs.Members.{any};
 ghost use Rattle.refusal.specs.Asked.{wrong_length, unknown_choice};
 ghost use Rattle.segm.specs.Segments.{width, segments};
 ghost use Rattle.drawing_check.specs.Drawing.{drawing_verdict};
+ghost use Rattle.drawing_check.specs.Memory.{RightSizes};
 ghost use Rattle.checks.specs.Runs.{clip_choices, fills_run, clip_run, clip_input, slice_run, asked, verdict};
 
-use refusal::Verdict;
+use refusal::Refusal;
 
 // Whether numbers are no whole segments, or too many.
 fn is_wrong(numbers: usize) -> bool
@@ -28,7 +27,7 @@ fn is_unknown_clip(rule: i32, invert: i32, boundary: i32) -> bool
 }
 
 // What a fills run asks first.
-pub fn ask_fills(numbers: &[i32], rule: i32, fills: usize) -> Verdict
+pub fn ask_fills(numbers: &[i32], rule: i32, fills: usize) -> Result<(), Refusal>
     ensures { result ≡ asked (fills_run numbers.now rule fills) }
 {
     let n = segm::count(numbers);
@@ -47,7 +46,7 @@ pub fn ask_clip(
     boundary: i32,
     points: usize,
     lengths: usize,
-) -> Verdict
+) -> Result<(), Refusal>
     ensures { result ≡ asked (clip_run numbers.now rule invert boundary points lengths) }
 {
     let n = segm::count(numbers);
@@ -66,7 +65,7 @@ pub fn ask_slice(
     points: usize,
     lengths: usize,
     roles: usize,
-) -> Verdict
+) -> Result<(), Refusal>
     ensures { result ≡ asked (slice_run numbers.now rule direction points lengths roles) }
 {
     let n = segm::count(numbers);
@@ -78,44 +77,37 @@ pub fn ask_slice(
     )
 }
 
-// The verdict on a drawing, unless something was refused before, with memory of its own.
-fn check_alone(before: Verdict, numbers: &[i32]) -> Verdict
-    requires { before ≡ Accepted → length (segments numbers.now) ≤ 1024 }
-    ensures { result ≡ (before then drawing_verdict (segments numbers.now)) }
+// The verdict on a drawing of up to so many segments, with memory of its own.
+fn check_in<const SEGMENTS: usize, const ENDS: usize, const STARTS: usize>(
+    numbers: &[i32],
+) -> Result<(), Refusal>
+    requires { RightSizes SEGMENTS ENDS STARTS × (length (segments numbers.now) ≤ SEGMENTS) }
+    ensures { result ≡ drawing_verdict (segments numbers.now) }
+{
+    let mut flat = [0u16; ENDS];
+    let mut starts = [0u16; STARTS];
+    let mut nodes = [0u16; ENDS];
+    let mut tops = [0i32; SEGMENTS];
+    drawing_check::check::<SEGMENTS, ENDS>(numbers, &mut flat, &mut starts, &mut nodes, &mut tops)
+}
+
+// The verdict on a drawing, with memory by its size.
+fn check_alone(numbers: &[i32]) -> Result<(), Refusal>
+    requires { length (segments numbers.now) ≤ 1024 }
+    ensures { result ≡ drawing_verdict (segments numbers.now) }
 {
     if segm::count(numbers) <= segm::SMALL {
-        let mut flat = [0u16; ends::SMALL];
-        let mut starts = [0u16; graph::SMALL_STARTS];
-        let mut nodes = [0u16; ends::SMALL];
-        let mut tops = [0i32; segm::SMALL];
-        return drawing_check::check_small(
-            before,
-            numbers,
-            &mut flat,
-            &mut starts,
-            &mut nodes,
-            &mut tops,
-        );
+        return check_in::<{ segm::SMALL }, { ends::SMALL }, { graph::SMALL_STARTS }>(numbers);
     }
-    let mut flat = [0u16; ends::MOST];
-    let mut starts = [0u16; graph::STARTS];
-    let mut nodes = [0u16; ends::MOST];
-    let mut tops = [0i32; segm::MOST];
-    drawing_check::check_any(
-        before,
-        numbers,
-        &mut flat,
-        &mut starts,
-        &mut nodes,
-        &mut tops,
-    )
+    check_in::<{ segm::MOST }, { ends::MOST }, { graph::STARTS }>(numbers)
 }
 
 // The verdict on a fills run.
-pub fn check_fills(numbers: &[i32], rule: i32, fills: usize) -> Verdict
+pub fn check_fills(numbers: &[i32], rule: i32, fills: usize) -> Result<(), Refusal>
     ensures { result ≡ verdict (fills_run numbers.now rule fills) }
 {
-    check_alone(ask_fills(numbers, rule, fills), numbers)
+    ask_fills(numbers, rule, fills)?;
+    check_alone(numbers)
 }
 
 // The verdict on a clip run.
@@ -126,13 +118,11 @@ pub fn check_clip(
     boundary: i32,
     points: usize,
     lengths: usize,
-) -> Verdict
+) -> Result<(), Refusal>
     ensures { result ≡ verdict (clip_run numbers.now rule invert boundary points lengths) }
 {
-    check_alone(
-        ask_clip(numbers, rule, invert, boundary, points, lengths),
-        numbers,
-    )
+    ask_clip(numbers, rule, invert, boundary, points, lengths)?;
+    check_alone(numbers)
 }
 
 // The verdict on a slice run.
@@ -143,23 +133,28 @@ pub fn check_slice(
     points: usize,
     lengths: usize,
     roles: usize,
-) -> Verdict
+) -> Result<(), Refusal>
     ensures { result ≡ verdict (slice_run numbers.now rule direction points lengths roles) }
 {
-    check_alone(
-        ask_slice(numbers, rule, direction, points, lengths, roles),
-        numbers,
-    )
+    ask_slice(numbers, rule, direction, points, lengths, roles)?;
+    check_alone(numbers)
 }
 
-// The verdict on what a clip run is given, before it is lent anything.
-pub fn check_input(numbers: &[i32], rule: i32, invert: i32, boundary: i32) -> Verdict
-    ensures { result ≡ verdict (clip_input numbers.now rule invert boundary) }
+// What is asked first of what a clip run is given, before it is lent anything.
+fn ask_input(numbers: &[i32], rule: i32, invert: i32, boundary: i32) -> Result<(), Refusal>
+    ensures { result ≡ asked (clip_input numbers.now rule invert boundary) }
 {
-    let before = refusal::asked_first(
+    refusal::asked_first(
         is_wrong(numbers.len()),
         is_unknown_clip(rule, invert, boundary),
         false,
-    );
-    check_alone(before, numbers)
+    )
+}
+
+// The verdict on that.
+pub fn check_input(numbers: &[i32], rule: i32, invert: i32, boundary: i32) -> Result<(), Refusal>
+    ensures { result ≡ verdict (clip_input numbers.now rule invert boundary) }
+{
+    ask_input(numbers, rule, invert, boundary)?;
+    check_alone(numbers)
 }

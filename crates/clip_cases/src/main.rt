@@ -12,10 +12,10 @@ const PATH_MAX: usize = 4096;
 
 // Says on standard error what could not be opened, and why.
 fn fail<E: Write>(path: &[u8], why: &str, errors: &mut E) {
-    errors.write_all(path).is_ok();
-    errors.write_all(b": ").is_ok();
-    errors.write_all(why.as_bytes()).is_ok();
-    errors.write_all(b"\n").is_ok();
+    let _ = errors.write_all(path);
+    let _ = errors.write_all(b": ");
+    let _ = errors.write_all(why.as_bytes());
+    let _ = errors.write_all(b"\n");
 }
 
 // What the system calls an error, without the number that std puts behind it.
@@ -45,10 +45,9 @@ fn run_one<F: Files, W: Write, E: Write>(
         return;
     };
     match File::open(files, name) {
-        Ok(file) => {
-            let mut input = file;
-            output.write_all(path).is_ok();
-            output.write_all(b":\n").is_ok();
+        Ok(mut input) => {
+            let _ = output.write_all(path);
+            let _ = output.write_all(b":\n");
             clip_text::run(&mut input, output, errors);
         }
         Err(error) => fail_by(alloc, path, error, errors),

@@ -1,6 +1,6 @@
 -- What the code asks of its links, and what it writes: the points of moves named by ends, one path, all paths, and their travel.
 use Rattle.std.specs.Prelude.{◌≡◌, Bool, true, ℕ, ◌+◌, ◌*◌, length, get_or}
-use mathlib.Core.List.{List, [], ◌∷◌, map, flatten}
+use mathlib.Core.List.{List, [], ◌∷◌, map}
 use Rattle.geom.specs.declared.Point.{Point}
 use Rattle.geom.specs.Points.{travel}
 use Rattle.segm.specs.Segments.{Drawing}
@@ -9,8 +9,8 @@ use Rattle.graph.specs.Nodes.{other_end, Nodes}
 use Rattle.checks.specs.Accepted.{Good}
 use Rattle.moves.specs.Bits.{has, bits_set}
 use Rattle.moves.specs.Moves.{Move, move, bits_remaining}
+use Rattle.moves.specs.ByEnd.{Graph}
 use Rattle.clip_walk.specs.Walk.{path_from, paths_from}
-use Rattle.clip_paths.specs.declared.links.Written.{Written}
 use Rattle.clip_paths.specs.Paths.{finished, path_points}
 
 -- ---- points
@@ -29,19 +29,15 @@ abbrev pub path_at : Drawing → List ℕ → ℕ → List Move
 path_at links bits k = path_from links bits (move k (has true (get_or bits k 0)))
 
 -- what a clip walk over links needs of its lists. The links are all segments of a drawing, and only their ends count: their line bits are those of the list
-pub record ClipLists (links : Drawing) (flat starts nodes bits : List ℕ) : Type 0 where
+pub record ClipLists (links : Drawing) (g : Graph) (bits : List ℕ) : Type 0 where
   pub good : Good links
-  pub nodes_are : Nodes links flat starts nodes
+  pub nodes_are : Nodes links g.flat g.starts g.nodes
   pub as_many : length bits ≡ length links
 
 -- ---- all paths
 -- those of the line bits of a list
 abbrev pub bits_paths : Drawing → List ℕ → List (List Point)
 bits_paths links bits = map (path_points links) (paths_from (bits_remaining bits) links bits)
-
--- how many paths and points these are
-abbrev pub written_of : List (List Point) → Written
-written_of paths = record { paths = length paths; points = length (flatten paths) }
 
 -- the travel of all steps over links, one for each line bit of the list
 unfoldable pub travel_over : Drawing → List ℕ → ℕ

@@ -8,6 +8,7 @@ ghost use Rattle.clip_paths.specs.Writing.{through_ends, ends_points};
 use geom::Point;
 
 // Point i that the walk comes through whose moves leave these ends.
+#[tactic(auto, using(crate::proofs::Writing::Points::places_through))]
 fn point_through(links: &[i32], moves: &[u16], i: usize) -> Point
     requires { (length (segments links.now) ≤ 1024) × (0 < length moves.now) × (i ≤ length moves.now) }
     ensures { result ≡ get_or (through_ends (segments links.now) moves.now) i origin }
@@ -20,14 +21,13 @@ fn point_through(links: &[i32], moves: &[u16], i: usize) -> Point
 }
 
 // Point q of the path: a backward path is reversed.
+#[tactic(auto, using(crate::proofs::Writing::Points::places))]
 fn path_point(links: &[i32], moves: &[u16], out: bool, q: usize) -> Point
     requires { (length (segments links.now) ≤ 1024) × (0 < length moves.now) × (q ≤ length moves.now) }
     ensures { result ≡ get_or (ends_points (segments links.now) out moves.now) q origin }
 {
-    if out {
-        return point_through(links, moves, q);
-    }
-    point_through(links, moves, moves.len() - q)
+    let i = if out { q } else { moves.len() - q };
+    point_through(links, moves, i)
 }
 
 // Writes the points of the path whose moves leave these ends.
@@ -35,9 +35,7 @@ pub fn write_path(links: &[i32], moves: &[u16], out: bool, points: &mut [i32])
     requires { (length (segments links.now) ≤ 1024) × (0 < length moves.now) × (2 * suc (length moves.now) ≤ length points.old) }
     ensures { points.new ≡ written (coordinates (ends_points (segments links.now) out moves.now)) points.old }
 {
-    let mut q: usize = 0;
-    while q <= moves.len() {
+    for q in 0..=moves.len() {
         contour::put_point(points, q, path_point(links, moves, out, q));
-        q += 1;
     }
 }

@@ -9,8 +9,9 @@ use Rattle.geom.specs.declared.Point.{Point}
 use Rattle.contour.specs.Points.{pair_up, cut}
 use Rattle.contour.proofs.Points.Coordinates.{length_pairs}
 use Rattle.clip_paths.specs.declared.Totals.{Totals}
-use Rattle.string_clip.specs.declared.Clipped.{Clipped}
-use Rattle.string_clip.specs.declared.Clipped.TheVariants.{Done, Refused}
+use Rattle.std.specs.Prelude.{Result, Ok, Err}
+use Rattle.refusal.specs.declared.Refusal.{Refusal}
+use Rattle.refusal.specs.Numbers.{number_of}
 use Rattle.string_clip.specs.Run.{Outcome, output}
 use Rattle.decimal.specs.Decimal.{decimal, signed}
 use Rattle.writing.specs.Lengths.{line_length}
@@ -37,9 +38,9 @@ length-total : (t : Totals) → length (total_line t) ≡ total_length t
 unfolding total_line total_length
 length-total t = length-line (total_word ∷ decimal t.paths ∷ decimal t.points ∷ decimal t.steps ∷ decimal t.travel ∷ []) ∙ rw (length-decimal t.paths, length-decimal t.points, length-decimal t.steps, length-decimal t.travel)
 
-length_lines : (r : Clipped) (paths : List (List Point)) → length (lines_of r paths) ≡ lines_length r paths
-length_lines (Done t) paths = omega (arith, length-append (paths_lines 0 paths) (total_line t), length_paths 0 paths, length-total t)
-length_lines (Refused number place) paths = length_refused number place
+length_lines : (r : Result Totals Refusal) (paths : List (List Point)) → length (lines_of r paths) ≡ lines_length r paths
+length_lines (Ok t) paths = omega (arith, length-append (paths_lines 0 paths) (total_line t), length_paths 0 paths, length-total t)
+length_lines (Err r) paths = length_refused (number_of r.kind) r.place
 
 pub length-printed : (o : Outcome) → length (printed o) ≡ printed_length o
 unfolding printed printed_length
@@ -71,6 +72,6 @@ pub printed_short : (o : Outcome) → printed_length o ≤ longest (length o.lis
 unfolding printed_length output
 printed_short o = by o.answer
   where
-    by : (r : Clipped) → lines_length r (output o) ≤ longest (length o.lists.points)
-    by (Done t) = omega (arith, paths_short 0 o.numbers.totals.paths o.lists.lengths (pair_up o.lists.points), length_pairs o.lists.points, total_short t)
-    by (Refused number place) = omega (arith, refused_short number place)
+    by : (r : Result Totals Refusal) → lines_length r (output o) ≤ longest (length o.lists.points)
+    by (Ok t) = omega (arith, paths_short 0 o.numbers.totals.paths o.lists.lengths (pair_up o.lists.points), length_pairs o.lists.points, total_short t)
+    by (Err r) = omega (arith, refused_short (number_of r.kind) r.place)

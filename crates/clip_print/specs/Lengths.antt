@@ -1,9 +1,9 @@
 -- How many bytes are printed of a clip run, by counting.
-use Rattle.std.specs.Prelude.{List, [], ◌∷◌, ℕ, suc, ◌+◌, ◌*◌}
+use Rattle.std.specs.Prelude.{List, [], ◌∷◌, ℕ, suc, ◌+◌, ◌*◌, Result, Ok, Err}
 use Rattle.geom.specs.declared.Point.{Point}
+use Rattle.refusal.specs.declared.Refusal.{Refusal}
+use Rattle.refusal.specs.Numbers.{number_of}
 use Rattle.clip_paths.specs.declared.Totals.{Totals}
-use Rattle.string_clip.specs.declared.Clipped.{Clipped}
-use Rattle.string_clip.specs.declared.Clipped.TheVariants.{Done, Refused}
 use Rattle.string_clip.specs.Run.{Outcome, output}
 use Rattle.writing.specs.Lengths.{digits_in, signed_length, line_length, refused_length}
 
@@ -26,9 +26,9 @@ unfoldable pub total_length : Totals → ℕ
 total_length t = line_length (5 ∷ digits_in t.paths ∷ digits_in t.points ∷ digits_in t.steps ∷ digits_in t.travel ∷ [])
 
 -- all lines of an answer
-abbrev pub lines_length : Clipped → List (List Point) → ℕ
-lines_length (Done t) paths = paths_length 0 paths + total_length t
-lines_length (Refused number place) paths = refused_length number place
+abbrev pub lines_length : Result Totals Refusal → List (List Point) → ℕ
+lines_length (Ok t) paths = paths_length 0 paths + total_length t
+lines_length (Err r) paths = refused_length (number_of r.kind) r.place
 
 -- what is printed of a run
 unfoldable pub printed_length : Outcome → ℕ

@@ -1,10 +1,10 @@
 -- What is printed of a clip run, as bytes.
-use Rattle.std.specs.Prelude.{List, [], ◌∷◌, ◌++◌, ℕ, suc, ◌*◌, ◌≤◌, length, take, ℤ}
+use Rattle.std.specs.Prelude.{List, [], ◌∷◌, ◌++◌, ℕ, suc, ◌*◌, ◌≤◌, length, take, ℤ, Result, Ok, Err}
 use Rattle.lists.specs.Sums.{tally}
 use Rattle.geom.specs.declared.Point.{Point}
+use Rattle.refusal.specs.declared.Refusal.{Refusal}
+use Rattle.refusal.specs.Numbers.{number_of}
 use Rattle.clip_paths.specs.declared.Totals.{Totals}
-use Rattle.string_clip.specs.declared.Clipped.{Clipped}
-use Rattle.string_clip.specs.declared.Clipped.TheVariants.{Done, Refused}
 use Rattle.string_clip.specs.Run.{Outcome, output}
 use Rattle.decimal.specs.Decimal.{decimal, signed}
 use Rattle.writing.specs.Lines.{line_of, refused_line}
@@ -32,9 +32,9 @@ unfoldable pub total_line : Totals → List ℕ
 total_line t = line_of (total_word ∷ decimal t.paths ∷ decimal t.points ∷ decimal t.steps ∷ decimal t.travel ∷ [])
 
 -- all lines of an answer: the points, then the total; or the refusal
-abbrev pub lines_of : Clipped → List (List Point) → List ℕ
-lines_of (Done t) paths = paths_lines 0 paths ++ total_line t
-lines_of (Refused number place) paths = refused_line number place
+abbrev pub lines_of : Result Totals Refusal → List (List Point) → List ℕ
+lines_of (Ok t) paths = paths_lines 0 paths ++ total_line t
+lines_of (Err r) paths = refused_line (number_of r.kind) r.place
 
 -- a run's output as read from its lists, then its four numbers; or its refusal
 unfoldable pub printed : Outcome → List ℕ

@@ -9,14 +9,14 @@ use lib.IntN.{pos}
 use Rattle.geom.specs.declared.Point.{Point}
 use Rattle.segm.specs.Segments.{Drawing, segments, laid}
 use Rattle.segm.proofs.Segments.Laid.{segments-laid}
-use Rattle.refusal.specs.declared.Verdict.TheVariants.{Accepted}
+use Rattle.std.specs.Prelude.{Ok}
+use Rattle.refusal.specs.Order.{accepted}
 use Rattle.checks.specs.Runs.{verdict, clip_run}
 use Rattle.checks.specs.Accepted.{accepts}
 use Rattle.checks.proofs.Runs.{passed}
 use Rattle.checks.proofs.Accepted.{accepted_input, accepted_run}
 use Rattle.fill_rule.specs.FillRule.{rule_of}
 use Rattle.build.specs.Links.{filter_of}
-use Rattle.string_clip.specs.declared.Clipped.TheVariants.{Done}
 use Rattle.string_clip.specs.Run.{Room, Lists, lists, run_of}
 use Rattle.clip_paths.specs.Paths.{clip_paths, totals}
 use Rattle.string_clip.proofs.Run.ReadBack.{read_back}
@@ -31,7 +31,7 @@ use Rattle.clip_text.specs.Answer.{run_on, text_outcome, answer_to}
 
 module _ (c : Choices) (d : Drawing) (e : accepts (laid d) c.rule c.invert c.boundary ≡ true) where
   -- lists for 1,024 segments are long enough for it
-  accepted_clip : (ls : Lists) → length ls.points ≡ 8192 → length ls.lengths ≡ 2048 → verdict (run_of (laid d) c.rule c.invert c.boundary ls) ≡ Accepted
+  accepted_clip : (ls : Lists) → length ls.points ≡ 8192 → length ls.lengths ≡ 2048 → verdict (run_of (laid d) c.rule c.invert c.boundary ls) ≡ accepted
   unfolding clip_run
   accepted_clip ls h k =
       let n = ap length (segments-laid d) in
@@ -41,15 +41,15 @@ module _ (c : Choices) (d : Drawing) (e : accepts (laid d) c.rule c.invert c.bou
   abbrev paths : Drawing → List (List Point)
   paths = clip_paths (rule_of c.rule) (filter_of c.invert c.boundary)
 
-  printed_run : (ls : Lists) → length ls.points ≡ 8192 → length ls.lengths ≡ 2048 → printed (text_outcome (writing New c d) ls) ≡ lines_of (Done (totals (paths d))) (paths d)
+  printed_run : (ls : Lists) → length ls.points ≡ 8192 → length ls.lengths ≡ 2048 → printed (text_outcome (writing New c d) ls) ≡ lines_of (Ok (totals (paths d))) (paths d)
   unfolding text_outcome printed
   printed_run ls h k =
       ap (λ (p : Parsed). printed (run_on p ls)) (accepted_text c d e New (λ s m. refl))
       ∙ ap printed (accepted_outcome (laid d) c.rule c.invert c.boundary ls (accepted_clip ls h k))
-      ∙ ap (lines_of (Done (totals (paths (segments (laid d)))))) (read_back (paths (segments (laid d))) ls)
-      ∙ ap (λ (f : Drawing). lines_of (Done (totals (paths f))) (paths f)) (segments-laid d)
+      ∙ ap (lines_of (Ok (totals (paths (segments (laid d)))))) (read_back (paths (segments (laid d))) ls)
+      ∙ ap (λ (f : Drawing). lines_of (Ok (totals (paths f))) (paths f)) (segments-laid d)
 
   -- for the text of an accepted drawing its paths are printed, and their totals
-  pub accepted_answer : answer_to (writing New c d) ≡ lines_of (Done (totals (paths d))) (paths d)
+  pub accepted_answer : answer_to (writing New c d) ≡ lines_of (Ok (totals (paths d))) (paths d)
   unfolding answer_to
   accepted_answer = printed_run (lists (replicate 8192 (pos 0)) (replicate 2048 0)) (length-replicate 8192 (pos 0)) (length-replicate {A = ℕ} 2048 0)

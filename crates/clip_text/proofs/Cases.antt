@@ -28,7 +28,7 @@ use Rattle.clip_walk.specs.Walk.{goes_on, follow, path_from, paths_from, walk}
 use Rattle.clip_paths.specs.Paths.{through, finished, path_points, clip_paths, steps_from, steps_of_path, steps_of, travel_of, totals}
 use Rattle.contour.specs.Points.{coordinates, pair_up, cut}
 use Rattle.string_clip.specs.Run.{clip_outcome, output}
-use Rattle.decimal.specs.Decimal.{is_digit, worth, positive, field_of, digits, decimal, signed}
+use Rattle.decimal.specs.Decimal.{worth, positive, field_of, digits, decimal, signed}
 use Rattle.text.specs.Grammar.{pieces, row, fields_in, rows_from, choices_of, parsed}
 use Rattle.text_forms.specs.Reading.{parsed_in}
 use Rattle.writing.specs.Lines.{joined, line_of, refused_line}
@@ -57,5 +57,5 @@ pub record Cases : Type 0 where
   pub meeting : Prints "1,0,1\n0,0,2,0,0,1,0\n1,0,1,1,0,1,0\n" "refused,8,0\n"
 
 pub cases : Cases
-unfolding clip_run verdict asked asked_first drawing_verdict faults_of meetings_of unbalanced_of wrong_length unknown_choice too_short first first_from fault_at meeting_at unbalanced_at fault ends_in_range rises winding_in_range bits_in_range lot_in_range balance balances meets_wrongly parts in_interior same_ends side total any sum tally keep written up_from front segments_of count whole segments segment_at eq_z within lt_p eq_p coordinate in_range cross between spans above clockwise met bottom top filled rule_of fill_of fill sides_set keeps_sides keeps filter_of kept_links node has clear as_drawn remains taken taken_all bits_remaining first_remaining both_moves begins way over other fitting goes_on follow path_from paths_from walk through finished path_points clip_paths steps_from steps_of_path steps_of travel_of travel totals coordinates flatten clip_outcome is_digit worth positive field_of digits decimal signed pieces row fields_in rows_from choices_of parsed parsed_in joined line_of point_line path_lines paths_lines total_line refused_line printed pair_up cut output text_outcome answer_to
+unfolding clip_run verdict asked asked_first drawing_verdict faults_of meetings_of unbalanced_of wrong_length unknown_choice too_short first first_from fault_at meeting_at unbalanced_at fault ends_in_range rises winding_in_range bits_in_range lot_in_range balance balances meets_wrongly parts in_interior same_ends side total any sum tally keep written up_from front segments_of count whole segments segment_at eq_z within lt_p eq_p coordinate in_range cross between spans above clockwise met bottom top filled rule_of fill_of fill sides_set keeps_sides keeps filter_of kept_links node has clear as_drawn remains taken taken_all bits_remaining first_remaining both_moves begins way over other fitting goes_on follow path_from paths_from walk through finished path_points clip_paths steps_from steps_of_path steps_of travel_of travel totals coordinates flatten clip_outcome worth positive field_of digits decimal signed pieces row fields_in rows_from choices_of parsed parsed_in joined line_of point_line path_lines paths_lines total_line refused_line printed pair_up cut output text_outcome answer_to
 cases = record { inside-A = refl; outside-A = refl; no_segments = refl; malformed = refl; text_first = refl; choice_next = refl; drawing_last = refl; lot_out = refl; lot_taken = refl; meeting = refl }

@@ -9,8 +9,8 @@ use Rattle.geom.specs.declared.Point.{Point}
 use Rattle.lists.specs.Sums.{tally}
 use Rattle.segm.specs.Segments.{segments}
 use Rattle.lists.proofs.Written.{length_written, take_written}
-use Rattle.refusal.specs.declared.Verdict.{Verdict}
-use Rattle.refusal.specs.declared.Verdict.TheVariants as verdict-is
+use Rattle.std.specs.Prelude.{Ok, Err}
+use Rattle.refusal.specs.Order.{Verdict, accepted}
 use Rattle.checks.specs.Runs.{verdict}
 use Rattle.fill_rule.specs.FillRule.{rule_of}
 use Rattle.build.specs.Links.{filter_of}
@@ -49,8 +49,8 @@ module _ (ls : Lists) where
   unfolding tally
   nothing_held = record { few_paths = omega arith; few_points = omega arith }
 
-  accepted_held : (numbers : List ℤ) (rule invert boundary : ℤ) → verdict (run_of numbers rule invert boundary ls) ≡ verdict-is.Accepted
-      → HeldOf (answered verdict-is.Accepted (clip_paths (rule_of rule) (filter_of invert boundary) (segments numbers)) ls)
+  accepted_held : (numbers : List ℤ) (rule invert boundary : ℤ) → verdict (run_of numbers rule invert boundary ls) ≡ accepted
+      → HeldOf (answered accepted (clip_paths (rule_of rule) (filter_of invert boundary) (segments numbers)) ls)
   unfolding totals
   accepted_held numbers rule invert boundary e =
       let d = segments numbers in
@@ -63,8 +63,8 @@ module _ (ls : Lists) where
   unfolding clip_outcome
   run_held numbers rule invert boundary = by (verdict (run_of numbers rule invert boundary ls)) refl where
     by : (v : Verdict) → verdict (run_of numbers rule invert boundary ls) ≡ v → HeldOf (answered v (clip_paths (rule_of rule) (filter_of invert boundary) (segments numbers)) ls)
-    by verdict-is.Accepted e = accepted_held numbers rule invert boundary e
-    by (verdict-is.Refused number place) e = nothing_held
+    by (Ok _) e = accepted_held numbers rule invert boundary e
+    by (Err r) e = nothing_held
 
   pub text_held : (text : List ℕ) → HeldOf (text_outcome text ls)
   unfolding text_outcome

@@ -1,6 +1,7 @@
 -- The clip run on a comma text, and what is printed of it. The contracts of `clip_text` cite these.
-use Rattle.std.specs.Prelude.{List, ℕ, replicate, pos}
-use Rattle.string_clip.specs.declared.Clipped.TheVariants.{Refused}
+use Rattle.std.specs.Prelude.{List, ℕ, replicate, pos, Err}
+use Rattle.refusal.specs.declared.Kind.TheVariants.{BadText}
+use Rattle.refusal.specs.Order.{refusal}
 use Rattle.string_clip.specs.Run.{Lists, lists, Outcome, outcome, clip_outcome}
 use Rattle.text.specs.Grammar.{Parsed, BadLine, Drawn}
 use Rattle.text_forms.specs.declared.Form.TheVariants.{New}
@@ -9,7 +10,7 @@ use Rattle.clip_print.specs.Printed.{printed}
 
 -- a bad line is refusal 1 and its place; else the run on the numbers decides
 abbrev pub run_on : Parsed → Lists → Outcome
-run_on (BadLine line) ls = outcome (Refused 1 line) ls
+run_on (BadLine line) ls = outcome (Err (refusal BadText line)) ls
 run_on (Drawn c numbers) ls = clip_outcome numbers c.rule c.invert c.boundary ls
 
 -- 1 before all others: the text is read to its end first

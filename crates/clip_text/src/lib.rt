@@ -12,9 +12,9 @@ ghost use Rattle.clip_print.specs.Printed.{printed};
 ghost use Rattle.clip_print.specs.Lengths.{longest};
 ghost use Rattle.clip_text.specs.Answer.{text_outcome, answer_to};
 
+use clip_paths::Totals;
 pub use program::run;
-use string_clip::Clipped;
-use text::Reading;
+use refusal::Refusal;
 use text_forms::Form;
 
 // As many numbers and lengths as the largest drawing needs.
@@ -26,28 +26,32 @@ const LENGTHS: usize = 2 * segm::MOST;
 pub const LONGEST: usize = 43 * POINTS + 90;
 
 // The clip run on a text. The list `numbers` is working memory.
-fn clip_read(text: &[u8], numbers: &mut [i32], points: &mut [i32], lengths: &mut [u32]) -> Clipped
+fn clip_read(
+    text: &[u8],
+    numbers: &mut [i32],
+    points: &mut [i32],
+    lengths: &mut [u32],
+) -> Result<Totals, Refusal>
     requires { length numbers.old ≡ 1024 * width }
     ensures { outcome result (lists points.new lengths.new) ≡ text_outcome text.now (lists points.old lengths.old) }
 {
-    match text_forms::read_form(text, Form::New, numbers) {
-        Reading::Read(c, count) => string_clip::clip(
-            &numbers[..count],
-            c.rule,
-            c.invert,
-            c.boundary,
-            points,
-            lengths,
-        ),
-        Reading::Refused(number, place) => Clipped::Refused(number, place),
-    }
+    let reading = text_forms::read_form(text, Form::New, numbers)?;
+    let c = reading.choices;
+    string_clip::clip(
+        &numbers[..reading.count],
+        c.rule,
+        c.invert,
+        c.boundary,
+        points,
+        lengths,
+    )
 }
 
 // The clip run on a text: x, y pairs and one length a path, or the refusal, 1 for a malformed text.
-pub fn clip_text(text: &[u8], points: &mut [i32], lengths: &mut [u32]) -> Clipped
+pub fn clip_text(text: &[u8], points: &mut [i32], lengths: &mut [u32]) -> Result<Totals, Refusal>
     ensures { outcome result (lists points.new lengths.new) ≡ text_outcome text.now (lists points.old lengths.old) }
 {
-    let mut numbers = [0i32; segm::NUMBERS];
+    let mut numbers = [0; segm::NUMBERS];
     clip_read(text, &mut numbers, points, lengths)
 }
 
@@ -59,8 +63,8 @@ fn answer_with(text: &[u8], points: &mut [i32], lengths: &mut [u32], out: &mut [
         × (out.new ≡ written (printed (text_outcome text.now (lists points.old lengths.old))) out.old) }
 {
     match clip_text(text, points, lengths) {
-        Clipped::Done(t) => clip_print::put_run(t, points, lengths, out),
-        Clipped::Refused(number, place) => writing::put_refused(number, place, out),
+        Ok(t) => clip_print::put_run(t, points, lengths, out),
+        Err(refusal) => writing::put_refused(refusal, out),
     }
 }
 
@@ -69,7 +73,7 @@ pub fn answer(text: &[u8], out: &mut [u8; LONGEST]) -> usize
     ensures prefix_len { IsPrefixLen result out.new }
     ensures value { (result ≡ length (answer_to text.now)) × (out.new ≡ written (answer_to text.now) out.old) }
 {
-    let mut points = [0i32; POINTS];
-    let mut lengths = [0u32; LENGTHS];
+    let mut points = [0; POINTS];
+    let mut lengths = [0; LENGTHS];
     answer_with(text, &mut points, &mut lengths, out)
 }

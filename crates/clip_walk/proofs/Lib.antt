@@ -1,2 +1,3 @@
 pub mod Walk
 pub mod Flat
+pub mod Following

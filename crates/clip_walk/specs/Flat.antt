@@ -1,11 +1,9 @@
 -- The walk over flat lists, as the code goes: a move is named by the end of a link that it leaves.
-use Rattle.std.specs.Prelude.{List, [], ◌∷◌, map, Bool, cond, ℕ, zero, suc, ◌*◌, ◌<◌, ◌≤◌, length, get_or}
+use Rattle.std.specs.Prelude.{find, List, [], ◌∷◌, map, Some, None, Bool, cond, ℕ, zero, suc, ◌*◌, ◌<◌, ◌≤◌, length, get_or}
 use Rattle.graph.specs.Nodes.{other_end, part}
 use Rattle.moves.specs.declared.Link.{Link}
-use Rattle.moves.specs.declared.NextEnd.{NextEnd}
-use Rattle.moves.specs.declared.NextEnd.TheVariants.{Stop, Leave}
 use Rattle.moves.specs.Moves.{remains, taken, taken_all, bits_remaining}
-use Rattle.moves.specs.ByEnd.{move_of, NodeAt}
+use Rattle.moves.specs.ByEnd.{Graph, NextEnd, move_of, NodeAt}
 
 -- ---- the next move
 -- the node of the end that is not at the walk's point
@@ -14,18 +12,7 @@ far_node l at_start = cond at_start l.b l.a
 
 -- the first of these ends whose line bit remains
 unfoldable pub first_end : ℕ → Bool → List ℕ → List ℕ → NextEnd
-first_end m out bits [] = Stop
-first_end m out bits (e ∷ es) = cond (remains bits (move_of m out e)) (Leave e) (first_end m out bits es)
-
--- the lists of the nodes
-pub record Graph : Type 0 where
-  pub flat : List ℕ
-  pub starts : List ℕ
-  pub nodes : List ℕ
-
--- these lists
-abbrev pub graph : List ℕ → List ℕ → List ℕ → Graph
-graph flat starts nodes = record { flat = flat; starts = starts; nodes = nodes }
+first_end m out bits = find (λ e. remains bits (move_of m out e))
 
 -- having left end e, at the node of the link's other end
 unfoldable pub next_end : Graph → Bool → List ℕ → ℕ → NextEnd
@@ -33,13 +20,13 @@ next_end g out bits e = first_end (length bits) out bits (part g.flat g.starts (
 
 -- the bits that remain after the next move
 abbrev pub taken_by : Bool → List ℕ → NextEnd → List ℕ
-taken_by out bits Stop = bits
-taken_by out bits (Leave e) = taken bits (move_of (length bits) out e)
+taken_by out bits None = bits
+taken_by out bits (Some e) = taken bits (move_of (length bits) out e)
 
 -- what follows the end that is left, nothing where the walk stops
 abbrev pub onward : {A : Type 0} → NextEnd → (ℕ → List A) → List A
-onward Stop f = []
-onward (Leave e) f = f e
+onward None f = []
+onward (Some e) f = f e
 
 -- ---- the moves on from an end that was left
 -- the ends that the moves leave, till none fits. (Each takes a line bit, so as many turns as bits remain are enough)
@@ -49,13 +36,13 @@ follow_ends (suc turns) g out e bits = onward (next_end g out bits e) (λ f. f �
 
 -- from the next move on
 unfoldable pub moves_on : Graph → Bool → List ℕ → NextEnd → List ℕ
-moves_on g out bits Stop = []
-moves_on g out bits (Leave e) = e ∷ follow_ends (bits_remaining bits) g out e bits
+moves_on g out bits None = []
+moves_on g out bits (Some e) = e ∷ follow_ends (bits_remaining bits) g out e bits
 
 -- the bits that remain after the last of these moves
 unfoldable pub bits_after : Graph → Bool → List ℕ → NextEnd → List ℕ
-bits_after g out bits Stop = bits
-bits_after g out bits (Leave e) = taken_all bits (map (move_of (length bits) out) (follow_ends (bits_remaining bits) g out e bits))
+bits_after g out bits None = bits
+bits_after g out bits (Some e) = taken_all bits (map (move_of (length bits) out) (follow_ends (bits_remaining bits) g out e bits))
 
 -- ---- what the lists of m links hold
 -- every end has a node

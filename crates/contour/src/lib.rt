@@ -3,7 +3,6 @@
 
 ghost use Rattle.std.specs.Prelude.{◌≡◌, true, suc, ◌+◌, ◌*◌, ◌%◌, ◌≤◌, length, get_or, set};
 ghost use Rattle.geom.specs.Points.{in_range};
-ghost use Rattle.lists.specs.Written.{written};
 ghost use Rattle.contour.specs.Points.{coordinates, pair_up, turned_round, origin, AllInRange};
 ghost use Rattle.contour.specs.Area.{cross_product, shoelace, is_clockwise, is_large};
 ghost use Rattle.contour.specs.Contour.{contour_of};
@@ -17,10 +16,9 @@ pub fn point_at(points: &[i32], i: usize) -> Point
     if points.len() / 2 <= i {
         return Point { x: 0, y: 0 };
     }
-    let k = 2 * i;
     Point {
-        x: points[k],
-        y: points[k + 1],
+        x: points[2 * i],
+        y: points[2 * i + 1],
     }
 }
 
@@ -29,23 +27,8 @@ pub fn put_point(points: &mut [i32], q: usize, p: Point)
     requires { 2 * suc q ≤ length points.old }
     ensures { points.new ≡ set (set points.old (2 * q) p.x) (2 * q + 1) p.y }
 {
-    let x = p.x;
-    let y = p.y;
-    let k = 2 * q;
-    points[k] = x;
-    points[k + 1] = y;
-}
-
-// Writes these numbers to the front of out.
-pub fn copy(points: &[i32], out: &mut [i32])
-    requires { length points.now ≤ length out.old }
-    ensures { out.new ≡ written points.now out.old }
-{
-    let mut k: usize = 0;
-    while k < points.len() {
-        out[k] = points[k];
-        k += 1;
-    }
+    points[2 * q] = p.x;
+    points[2 * q + 1] = p.y;
 }
 
 // The points the other way round, in place.
@@ -54,14 +37,12 @@ pub fn reverse(points: &mut [i32])
     ensures { points.new ≡ turned_round points.old }
 {
     let n = points.len() / 2;
-    let mut i: usize = 0;
-    while i < n / 2 {
+    for i in 0..n / 2 {
         let j = n - 1 - i;
         let p = point_at(points, i);
         let q = point_at(points, j);
         put_point(points, i, q);
         put_point(points, j, p);
-        i += 1;
     }
 }
 
@@ -83,10 +64,8 @@ fn shoelace(points: &[i32]) -> i64
         return 0;
     }
     let mut sum = cross_product(point_at(points, n - 1), point_at(points, 0));
-    let mut i: usize = 1;
-    while i < n {
+    for i in 1..n {
         sum += cross_product(point_at(points, i - 1), point_at(points, i));
-        i += 1;
     }
     sum
 }
@@ -121,5 +100,5 @@ pub fn finish(points: &mut [i32], direction: bool, clockwise: bool) -> u8
     if hole == (clockwise == order) {
         reverse(points);
     }
-    if hole { 1 } else { 0 }
+    u8::from(hole)
 }

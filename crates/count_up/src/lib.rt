@@ -13,14 +13,12 @@ fn low_end(list: &[u16], first: usize, place: usize) -> usize
     requires { place ≤ length list.now }
     ensures { LowEnd first place list.now result }
 {
-    let mut low = place;
-    while 0 < low {
-        if (list[low - 1] as usize) < first {
-            return low;
+    for k in (0..place).rev() {
+        if (list[k] as usize) < first {
+            return k + 1;
         }
-        low -= 1;
     }
-    low
+    0
 }
 
 // Up from a place of the list, the first place at which one is less than `first`.
@@ -28,14 +26,12 @@ fn high_end(list: &[u16], first: usize, place: usize) -> usize
     requires { place ≤ length list.now }
     ensures { HighEnd first place list.now result }
 {
-    let mut high = place;
-    while high < list.len() {
-        if (list[high] as usize) < first {
-            return high;
+    for k in place..list.len() {
+        if (list[k] as usize) < first {
+            return k;
         }
-        high += 1;
     }
-    high
+    list.len()
 }
 
 // The top count of the last of the list, 0 if there is none.
@@ -43,12 +39,10 @@ pub fn count_below(list: &[u16], tops: &[i32]) -> i32
     requires { (i : ℕ) → i ∈ list.now → i < length tops.now }
     ensures { result ≡ last_in tops.now list.now }
 {
-    let n = list.len();
-    if n == 0 {
-        return 0;
+    match list.last() {
+        Some(&i) => tops[i as usize],
+        None => 0,
     }
-    let i = list[n - 1] as usize;
-    tops[i]
 }
 
 // The counts of a stretch of the list are written, from the count under it.
@@ -62,13 +56,11 @@ fn count_up(s: &[i32], stretch: &[u16], under: i32, tops: &mut [i32])
     ensures { tops.new ≡ count_up (segments s.now) under stretch.now tops.old }
 {
     let mut sum = under;
-    let mut k: usize = 0;
-    while k < stretch.len() {
-        let i = stretch[k] as usize;
+    for place in stretch {
+        let i = *place as usize;
         let t = segm::segment_in(s, i);
         sum += t.winding;
         tops[i] = sum;
-        k += 1;
     }
 }
 

@@ -9,12 +9,15 @@ use native.Mathlib.Omega.{arith}
 use borrow.Author.Tests.{ltb-true, ltb-false, leb-true, eqb-true, eqb-false, lt-ltb, le-ltb, le-leb, ne_eqb}
 use lib.Dec.{eqb, leb, ltb, lit<, eqb-suc-zero}
 use lib.ListN.{length}
-use lib.IntN.{ℤ, pos, negsuc, nat_abs}
+use lib.IntN.{ℤ, pos, negsuc, neg_ℤ, nat_abs}
+use Rattle.std.specs.Prelude.{Option, Some, None}
+use Rattle.std.specs.Char.{is_ascii_digit}
+use Rattle.std.specs.Option.{option_map}
 use lib.Signed.{◌≤ℤ◌}
 use Rattle.integers.proofs.Booleans.{both, both_l, both_r, neither, nor_l, nor_r}
+use Rattle.std.proofs.lemmas.Option.{none-some}
 use Rattle.lists.specs.Members.{◌∈◌}
-use Rattle.decimal.specs.declared.Field.TheVariants.{Number, Malformed}
-use Rattle.decimal.specs.Decimal.{is_digit, worth, positive, unless_zero, field_of, digits, decimal, signed, NineDigits}
+use Rattle.decimal.specs.Decimal.{worth, positive, field_of, digits, decimal, signed, NineDigits}
 
 -- ---- how the digits come about: the last one first
 data Wrote : ℕ → ℕ → List ℕ → List ℕ → Type 0 where
@@ -57,9 +60,9 @@ bytes_wrote (more {n = n} {s = s} l w) h x m = bytes_wrote w front x m
 
 -- ---- written, then read
 worth_more : (v d u : ℕ) (s : List ℕ) → d < 10 → v * 10 + d ≡ u → worth v ((48 + d) ∷ s) ≡ worth u s
-unfolding worth is_digit
+unfolding worth
 worth_more v d u s h q =
-    let digit : is_digit (48 + d) ≡ true = both (le-leb 48 (48 + d) (omega arith)) (le-leb (48 + d) 57 (omega arith)) in
+    let digit : is_ascii_digit (48 + d) ≡ true = both (le-leb 48 (48 + d) (omega arith)) (le-leb (48 + d) 57 (omega arith)) in
     let e : 48 + d - 48 ≡ d = omega arith in
     rw (digit, e, q)
 
@@ -83,7 +86,7 @@ led (more m w) p h = led w (omega arith) (omega arith)
 nine_in_twenty : (n : ℕ) → n < 10 ^ 9 → n < 10 ^ 20
 nine_in_twenty n h = omega arith
 
-positive-decimal : (n : ℕ) → 0 < n → n < 10 ^ 9 → positive (decimal n) ≡ n
+positive-decimal : (n : ℕ) → 0 < n → n < 10 ^ 9 → positive (decimal n) ≡ Some n
 unfolding positive decimal worth
 positive-decimal n p h =
     let w : Wrote 20 n [] (digits 20 n []) = wrote 20 n [] in
@@ -92,19 +95,18 @@ positive-decimal n p h =
     let plain : (eqb f.first 48 || ltb 9 (length (f.first ∷ f.rest))) ≡ false = neither (ne_eqb f.first 48 (omega (arith, f.above))) (le-ltb 9 (length (f.first ∷ f.rest)) short) in
     ap positive f.is ∙ rw plain (ap (worth 0) (sym f.is) ∙ worth_wrote w (nine_in_twenty n h))
 
-pub field_signed : (z : ℤ) → NineDigits z → field_of (signed z) ≡ Number z
+pub field_signed : (z : ℤ) → NineDigits z → field_of (signed z) ≡ Some z
 unfolding field_of signed decimal
 field_signed (pos zero) h = unfold digits in refl
 field_signed (pos (suc n)) h =
     let f = led (wrote 20 (suc n) []) (omega arith) (nine_in_twenty (suc n) h) in
     let plus : eqb f.first 45 ≡ false = ne_eqb f.first 45 (omega (arith, f.above)) in
     let some : eqb f.first 48 ≡ false = ne_eqb f.first 48 (omega (arith, f.above)) in
-    ap field_of f.is ∙ rw (plus, some) (ap (λ (s : List ℕ). unless_zero false (positive s)) (sym f.is) ∙ ap (unless_zero false) (positive-decimal (suc n) (omega arith) h))
-field_signed (negsuc n) h = ap (unless_zero true) (positive-decimal (suc n) (omega arith) h)
+    ap field_of f.is ∙ rw (plus, some) (ap (λ (s : List ℕ). option_map pos (positive s)) (sym f.is) ∙ ap (option_map pos) (positive-decimal (suc n) (omega arith) h))
+field_signed (negsuc n) h = ap (option_map (λ n. neg_ℤ (pos n))) (positive-decimal (suc n) (omega arith) h)
 
 -- ---- read, then written
-pub digit : (b : ℕ) → is_digit b ≡ true → (48 ≤ b) × (b ≤ 57)
-unfolding is_digit
+pub digit : (b : ℕ) → is_ascii_digit b ≡ true → (48 ≤ b) × (b ≤ 57)
 digit b e = (leb-true 48 b (both_l (leb 48 b) (leb b 57) e), leb-true b 57 (both_r (leb 48 b) (leb b 57) e))
 
 -- how digits are read, after digits worth v
@@ -112,17 +114,22 @@ data Reads : ℕ → List ℕ → ℕ → Type 0 where
   end : {v : ℕ} → Reads v [] v
   next : {v b m : ℕ} {s : List ℕ} → 48 ≤ b → b ≤ 57 → Reads (v * 10 + (b - 48)) s m → Reads v (b ∷ s) m
 
-reads : (v : ℕ) (s : List ℕ) → 0 < worth v s → Reads v s (worth v s)
+reads : (v : ℕ) (s : List ℕ) (m : ℕ) → worth v s ≡ Some m → Reads v s m
 unfolding worth
-reads v [] h = end
-reads v (b ∷ s) h = go (is_digit b) refl h (reads (v * 10 + (b - 48)) s)
+reads v [] m e = let q : v ≡ m = cc in rw (← q) end
+reads v (b ∷ s) m e = go (is_ascii_digit b) refl e (reads (v * 10 + (b - 48)) s m)
   where
-    u : ℕ
+    u : Option ℕ
     u = worth (v * 10 + (b - 48)) s
 
-    go : (t : Bool) → is_digit b ≡ t → 0 < cond t u 0 → (0 < u → Reads (v * 10 + (b - 48)) s u) → Reads v (b ∷ s) (cond t u 0)
+    go : (t : Bool) → is_ascii_digit b ≡ t → cond t u None ≡ Some m → (u ≡ Some m → Reads (v * 10 + (b - 48)) s m) → Reads v (b ∷ s) m
     go true e p r = let d = digit b e in next d.0 d.1 (r p)
-    go false e p r = absurd (omega arith)
+    go false e p r = absurd (none-some m p)
+
+-- digits only make a value larger
+reads_above : {v m : ℕ} {s : List ℕ} → Reads v s m → v ≤ m
+reads_above end = omega arith
+reads_above (next lo hi r) = omega (arith, reads_above r)
 
 below_reads : {v m : ℕ} {s : List ℕ} → Reads v s m → m < suc v * 10 ^ length s
 below_reads end = omega arith
@@ -148,9 +155,10 @@ digits_reads (next {v} {b} {m} {s} lo hi r) p k =
     ap (λ j. digits j m []) room ∙ digits_reads r (omega arith) (suc k) ∙ digits_more k u s (omega arith) ∙ rw (before, here)
 
 -- at most nine digits, the first no 0
-record Nine (s : List ℕ) (n : ℕ) : Type 0 where
-  is : s ≡ decimal n
-  small : n < 10 ^ 9
+pub record Nine (s : List ℕ) (n : ℕ) : Type 0 where
+  pub is : s ≡ decimal n
+  pub above : 0 < n
+  pub small : n < 10 ^ 9
 
 nine_reads : {b m : ℕ} {s : List ℕ} → Reads 0 (b ∷ s) m → (b ≡ 48 → ⊥) → length (b ∷ s) ≤ 9 → Nine (b ∷ s) m
 unfolding decimal
@@ -159,54 +167,53 @@ nine_reads (next {b = b} {m = m} {s = s} lo hi r) ne short =
     let room : suc k + length s ≡ 20 = omega arith in
     let first : 48 + (0 * 10 + (b - 48)) ≡ b = omega arith in
     let all : digits 20 m [] ≡ b ∷ s = ap (λ j. digits j m []) (sym room) ∙ digits_reads r (omega arith) (suc k) ∙ digits-one k (0 * 10 + (b - 48)) s (omega arith) ∙ ap (λ x. x ∷ s) first in
-    record { is = sym all; small = omega (arith, below_reads (next {v = 0} lo hi r), pow-le-pow_right (lit< {m = 0} {n = 10} tt) short) }
+    record { is = sym all; above = omega (arith, reads_above r); small = omega (arith, below_reads (next {v = 0} lo hi r), pow-le-pow_right (lit< {m = 0} {n = 10} tt) short) }
 
-nine_positive : (s : List ℕ) → 0 < positive s → Nine s (positive s)
+pub nine_positive : (s : List ℕ) (n : ℕ) → positive s ≡ Some n → Nine s n
 unfolding positive
-nine_positive [] h = absurd (omega arith)
-nine_positive (b ∷ s) h = go (eqb b 48 || ltb 9 (length (b ∷ s))) refl h
+nine_positive [] n e = absurd (none-some n e)
+nine_positive (b ∷ s) n e = go (eqb b 48 || ltb 9 (length (b ∷ s))) refl e
   where
-    m : ℕ
-    m = worth 0 (b ∷ s)
-
-    go : (t : Bool) → (eqb b 48 || ltb 9 (length (b ∷ s))) ≡ t → 0 < cond t 0 m → Nine (b ∷ s) (cond t 0 m)
-    go true e p = absurd (omega arith)
+    go : (t : Bool) → (eqb b 48 || ltb 9 (length (b ∷ s))) ≡ t → cond t None (worth 0 (b ∷ s)) ≡ Some n → Nine (b ∷ s) n
+    go true e p = absurd (none-some n p)
     go false e p =
         let short : length (b ∷ s) ≤ 9 = ltb-false 9 (length (b ∷ s)) (nor_r (eqb b 48) (ltb 9 (length (b ∷ s))) e) in
-        nine_reads (reads 0 (b ∷ s) p) (eqb-false b 48 (nor_l (eqb b 48) (ltb 9 (length (b ∷ s))) e)) short
+        nine_reads (reads 0 (b ∷ s) n p) (eqb-false b 48 (nor_l (eqb b 48) (ltb 9 (length (b ∷ s))) e)) short
 
 -- only what is written reads as a number
 pub record Written (s : List ℕ) (z : ℤ) : Type 0 where
   pub is : s ≡ signed z
   pub small : NineDigits z
 
-never : {z : ℤ} → Malformed ≡ Number z → ⊥
-never e = let bad : ◌≡◌ {A = ℕ} 0 1 = cc in omega arith
-
-written_as : {s : List ℕ} {y z : ℤ} → s ≡ signed y → NineDigits y → Number y ≡ Number z → Written s z
+written_as : {s : List ℕ} {y z : ℤ} → s ≡ signed y → NineDigits y → Some y ≡ Some z → Written s z
 written_as {s} {y} {z} i n e = let q : y ≡ z = cc in subst (λ (x : ℤ). Written s x) q (record { is = i; small = n })
 
-positive_field : (minus : Bool) (s : List ℕ) (n : ℕ) (z : ℤ) → (0 < n → Nine s n) → unless_zero minus n ≡ Number z → Written (cond minus (45 ∷ s) s) z
+plain_field : (s : List ℕ) (z : ℤ) (o : Option ℕ) → positive s ≡ o → option_map pos o ≡ Some z → Written s z
 unfolding signed
-positive_field minus s zero z f e = absurd (never e)
-positive_field true s (suc n) z f e = let w = f (omega arith) in written_as (ap (λ (r : List ℕ). 45 ∷ r) w.is) w.small e
-positive_field false s (suc n) z f e = let w = f (omega arith) in written_as w.is w.small e
+plain_field s z None p e = absurd (none-some z e)
+plain_field s z (Some n) p e = let w = nine_positive s n p in written_as w.is w.small e
 
-zero_field : (s : List ℕ) (z : ℤ) → cond (eqb (length s) 0) (Number (pos 0)) Malformed ≡ Number z → Written (48 ∷ s) z
+minus_field : (s : List ℕ) (z : ℤ) (o : Option ℕ) → positive s ≡ o → option_map (λ n. neg_ℤ (pos n)) o ≡ Some z → Written (45 ∷ s) z
+unfolding signed
+minus_field s z None p e = absurd (none-some z e)
+minus_field s z (Some zero) p e = absurd (omega (arith, (nine_positive s 0 p).above))
+minus_field s z (Some (suc n)) p e = let w = nine_positive s (suc n) p in written_as (ap (λ (r : List ℕ). 45 ∷ r) w.is) w.small e
+
+zero_field : (s : List ℕ) (z : ℤ) → cond (eqb (length s) 0) (Some (pos 0)) None ≡ Some z → Written (48 ∷ s) z
 unfolding signed decimal digits
 zero_field [] z e = written_as refl (lit< tt) e
-zero_field (x ∷ s) z e = absurd (never (rw (eqb-suc-zero (length s)) at e))
+zero_field (x ∷ s) z e = absurd (none-some z (rw (eqb-suc-zero (length s)) at e))
 
-pub signed_field : (s : List ℕ) (z : ℤ) → field_of s ≡ Number z → Written s z
+pub signed_field : (s : List ℕ) (z : ℤ) → field_of s ≡ Some z → Written s z
 unfolding field_of
-signed_field [] z e = absurd (never e)
+signed_field [] z e = absurd (none-some z e)
 signed_field (b ∷ s) z e = go (eqb b 45) (eqb b 48) refl refl e
   where
     go : (m o : Bool) → eqb b 45 ≡ m → eqb b 48 ≡ o
-        → cond m (unless_zero true (positive s)) (cond o (cond (eqb (length s) 0) (Number (pos 0)) Malformed) (unless_zero false (positive (b ∷ s)))) ≡ Number z → Written (b ∷ s) z
-    go true o p q k = rw (eqb-true b 45 p) (positive_field true s (positive s) z (nine_positive s) k)
+        → cond m (option_map (λ n. neg_ℤ (pos n)) (positive s)) (cond o (cond (eqb (length s) 0) (Some (pos 0)) None) (option_map pos (positive (b ∷ s)))) ≡ Some z → Written (b ∷ s) z
+    go true o p q k = rw (eqb-true b 45 p) (minus_field s z (positive s) refl k)
     go false true p q k = rw (eqb-true b 48 q) (zero_field s z k)
-    go false false p q k = positive_field false (b ∷ s) (positive (b ∷ s)) z (nine_positive (b ∷ s)) k
+    go false false p q k = plain_field (b ∷ s) z (positive (b ∷ s)) refl k
 
 -- ---- how long numbers are, and of which bytes
 pub decimal_short : (n : ℕ) → length (decimal n) ≤ 20

@@ -1,3 +1,5 @@
 pub mod Spelled
 pub mod Cases
 pub mod Decimal
+pub mod Reading
+pub mod Printed

@@ -1,38 +1,28 @@
 -- Whole numbers as bytes: 48 to 57 are the digits, 45 is the minus.
-use Rattle.std.specs.Prelude.{List, [], ◌∷◌, Bool, true, false, ◌&&◌, ◌||◌, cond, ℕ, zero, suc, ◌+◌, ◌*◌, ◌-◌, ◌/◌, ◌%◌, ◌^◌, ◌<◌, eqb, leb, ltb, length, ℤ, pos, negsuc, nat_abs}
-use Rattle.decimal.specs.declared.Field.{Field}
-use Rattle.decimal.specs.declared.Field.TheVariants.{Number, Malformed}
+use Rattle.std.specs.Prelude.{List, [], ◌∷◌, ◌||◌, cond, ℕ, zero, suc, ◌+◌, ◌*◌, ◌-◌, ◌/◌, ◌%◌, ◌^◌, ◌<◌, eqb, ltb, length, ℤ, pos, negsuc, neg_ℤ, nat_abs, Option, Some, None}
+use Rattle.std.specs.Char.{is_ascii_digit}
+use Rattle.std.specs.Option.{option_map}
 
 -- ---- reading
--- 48 to 57
-unfoldable pub is_digit : ℕ → Bool
-is_digit b = leb 48 b && leb b 57
+-- the value of digits that come after digits worth v, if each of them is a digit
+unfoldable pub worth : ℕ → List ℕ → Option ℕ
+worth v [] = Some v
+worth v (b ∷ s) = cond (is_ascii_digit b) (worth (v * 10 + (b - 48)) s) None
 
--- the value of digits that come after digits worth v; 0 if one of them is no digit
-unfoldable pub worth : ℕ → List ℕ → ℕ
-worth v [] = v
-worth v (b ∷ s) = cond (is_digit b) (worth (v * 10 + (b - 48)) s) 0
-
--- the value of at most nine digits, the first of them no 0; 0 if the bytes are no such number
-unfoldable pub positive : List ℕ → ℕ
-positive [] = 0
-positive (b ∷ s) = cond (eqb b 48 || ltb 9 (length (b ∷ s))) 0 (worth 0 (b ∷ s))
-
--- a number above 0, after a minus or without one
-abbrev pub unless_zero : (minus : Bool) → ℕ → Field
-unless_zero minus zero = Malformed
-unless_zero true (suc n) = Number (negsuc n)
-unless_zero false (suc n) = Number (pos (suc n))
+-- the value of at most nine digits, the first of them no 0
+unfoldable pub positive : List ℕ → Option ℕ
+positive [] = None
+positive (b ∷ s) = cond (eqb b 48 || ltb 9 (length (b ∷ s))) None (worth 0 (b ∷ s))
 
 -- numbers have at most nine digits, a minus if negative, no leading zero, no -0
-unfoldable pub field_of : List ℕ → Field
-field_of [] = Malformed
+unfoldable pub field_of : List ℕ → Option ℤ
+field_of [] = None
 field_of (b ∷ s) =
     cond (eqb b 45)
-    (unless_zero true (positive s))
+    (option_map (λ n. neg_ℤ (pos n)) (positive s))
     (cond (eqb b 48)
-    (cond (eqb (length s) 0) (Number (pos 0)) Malformed)
-    (unless_zero false (positive (b ∷ s))))
+    (cond (eqb (length s) 0) (Some (pos 0)) None)
+    (option_map pos (positive (b ∷ s))))
 
 -- ---- writing
 -- at most k digits of n, before the bytes s

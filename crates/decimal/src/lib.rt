@@ -1,78 +1,36 @@
 // Numbers as bytes.
 #![tactic(auto)]
 
-ghost use Rattle.std.specs.Prelude.{◌≡◌, ◌^◌, ◌<◌};
-ghost use Rattle.decimal.specs.Decimal.{is_digit, positive, unless_zero, field_of};
+ghost use Rattle.std.specs.Prelude.{◌≡◌, pos};
+ghost use Rattle.std.specs.Option.{option_map};
+ghost use Rattle.decimal.specs.Decimal.{positive, field_of};
 
-// What a field of a text holds.
-#[derive(Clone, Copy)]
-pub enum Field {
-    Number(i32),
-    Malformed,
-}
-
-// Whether b is 0 to 9.
-fn is_digit(b: u8) -> bool
-    ensures { result ≡ is_digit b }
+// The value of at most nine digits, the first of them no 0.
+#[tactic(auto, using(crate::proofs::Reading::refused, crate::proofs::Reading::worth_all, crate::proofs::Reading::worth_other))]
+fn positive(s: &[u8]) -> Option<i32>
+    ensures { result ≡ option_map pos (positive s.now) }
 {
-    b'0' <= b && b <= b'9'
-}
-
-// The value of at most nine digits, the first of them no 0; 0 if the bytes are no such number.
-fn positive(s: &[u8]) -> u32
-    ensures { (result ≡ positive s.now) × (result < 10 ^ 9) }
-{
-    if s.len() == 0 {
-        return 0;
-    }
-    if s[0] == b'0' || 9 < s.len() {
-        return 0;
+    if s.is_empty() || s[0] == b'0' || 9 < s.len() {
+        return None;
     }
     let mut v: u32 = 0;
-    let mut i: usize = 0;
-    while i < s.len() {
-        let b = s[i];
-        if !is_digit(b) {
-            return 0;
+    for b in s {
+        if !b.is_ascii_digit() {
+            return None;
         }
-        v = v * 10 + (b - b'0') as u32;
-        i += 1;
+        v = v * 10 + u32::from(*b - b'0');
     }
-    v
-}
-
-// v after a minus or without one, if it is not 0.
-fn unless_zero(minus: bool, v: u32) -> Field
-    requires { v < 10 ^ 9 }
-    ensures { result ≡ unless_zero minus v }
-{
-    if v == 0 {
-        return Field::Malformed;
-    }
-    let z = v as i32;
-    if minus {
-        Field::Number(0 - z)
-    } else {
-        Field::Number(z)
-    }
+    Some(v as i32)
 }
 
 // The number that a field holds.
-pub fn number(field: &[u8]) -> Field
+#[tactic(auto, using(crate::proofs::Reading::field_zero, crate::proofs::Reading::field_minus, crate::proofs::Reading::field_plain))]
+pub fn number(field: &[u8]) -> Option<i32>
     ensures { result ≡ field_of field.now }
 {
-    if field.len() == 0 {
-        return Field::Malformed;
+    match field {
+        [b'0'] => Some(0),
+        [b'-', digits @ ..] => Some(-positive(digits)?),
+        _ => positive(field),
     }
-    let b = field[0];
-    if b == b'-' {
-        return unless_zero(true, positive(&field[1..]));
-    }
-    if b == b'0' {
-        if field.len() == 1 {
-            return Field::Number(0);
-        }
-        return Field::Malformed;
-    }
-    unless_zero(false, positive(field))
 }

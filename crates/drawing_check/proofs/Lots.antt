@@ -9,8 +9,9 @@ use lib.IntN.{pos, ◌-ℤ◌}
 use Rattle.lists.specs.Members.{any}
 use Rattle.geom.specs.declared.Point.{Point}
 use Rattle.geom.specs.Points.{eq_z, eq_p}
-use Rattle.refusal.specs.declared.Verdict.{Verdict}
-use Rattle.refusal.specs.Order.{first, ◌then◌}
+use Rattle.std.specs.Prelude.{Some, None}
+use Rattle.refusal.specs.declared.Kind.TheVariants.{WrongMeeting, Unbalanced}
+use Rattle.refusal.specs.Order.{Verdict, first, ◌then◌}
 use Rattle.refusal.proofs.Order.{refused_then}
 use Rattle.segm.specs.declared.Segment.{Segment}
 use Rattle.segm.specs.Segments.{Drawing, segment_at}
@@ -35,7 +36,7 @@ module _ (d : Drawing) where
   meeting_unlotted : (i : ℕ) → meeting_at (map unlotted d) i ≡ meeting_at d i
   unfolding meeting_at
   meeting_unlotted i =
-      ap (λ (b : Bool). cond b 8 0) (ap (λ (s : Segment). any (meets_wrongly s) (drop (suc i) (map unlotted d))) (unlotted-at d i) ∙ any_unlotted (segment_at d i) d (suc i))
+      ap (λ (b : Bool). cond b (Some WrongMeeting) None) (ap (λ (s : Segment). any (meets_wrongly s) (drop (suc i) (map unlotted d))) (unlotted-at d i) ∙ any_unlotted (segment_at d i) d (suc i))
 
   meetings_unlotted : meetings_of (map unlotted d) ≡ meetings_of d
   unfolding meetings_of
@@ -50,8 +51,8 @@ module _ (d : Drawing) where
   unbalanced-unlotted : (i : ℕ) → unbalanced_at (map unlotted d) i ≡ unbalanced_at d i
   unfolding unbalanced_at
   unbalanced-unlotted i =
-      ap (λ (s : Segment). cond (balances (map unlotted d) s.a && balances (map unlotted d) s.b) 0 9) (unlotted-at d i)
-      ∙ ap₂ (λ (b c : Bool). cond (b && c) 0 9) (balances-unlotted (segment_at d i).a) (balances-unlotted (segment_at d i).b)
+      ap (λ (s : Segment). cond (balances (map unlotted d) s.a && balances (map unlotted d) s.b) None (Some Unbalanced)) (unlotted-at d i)
+      ∙ ap₂ (λ (b c : Bool). cond (b && c) None (Some Unbalanced)) (balances-unlotted (segment_at d i).a) (balances-unlotted (segment_at d i).b)
 
   unbalanced_of-unlotted : unbalanced_of (map unlotted d) ≡ unbalanced_of d
   unfolding unbalanced_of

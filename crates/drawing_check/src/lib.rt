@@ -1,13 +1,11 @@
-// The verdict on a drawing alone, refusals 3 to 9 and 13, unless something was refused before; and what an accepted drawing leaves for a run: its nodes and top
-// counts.
+// The verdict on a drawing alone, refusals 3 to 9 and 13; and what an accepted drawing leaves for a run: its nodes and top counts.
 #![tactic(auto)]
 
 ghost use Rattle.std.specs.Prelude.{◌≡◌, ℕ, ◌*◌, ◌<◌, ◌≤◌, length, get_or, drop, pos};
 ghost use Rattle.lists.specs.Members.{any};
 ghost use Rattle.lists.specs.UpFrom.{up_from};
-ghost use Rattle.refusal.specs.declared.Verdict.TheVariants.{Accepted};
-ghost use Rattle.refusal.specs.Order.{◌then◌};
-ghost use Rattle.segm.specs.Segments.{segments};
+ghost use Rattle.refusal.specs.Order.{accepted, ◌then◌};
+ghost use Rattle.segm.specs.Segments.{count, segments};
 ghost use Rattle.faults.specs.Faultless.{Proper, Faultless};
 ghost use Rattle.ends.specs.Ends.{end_before};
 ghost use Rattle.ends.specs.Ordering.{ordering};
@@ -15,9 +13,9 @@ ghost use Rattle.meetings.specs.Meetings.{meets_wrongly};
 ghost use Rattle.count_up.specs.CountUp.{BoundedBy, Counted};
 ghost use Rattle.balance.specs.Balance.{NodesByPoint};
 ghost use Rattle.drawing_check.specs.Drawing.{meeting_at, meetings_of, unbalanced_of, drawing_verdict};
-ghost use Rattle.drawing_check.specs.Memory.{DrawingRoom, EndsRoom, OrderedIn, NumberedIn, Checked};
+ghost use Rattle.drawing_check.specs.Memory.{EndsOf, DrawingRoom, EndsRoom, OrderedIn, NumberedIn, Checked};
 
-use refusal::Verdict;
+use refusal::{Kind, Refusal};
 use segm::Segment;
 
 // Whether t meets wrongly with a segment from place j on.
@@ -25,73 +23,69 @@ fn meets_any(s: &[i32], j: usize, t: Segment) -> bool
     requires { Faultless (segments s.now) × Proper t }
     ensures { result ≡ any (meets_wrongly t) (drop j (segments s.now)) }
 {
-    let n = segm::count(s);
-    let mut k = j;
-    while k < n {
+    for k in j..segm::count(s) {
         if meetings::meets_wrongly(t, segm::segment_at(s, k)) {
             return true;
         }
-        k += 1;
     }
     false
 }
 
 // Refusal 8 at place i.
-fn meeting_at(s: &[i32], i: usize) -> u32
-    requires { Faultless (segments s.now) × (i < length (segments s.now)) }
+fn meeting_at(s: &[i32], i: usize) -> Option<Kind>
+    requires { Faultless (segments s.now) × (i < count s.now) }
     ensures { result ≡ meeting_at (segments s.now) i }
 {
     if meets_any(s, i + 1, segm::segment_at(s, i)) {
-        return 8;
+        return Some(Kind::WrongMeeting);
     }
-    0
+    None
 }
 
 // The first place of a segment that meets a later one wrongly, of which there is one: no accepted drawing is searched.
-fn find_pair(s: &[i32]) -> Verdict
-    requires { Faultless (segments s.now) × (meetings_of (segments s.now) ≡ Accepted → ⊥) }
+fn find_pair(s: &[i32]) -> Result<(), Refusal>
+    requires { Faultless (segments s.now) × (meetings_of (segments s.now) ≡ accepted → ⊥) }
     ensures { result ≡ meetings_of (segments s.now) }
 {
-    let n = segm::count(s);
-    let mut i: usize = 0;
-    while i < n {
-        let number = meeting_at(s, i);
-        if number != 0 {
-            return Verdict::Refused(number, i);
-        }
-        i += 1;
-    }
-    Verdict::Accepted
+    refusal::find_first(
+        segm::count(s),
+        |i| -> Option<Kind>
+            requires { Faultless (segments s.now) × (i < count s.now) }
+            ensures { result ≡ meeting_at (segments s.entry.now) i }
+        { meeting_at(s, i) },
+    )
 }
 
 // Refusal 8. The sweep tells whether it fits, and only then are pairs looked at, to name the place. Where it does not fit the sweep has left the top counts.
-fn find_meeting(s: &[i32], flat: &[u16], tops: &mut [i32]) -> Verdict
+fn find_meeting(s: &[i32], flat: &[u16], tops: &mut [i32]) -> Result<(), Refusal>
     requires { let d = segments s.now in
         Faultless d
         × (flat.now ≡ ordering (end_before d) (up_from 0 (2 * length d)))
         × (length d ≤ length tops.old)
         × BoundedBy 0 tops.old }
-    ensures { let d = segments s.now in (result ≡ meetings_of d) × (result ≡ Accepted → Counted d tops.new) }
+    ensures { let d = segments s.now in (result ≡ meetings_of d) × (result ≡ accepted → Counted d tops.new) }
 {
     if meeting_sweep::is_clear(s, flat, tops) {
-        return Verdict::Accepted;
+        return Ok(());
     }
     find_pair(s)
 }
 
 // Refusal 9, at the first place of a segment that touches an unbalanced point.
-fn find_unbalanced(s: &[i32], nodes: &[u16], sums: &mut [i32]) -> Verdict
+fn find_unbalanced(s: &[i32], nodes: &[u16], sums: &mut [i32]) -> Result<(), Refusal>
     requires { Faultless (segments s.now)
         × NodesByPoint (segments s.now) nodes.now
         × (2 * length (segments s.now) ≤ length sums.old)
         × ((v : ℕ) → get_or sums.old v (pos 0) ≡ pos 0) }
     ensures { result ≡ unbalanced_of (segments s.now) }
 {
-    let place = balance::first_unbalanced(s, nodes, sums);
-    if segm::count(s) <= place {
-        return Verdict::Accepted;
+    match balance::first_unbalanced(s, nodes, sums) {
+        Some(place) => Err(Refusal {
+            kind: Kind::Unbalanced,
+            place,
+        }),
+        None => Ok(()),
     }
-    Verdict::Refused(9, place)
 }
 
 // Refusals 8 and 9, by the ordered ends and their nodes; the top counts of a drawing that has neither. The list `sums` is working memory.
@@ -101,7 +95,7 @@ fn find_by_ends(
     nodes: &[u16],
     sums: &mut [i32],
     tops: &mut [i32],
-) -> Verdict
+) -> Result<(), Refusal>
     requires { let d = segments s.now in
         Faultless d
         × OrderedIn d flat.now
@@ -111,13 +105,10 @@ fn find_by_ends(
         × (length d ≤ length tops.old)
         × BoundedBy 0 tops.old }
     ensures { let d = segments s.now in
-        (result ≡ (meetings_of d then unbalanced_of d)) × (result ≡ Accepted → Counted d tops.new) }
+        (result ≡ (meetings_of d then unbalanced_of d)) × (result ≡ accepted → Counted d tops.new) }
 {
     let e = 2 * segm::count(s);
-    let meetings = find_meeting(s, &flat[..e], tops);
-    let Verdict::Accepted = meetings else {
-        return meetings;
-    };
+    find_meeting(s, &flat[..e], tops)?;
     find_unbalanced(s, &nodes[..e], sums)
 }
 
@@ -132,7 +123,7 @@ fn check_ends(
     keys: &mut [u64],
     scratch: &mut [u64],
     sums: &mut [i32],
-) -> Verdict
+) -> Result<(), Refusal>
     requires { let d = segments s.now in
         Faultless d × DrawingRoom d flat.old starts.old nodes.old tops.old × EndsRoom d keys.old scratch.old sums.old }
     ensures { let d = segments s.now in
@@ -142,63 +133,26 @@ fn check_ends(
     find_by_ends(s, flat, nodes, sums, tops)
 }
 
-// The verdict on a small drawing, unless something was refused before. An accepted drawing's nodes and top counts are left in the lists, which are working
-// memory of the run that comes; after a refusal they hold anything. What only the check needs it owns, by size: a run calls this one or the next, so that of
-// this memory a small drawing has no more on the stack than it needs.
+// The verdict on a drawing of up to so many segments. An accepted drawing's nodes and top counts are left in the lists, which are working memory of the run that
+// comes; after a refusal they hold anything. What only the check needs it owns, by size, so that of this memory a small drawing has no more on the stack than it
+// needs.
 #[inline(never)]
-pub fn check_small(
-    before: Verdict,
+pub fn check<const SEGMENTS: usize, const ENDS: usize>(
     s: &[i32],
     flat: &mut [u16],
     starts: &mut [u16],
     nodes: &mut [u16],
     tops: &mut [i32],
-) -> Verdict
-    requires { let d = segments s.now in (length d ≤ 128) × DrawingRoom d flat.old starts.old nodes.old tops.old }
-    ensures { let d = segments s.now in
-        Checked (before then drawing_verdict d) d result flat.new starts.new nodes.new tops.new }
-{
-    let faults = faults::find_fault(before, s);
-    let Verdict::Accepted = faults else {
-        return faults;
-    };
-    let mut keys = [0u64; ends::SMALL];
-    let mut scratch = [0u64; segm::SMALL];
-    let mut sums = [0i32; ends::SMALL];
-    check_ends(
-        s,
-        flat,
-        starts,
-        nodes,
-        tops,
-        &mut keys,
-        &mut scratch,
-        &mut sums,
-    )
-}
-
-// The same of any drawing.
-#[inline(never)]
-pub fn check_any(
-    before: Verdict,
-    s: &[i32],
-    flat: &mut [u16],
-    starts: &mut [u16],
-    nodes: &mut [u16],
-    tops: &mut [i32],
-) -> Verdict
+) -> Result<(), Refusal>
     requires { let d = segments s.now in
-        (before ≡ Accepted → length d ≤ 1024) × DrawingRoom d flat.old starts.old nodes.old tops.old }
+        EndsOf SEGMENTS ENDS × (length d ≤ SEGMENTS) × DrawingRoom d flat.old starts.old nodes.old tops.old }
     ensures { let d = segments s.now in
-        Checked (before then drawing_verdict d) d result flat.new starts.new nodes.new tops.new }
+        Checked (drawing_verdict d) d result flat.new starts.new nodes.new tops.new }
 {
-    let faults = faults::find_fault(before, s);
-    let Verdict::Accepted = faults else {
-        return faults;
-    };
-    let mut keys = [0u64; ends::MOST];
-    let mut scratch = [0u64; segm::MOST];
-    let mut sums = [0i32; ends::MOST];
+    faults::find_fault(s)?;
+    let mut keys = [0u64; ENDS];
+    let mut scratch = [0u64; SEGMENTS];
+    let mut sums = [0i32; ENDS];
     check_ends(
         s,
         flat,

@@ -13,7 +13,7 @@ use Rattle.lists.specs.Members.{◌∈◌, Pairs}
 use Rattle.lists.proofs.Members.{in_at}
 use Rattle.geom.specs.Points.{lt_p, in_range}
 use Rattle.geom.proofs.Points.{not_less_trans, within_l, within_r}
-use Rattle.refusal.specs.declared.Verdict.TheVariants.{Accepted}
+use Rattle.refusal.specs.Order.{accepted}
 use Rattle.segm.specs.declared.Segment.{Segment}
 use Rattle.segm.specs.Segments.{Drawing, nowhere, segment_at}
 use Rattle.segm.proofs.Segments.{everywhere}
@@ -50,7 +50,7 @@ rising_starts : (d : Drawing) → ((i : ℕ) → i < length d → NoFault (segme
 rising_starts d at = rising_pairs d (neighbours d (λ i l. let k : suc i - 1 ≡ i = omega arith in subst (λ (k : ℕ). lt_p (segment_at d (suc i)).a (segment_at d k).a ≡ false) k (at (suc i) l).after))
 
 -- ---- the law
-pub faultless : (d : Drawing) → length d ≤ 1024 → faults_of d ≡ Accepted → Faultless d
+pub faultless : (d : Drawing) → length d ≤ 1024 → faults_of d ≡ accepted → Faultless d
 unfolding segment_at rises bits_in_range lot_in_range
 faultless d few e = record {
   few = few;

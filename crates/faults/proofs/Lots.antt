@@ -5,13 +5,13 @@ use mathlib.Core.Logic.{◌⊎◌, inl, inr}
 use mathlib.Core.Bool.{Bool, true, false, not, cond}
 use Prim.Native.Nat.{ℕ, zero, suc, ◌+◌, ◌-◌}
 use native.Mathlib.Omega.{arith}
-use lib.Dec.{eqb}
+use Rattle.std.specs.Prelude.{Option, Some, None}
 use lib.ListN.{length}
 use Rattle.geom.specs.declared.Point.{Point}
 use Rattle.geom.specs.Points.{within, lt_p}
-use Rattle.refusal.specs.declared.Verdict.{Verdict}
-use Rattle.refusal.specs.declared.Verdict.TheVariants.{Refused}
-use Rattle.refusal.specs.Order.{first_from, first}
+use Rattle.refusal.specs.declared.Kind.{Kind}
+use Rattle.refusal.specs.declared.Kind.TheVariants.{OutOfRange, NotRising, BadWinding, BadBits, OutOfOrder, BadLot}
+use Rattle.refusal.specs.Order.{Verdict, refused_or, first_from, first}
 use Rattle.segm.specs.declared.Segment.{Segment}
 use Rattle.segm.specs.Segments.{Drawing, segment_at}
 use Rattle.segm.specs.Lots.{unlotted}
@@ -19,16 +19,17 @@ use Rattle.segm.proofs.Lots.{length-unlotted, unlotted-at}
 use Rattle.faults.specs.Faults.{ends_in_range, rises, winding_in_range, bits_in_range, lot_in_range, fault, fault_at, faults_of, LotOut}
 
 -- ---- a segment
--- two numbers are the same, or the first is 13, of a segment with its lot out of range
-abbrev OrOut : Segment → ℕ → ℕ → Type 0
-OrOut s m n = (m ≡ n) ⊎ ((lot_in_range s ≡ false) × (m ≡ 13))
+-- the two are the same, or the first is 13, of a segment with its lot out of range
+abbrev OrOut : Segment → Option Kind → Option Kind → Type 0
+OrOut s m n = (m ≡ n) ⊎ ((lot_in_range s ≡ false) × (m ≡ Some BadLot))
 
--- the number by the tests before 7
-abbrev number_by : (ends order winding bits lot : Bool) → ℕ → ℕ
-number_by ends order winding bits lot rest = cond (not ends) 3 (cond (not order) 4 (cond (not winding) 5 (cond (not bits) 6 (cond (not lot) 13 rest))))
+-- what is wrong by the tests before 7
+abbrev found_by : (ends order winding bits lot : Bool) → Option Kind → Option Kind
+found_by ends order winding bits lot rest =
+    cond (not ends) (Some OutOfRange) (cond (not order) (Some NotRising) (cond (not winding) (Some BadWinding) (cond (not bits) (Some BadBits) (cond (not lot) (Some BadLot) rest))))
 
-by_lot : (ends order winding bits lot : Bool) (rest : ℕ)
-    → (number_by ends order winding bits lot rest ≡ number_by ends order winding bits true rest) ⊎ ((lot ≡ false) × (number_by ends order winding bits lot rest ≡ 13))
+by_lot : (ends order winding bits lot : Bool) (rest : Option Kind)
+    → (found_by ends order winding bits lot rest ≡ found_by ends order winding bits true rest) ⊎ ((lot ≡ false) × (found_by ends order winding bits lot rest ≡ Some BadLot))
 by_lot ends order winding bits true rest = inl refl
 by_lot false order winding bits false rest = inl refl
 by_lot true false winding bits false rest = inl refl
@@ -39,7 +40,7 @@ by_lot true true true true false rest = inr (refl, refl)
 -- its fault is that without its lot, or 13
 fault_lot : (p : Point) (s : Segment) → OrOut s (fault p s) (fault p (unlotted s))
 unfolding fault ends_in_range rises winding_in_range bits_in_range lot_in_range within
-fault_lot p s = by_lot (ends_in_range s) (rises s) (winding_in_range s) (bits_in_range s) (lot_in_range s) (cond (lt_p s.a p) 7 0)
+fault_lot p s = by_lot (ends_in_range s) (rises s) (winding_in_range s) (bits_in_range s) (lot_in_range s) (cond (lt_p s.a p) (Some OutOfOrder) None)
 
 -- ---- a drawing
 module _ (d : Drawing) where
@@ -56,13 +57,9 @@ module _ (d : Drawing) where
   Alike v w = (v ≡ w) ⊎ LotOut d v
 
   -- what is found at a place, else what comes after it
-  found_or : (number i : ℕ) {v w : Verdict} → Alike v w → Alike (cond (eqb number 0) v (Refused number i)) (cond (eqb number 0) w (Refused number i))
-  found_or number i {v} {w} (inl q) = inl (ap (λ (u : Verdict). cond (eqb number 0) u (Refused number i)) q)
-  found_or number i {v} {w} (inr o) = by (eqb number 0)
-    where
-      by : (b : Bool) → Alike (cond b v (Refused number i)) (cond b w (Refused number i))
-      by true = inr o
-      by false = inl refl
+  found_or : (o : Option Kind) (i : ℕ) {v w : Verdict} → Alike v w → Alike (refused_or i o v) (refused_or i o w)
+  found_or (Some kind) i a = inl refl
+  found_or None i a = a
 
   faults_from : (left i : ℕ) → i + left ≡ length d → Alike (first_from (fault_at d) left i) (first_from (fault_at (map unlotted d)) left i)
   unfolding first_from
@@ -71,8 +68,8 @@ module _ (d : Drawing) where
     where
       go : OrOut (segment_at d i) (fault_at d i) (fault_at (map unlotted d) i) → Alike (first_from (fault_at d) left (suc i)) (first_from (fault_at (map unlotted d)) left (suc i))
           → Alike (first_from (fault_at d) (suc left) i) (first_from (fault_at (map unlotted d)) (suc left) i)
-      go (inl e) later = subst (λ n. Alike (first_from (fault_at d) (suc left) i) (cond (eqb n 0) (first_from (fault_at (map unlotted d)) left (suc i)) (Refused n i))) e (found_or (fault_at d i) i later)
-      go (inr o) later = inr (record { place = i; inside = omega arith; out = o.0; thirteen = ap (λ n. cond (eqb n 0) (first_from (fault_at d) left (suc i)) (Refused n i)) o.1 })
+      go (inl e) later = subst (λ o. Alike (first_from (fault_at d) (suc left) i) (refused_or i o (first_from (fault_at (map unlotted d)) left (suc i)))) e (found_or (fault_at d i) i later)
+      go (inr o) later = inr (record { place = i; inside = omega arith; out = o.0; thirteen = ap (λ p. refused_or i p (first_from (fault_at d) left (suc i))) o.1 })
 
   -- its faults are those without its lots, or 13
   pub faults_lots : (faults_of d ≡ faults_of (map unlotted d)) ⊎ LotOut d (faults_of d)

@@ -1,10 +1,10 @@
--- What can be wrong with one segment: refusals 3 to 7 and 13, each at the segment's place. A place with nothing wrong has the number 0.
-use Rattle.std.specs.Prelude.{◌≡◌, Bool, false, not, ◌&&◌, cond, ℕ, ◌-◌, ◌<◌, length, pos, neg_ℤ}
+-- What can be wrong with one segment: refusals 3 to 7 and 13, each at the segment's place. A place with nothing wrong has none.
+use Rattle.std.specs.Prelude.{◌≡◌, Bool, false, not, ◌&&◌, cond, ℕ, ◌-◌, ◌<◌, length, pos, neg_ℤ, Option, Some, None}
 use Rattle.geom.specs.declared.Point.{Point}
 use Rattle.geom.specs.Points.{within, lt_p, in_range}
-use Rattle.refusal.specs.declared.Verdict.{Verdict}
-use Rattle.refusal.specs.declared.Verdict.TheVariants.{Refused}
-use Rattle.refusal.specs.Order.{first}
+use Rattle.refusal.specs.declared.Kind.{Kind}
+use Rattle.refusal.specs.declared.Kind.TheVariants.{OutOfRange, NotRising, BadWinding, BadBits, OutOfOrder, BadLot}
+use Rattle.refusal.specs.Order.{Verdict, refused, first}
 use Rattle.segm.specs.declared.Segment.{Segment}
 use Rattle.segm.specs.Segments.{Drawing, segment_at}
 
@@ -29,17 +29,17 @@ unfoldable pub lot_in_range : Segment → Bool
 lot_in_range s = within (pos 0) (pos 9999) s.lot
 
 -- the first of refusals 3, 4, 5, 6, 13, 7 that fits s, where the segment before it starts at p
-unfoldable pub fault : Point → Segment → ℕ
+unfoldable pub fault : Point → Segment → Option Kind
 fault p s =
-    cond (not (ends_in_range s)) 3
-    (cond (not (rises s)) 4
-    (cond (not (winding_in_range s)) 5
-    (cond (not (bits_in_range s)) 6
-    (cond (not (lot_in_range s)) 13
-    (cond (lt_p s.a p) 7 0)))))
+    cond (not (ends_in_range s)) (Some OutOfRange)
+    (cond (not (rises s)) (Some NotRising)
+    (cond (not (winding_in_range s)) (Some BadWinding)
+    (cond (not (bits_in_range s)) (Some BadBits)
+    (cond (not (lot_in_range s)) (Some BadLot)
+    (cond (lt_p s.a p) (Some OutOfOrder) None)))))
 
 -- 3 to 7 and 13, at place i. (No segment is before the first one: it stands there itself, and is not less)
-unfoldable pub fault_at : Drawing → ℕ → ℕ
+unfoldable pub fault_at : Drawing → ℕ → Option Kind
 fault_at d i = fault (segment_at d (i - 1)).a (segment_at d i)
 
 -- 3 to 7 and 13 by place, in that order within one
@@ -51,4 +51,4 @@ pub record LotOut (d : Drawing) (v : Verdict) : Type 0 where
   pub place : ℕ
   pub inside : place < length d
   pub out : lot_in_range (segment_at d place) ≡ false
-  pub thirteen : v ≡ Refused 13 place
+  pub thirteen : v ≡ refused BadLot place

@@ -2,67 +2,53 @@
 #![tactic(auto)]
 
 ghost use Rattle.std.specs.Prelude.{◌≡◌};
-ghost use Rattle.refusal.specs.Order.{◌then◌};
 ghost use Rattle.segm.specs.Segments.{segments};
-ghost use Rattle.faults.specs.Faults.{fault, faults_of};
+ghost use Rattle.faults.specs.Faults.{fault, fault_at, faults_of};
 
 use geom::Point;
-use refusal::Verdict;
+use refusal::{Kind, Refusal};
 use segm::Segment;
 
-// The first of refusals 3, 4, 5, 6, 13, 7 that fits t, where the segment before it starts at p; 0 for none.
-fn fault(p: Point, t: Segment) -> u32
+// The first of refusals 3, 4, 5, 6, 13, 7 that fits t, where the segment before it starts at p.
+#[tactic(auto, unfolding(crate::specs::Faults::fault, crate::specs::Faults::ends_in_range, crate::specs::Faults::rises, crate::specs::Faults::winding_in_range, crate::specs::Faults::bits_in_range, crate::specs::Faults::lot_in_range))]
+fn fault(p: Point, t: Segment) -> Option<Kind>
     ensures { result ≡ fault p t }
 {
     let a = t.a;
     let b = t.b;
     if !(geom::is_in_range(a) & geom::is_in_range(b)) {
-        return 3;
+        return Some(Kind::OutOfRange);
     }
     if !geom::less(a, b) {
-        return 4;
+        return Some(Kind::NotRising);
     }
     if !geom::is_within(-1000, 1000, t.winding) {
-        return 5;
+        return Some(Kind::BadWinding);
     }
     if !geom::is_within(0, 3, t.bits) {
-        return 6;
+        return Some(Kind::BadBits);
     }
     if !geom::is_within(0, 9999, t.lot) {
-        return 13;
+        return Some(Kind::BadLot);
     }
     if geom::less(a, p) {
-        return 7;
+        return Some(Kind::OutOfOrder);
     }
-    0
+    None
 }
 
-// The first place with a fault. The start before is kept from turn to turn: at the first place it is the segment's own.
-fn first_fault(s: &[i32]) -> Verdict
+// What is wrong at place i. No segment is before the first one: it stands there itself.
+#[tactic(auto, unfolding(crate::specs::Faults::fault_at))]
+fn fault_at(s: &[i32], i: usize) -> Option<Kind>
+    ensures { result ≡ fault_at (segments s.now) i }
+{
+    let before = segm::segment_at(s, i.saturating_sub(1));
+    fault(before.a, segm::segment_at(s, i))
+}
+
+// The first place with a fault.
+pub fn find_fault(s: &[i32]) -> Result<(), Refusal>
     ensures { result ≡ faults_of (segments s.now) }
 {
-    let n = segm::count(s);
-    let first = segm::segment_at(s, 0);
-    let mut p = first.a;
-    let mut i: usize = 0;
-    while i < n {
-        let t = segm::segment_at(s, i);
-        let number = fault(p, t);
-        if number != 0 {
-            return Verdict::Refused(number, i);
-        }
-        p = t.a;
-        i += 1;
-    }
-    Verdict::Accepted
-}
-
-// The same, unless something was refused before.
-pub fn find_fault(before: Verdict, s: &[i32]) -> Verdict
-    ensures { result ≡ (before then faults_of (segments s.now)) }
-{
-    let Verdict::Accepted = before else {
-        return before;
-    };
-    first_fault(s)
+    refusal::find_first(segm::count(s), |i| fault_at(s, i))
 }

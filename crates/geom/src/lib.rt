@@ -5,7 +5,7 @@ ghost use Rattle.std.specs.Prelude.{◌≡◌, true, ◌≤◌, nat_abs, ◌-ℤ
 ghost use Rattle.geom.specs.Points.{within, lt_p, eq_p, in_range, travel, cross, between};
 
 // A point, in hundredths of a millimetre, y up.
-#[derive(Clone, Copy)]
+#[derive(Clone, Copy, PartialEq, Eq, PartialOrd, Ord)]
 pub struct Point {
     pub x: i32,
     pub y: i32,
@@ -15,23 +15,14 @@ pub struct Point {
 pub fn less(p: Point, q: Point) -> bool
     ensures { result ≡ lt_p p q }
 {
-    if p.x < q.x {
-        return true;
-    }
-    if q.x < p.x {
-        return false;
-    }
-    p.y < q.y
+    p < q
 }
 
 // Whether p and q are one point.
 pub fn same(p: Point, q: Point) -> bool
     ensures { result ≡ eq_p p q }
 {
-    if p.x != q.x {
-        return false;
-    }
-    p.y == q.y
+    p == q
 }
 
 // Whether z is from low to high.
@@ -86,14 +77,14 @@ pub fn absolute(z: i64) -> u64
     requires { nat_abs z ≤ 1152921504606846976 }
     ensures { result ≡ nat_abs z }
 {
-    if z < 0 { (0 - z) as u64 } else { z as u64 }
+    z.unsigned_abs()
 }
 
 // |z - w|.
 pub fn distance(z: i32, w: i32) -> u64
     ensures { result ≡ nat_abs (z -ℤ w) }
 {
-    absolute(difference(z, w))
+    z.abs_diff(w) as u64
 }
 
 // The travel from p to q, |dx| + |dy|.

@@ -1,7 +1,7 @@
 -- What the driver is handed.
-use Rattle.std.specs.Prelude.{List, ℕ, ℤ, pos}
-use Rattle.refusal.specs.declared.Verdict.{Verdict}
-use Rattle.refusal.specs.declared.Verdict.TheVariants.{Accepted, Refused}
+use Rattle.std.specs.Prelude.{List, ℕ, ℤ, pos, Ok, Err}
+use Rattle.refusal.specs.Numbers.{number_of}
+use Rattle.refusal.specs.Order.{Verdict}
 use Rattle.checks.specs.Runs.{verdict, clip_run}
 use Rattle.string_clip.specs.Run.{Lists, Outcome, clip_outcome}
 use Rattle.measure.specs.declared.Check.{Check}
@@ -15,14 +15,14 @@ verdict_of numbers = verdict (clip_run numbers (pos 0) (pos 0) (pos 0) 8192 2048
 
 -- number and place of a refusal, 0 and 0 of none
 abbrev pub check_numbers : Verdict → Check
-check_numbers Accepted = record { number = 0; place = 0 }
-check_numbers (Refused number place) = record { number = number; place = place }
+check_numbers (Ok _) = record { number = 0; place = 0 }
+check_numbers (Err r) = record { number = number_of r.kind; place = r.place }
 
 -- ---- the sweep
 -- what is told of it: 1 of an accepted drawing, which it clears, 2 of a refused one
 abbrev pub sweep_number : Verdict → ℕ
-sweep_number Accepted = 1
-sweep_number (Refused number place) = 2
+sweep_number (Ok _) = 1
+sweep_number (Err r) = 2
 
 -- ---- both clip runs
 -- what a call of `measure_clip_both` returns, and the lent lists then

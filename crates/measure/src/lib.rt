@@ -9,7 +9,7 @@ ghost use Rattle.string_clip.specs.Run.{lists};
 ghost use Rattle.measure.specs.Numbers.{verdict_of, check_numbers, sweep_number, returned_both, both_numbers};
 
 use c_structs::Clip;
-use refusal::Verdict;
+use refusal::Refusal;
 
 // A refusal's number and place, or 0 and 0.
 #[repr(C)]
@@ -20,25 +20,27 @@ pub struct Check {
 }
 
 // The verdict on a drawing, of a clip run with known choices and lists that are long enough for any.
-fn verdict_of(numbers: &[i32]) -> Verdict
+fn verdict_of(numbers: &[i32]) -> Result<(), Refusal>
     ensures { result ≡ verdict_of numbers.now }
 {
     checks::check_clip(numbers, 0, 0, 0, 8 * segm::MOST, 2 * segm::MOST)
 }
 
 // The number and place of a verdict.
-fn check_of(v: Verdict) -> Check
-    ensures { result ≡ check_numbers v }
-{
-    match v {
-        Verdict::Accepted => Check {
-            number: 0,
-            place: 0,
-        },
-        Verdict::Refused(number, place) => Check {
-            number: number as u64,
-            place: place as u64,
-        },
+impl From<Result<(), Refusal>> for Check {
+    ghost from_gives = { λ verdict told. told ≡ check_numbers verdict };
+
+    fn from(verdict: Result<(), Refusal>) -> Check {
+        match verdict {
+            Ok(()) => Check {
+                number: 0,
+                place: 0,
+            },
+            Err(refusal) => Check {
+                number: refusal.kind.number() as u64,
+                place: refusal.place as u64,
+            },
+        }
     }
 }
 
@@ -47,8 +49,7 @@ fn check_of(v: Verdict) -> Check
 pub extern "C" fn measure_check(numbers: &[i32]) -> Check
     ensures { result ≡ check_numbers (verdict_of numbers.now) }
 {
-    let v = verdict_of(numbers);
-    check_of(v)
+    Check::from(verdict_of(numbers))
 }
 
 // The same of a fills run with this list.
@@ -56,8 +57,7 @@ pub extern "C" fn measure_check(numbers: &[i32]) -> Check
 pub extern "C" fn measure_check_fills(numbers: &[i32], rule: i32, fills: &[u8]) -> Check
     ensures { result ≡ check_numbers (verdict (fills_run numbers.now rule (length fills.now))) }
 {
-    let v = checks::check_fills(numbers, rule, fills.len());
-    check_of(v)
+    Check::from(checks::check_fills(numbers, rule, fills.len()))
 }
 
 // The same of a slice run with these lists.
@@ -73,8 +73,7 @@ pub extern "C" fn measure_check_slice(
     ensures { result ≡ check_numbers (verdict (slice_run numbers.now rule direction (length points.now) (length lengths.now) (length roles.now))) }
 {
     let room = points.len();
-    let v = checks::check_slice(numbers, rule, direction, room, lengths.len(), roles.len());
-    check_of(v)
+    Check::from(checks::check_slice(numbers, rule, direction, room, lengths.len(), roles.len()))
 }
 
 // What the sweep says of an accepted drawing.
@@ -106,8 +105,8 @@ pub extern "C" fn measure_sweep(numbers: &[i32]) -> u64
     ensures { result ≡ sweep_number (verdict_of numbers.now) }
 {
     match verdict_of(numbers) {
-        Verdict::Accepted => is_swept(numbers) as u64,
-        Verdict::Refused(_, _) => 2,
+        Ok(()) => is_swept(numbers) as u64,
+        Err(_) => 2,
     }
 }
 
@@ -142,12 +141,8 @@ pub extern "C" fn measure_clip_both(
         outside_points,
         outside_lengths,
     );
-    let i = both.inside;
-    let o = both.outside;
-    let inside = c_structs::clip_of(i);
-    let outside = c_structs::clip_of(o);
     ClipBoth {
-        inside: inside,
-        outside: outside,
+        inside: Clip::from(both.inside),
+        outside: Clip::from(both.outside),
     }
 }

@@ -20,10 +20,10 @@
 //
 // Names: `s` is the drawing, seven numbers a segment; `flat` its ends in order of x, then y (of n segments, end e below n is the a of segment e, and n + i the
 // b of segment i); `list[..used]` has the places of the open segments; `tops` a top count for each place; `passed` ends and `started` segments are behind the
-// sweep; `near` and `guess` are places of the list to look at first; `clear` says that all tests were passed so far.
+// sweep.
 #![tactic(auto)]
 
-ghost use Rattle.std.specs.Prelude.{◌≡◌, ◌↔◌, true, false, ◌*◌, ◌≤◌, ◌<◌, length, get_or, take};
+ghost use Rattle.std.specs.Prelude.{◌≡◌, ◌↔◌, true, ◌+◌, ◌*◌, ◌≤◌, ◌<◌, length, get_or, take, IfSome, IsSome};
 ghost use Rattle.geom.specs.Points.{eq_z};
 ghost use Rattle.lists.specs.UpFrom.{up_from};
 ghost use Rattle.segm.specs.Segments.{segments};
@@ -40,23 +40,27 @@ ghost use Rattle.meeting_sweep.specs.Events.{Past, Happened, ClearEvent};
 
 use open_list::Status;
 
-// All that is at one x: the ends there are passed, then the starts. Places are sought near a guess.
+// How long the list of a small drawing is, and of the largest: all segments may be open, and a block more moves with them.
+const SMALL_LIST: usize = segm::SMALL + scan::BLOCK;
+
+const LIST: usize = segm::MOST + scan::BLOCK;
+
+// All that is at one x: the ends there are passed, then the starts.
 fn event(
     s: &[i32],
     ends: &[u16],
     from: usize,
     to: usize,
     list: &mut [u16],
-    used: usize,
-    guess: usize,
+    status: Status,
     tops: &mut [i32],
-) -> Status
-    requires { let d = segments s.now in let l = take used list.old in
+) -> Option<Status>
+    requires { let d = segments s.now in let l = take status.used list.old in
         Faultless d
         × Column d ends.now
         × (from ≤ to)
         × (to ≤ length d)
-        × (used ≤ from)
+        × (status.used ≤ from)
         × RoomFor (length d) list.old
         × (length d ≤ length tops.old)
         × PlacesOf d l
@@ -65,18 +69,16 @@ fn event(
         × Splits d from
         × Splits d to
         × BoundedBy (2048000 * from) tops.old }
-    ensures { let d = segments s.now in let l = take used list.old in let l' = take result.used list.new in
-        (result.clear ≡ true → ((result.used ≤ to) × Happened d ends.now from to l l' tops.old tops.new × BoundedBy (2048000 * to) tops.new))
-        × (ClearEvent d ends.now from to l → result.clear ≡ true) }
+    ensures passed { let d = segments s.now in let l = take status.used list.old in
+        IfSome result (λ held. let l' = take held.used list.new in
+        (held.used ≤ to) × Happened d ends.now from to l l' tops.old tops.new × BoundedBy (2048000 * to) tops.new) }
+    ensures can { ClearEvent (segments s.now) ends.now from to (take status.used list.old) → IsSome result }
 {
     if !verticals::are_unbroken(s, ends) {
-        return open_list::unclear();
+        return None;
     }
-    let left = open_list::leave_all(s, ends, list, used, guess);
-    if !left.clear {
-        return open_list::unclear();
-    }
-    starts::start_all(s, from, to, list, left.used, left.near, tops)
+    let left = open_list::leave_all(s, ends, list, status)?;
+    starts::start_all(s, from, to, list, left, tops)
 }
 
 // Whether ends e and f lie at one x.
@@ -94,14 +96,12 @@ fn ends_past(s: &[i32], flat: &[u16], k: usize) -> usize
     ensures { Past (λ j. (end_point (segments s.now) (get_or flat.now j 0)).x) k (length flat.now) (end_point (segments s.now) (get_or flat.now k 0)).x result }
 {
     let e = flat[k] as usize;
-    let mut j = k;
-    while j < flat.len() {
+    for j in k..flat.len() {
         if !at_one_x(s, flat[j] as usize, e) {
             return j;
         }
-        j += 1;
     }
-    j
+    flat.len()
 }
 
 // The first place from k on whose segment does not start at the x of end e.
@@ -111,14 +111,12 @@ fn starts_past(s: &[i32], k: usize, e: usize) -> usize
         Past (λ j. (end_point d j).x) k (length d) (end_point d e).x result }
 {
     let n = segm::count(s);
-    let mut j = k;
-    while j < n {
+    for j in k..n {
         if !at_one_x(s, j, e) {
             return j;
         }
-        j += 1;
     }
-    j
+    n
 }
 
 // The sweep, from x to x of the ordered ends. The list is working memory; the tops are 0 before it.
@@ -133,30 +131,34 @@ fn sweep_events(s: &[i32], flat: &[u16], list: &mut [u16], tops: &mut [i32]) -> 
 {
     let mut passed: usize = 0;
     let mut started: usize = 0;
-    let mut used: usize = 0;
-    let mut near: usize = 0;
+    let mut status = Status { used: 0, near: 0 };
     while passed < flat.len() {
         let ends = ends_past(s, flat, passed);
         let starts = starts_past(s, started, flat[passed] as usize);
-        let held = event(
-            s,
-            &flat[passed..ends],
-            started,
-            starts,
-            list,
-            used,
-            near,
-            tops,
-        );
-        if !held.clear {
+        let event = event(s, &flat[passed..ends], started, starts, list, status, tops);
+        let Some(held) = event else {
             return false;
-        }
+        };
         passed = ends;
         started = starts;
-        used = held.used;
-        near = held.near;
+        status = held;
     }
     true
+}
+
+// The sweep with a list of ROOM places.
+fn sweep_in<const ROOM: usize>(s: &[i32], flat: &[u16], tops: &mut [i32]) -> bool
+    requires { let d = segments s.now in
+        Faultless d
+        × (flat.now ≡ ordering (end_before d) (up_from 0 (2 * length d)))
+        × (length d + 16 ≤ ROOM)
+        × (ROOM ≤ 1040)
+        × (length d ≤ length tops.old)
+        × BoundedBy 0 tops.old }
+    ensures { ((result ≡ true) ↔ NoneMeetWrongly (segments s.now)) × (result ≡ true → Counted (segments s.now) tops.new) }
+{
+    let mut list = [0u16; ROOM];
+    sweep_events(s, flat, &mut list, tops)
 }
 
 // Whether no two segments meet wrongly, of a drawing with its ordered ends. Where none do the tops, which are 0 before, are their top counts.
@@ -169,9 +171,7 @@ pub fn is_clear(s: &[i32], flat: &[u16], tops: &mut [i32]) -> bool
     ensures { ((result ≡ true) ↔ NoneMeetWrongly (segments s.now)) × (result ≡ true → Counted (segments s.now) tops.new) }
 {
     if segm::count(s) <= segm::SMALL {
-        let mut list = [0u16; 144];
-        return sweep_events(s, flat, &mut list, tops);
+        return sweep_in::<SMALL_LIST>(s, flat, tops);
     }
-    let mut list = [0u16; 1040];
-    sweep_events(s, flat, &mut list, tops)
+    sweep_in::<LIST>(s, flat, tops)
 }

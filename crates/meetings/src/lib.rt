@@ -30,39 +30,24 @@ fn crosses(s: Segment, t: Segment) -> bool
     requires { Proper s × Proper t }
     ensures { result ≡ (parts s t && parts t s) }
 {
-    if !parts(s, t) {
-        return false;
-    }
-    parts(t, s)
+    parts(s, t) && parts(t, s)
 }
 
 // Whether an end of t lies on s strictly between its ends.
+#[tactic(auto, unfolding(crate::specs::Meetings::in_interior))]
 fn end_in_interior(s: Segment, t: Segment) -> bool
     requires { Proper s × Proper t }
     ensures { result ≡ (in_interior s t.a || in_interior s t.b) }
 {
-    let a = s.a;
-    let b = s.b;
-    let c = t.a;
-    let d = t.b;
-    if geom::strictly_between(a, b, c) {
-        return true;
-    }
-    geom::strictly_between(a, b, d)
+    geom::strictly_between(s.a, s.b, t.a) || geom::strictly_between(s.a, s.b, t.b)
 }
 
 // Whether both ends are equal.
+#[tactic(auto, unfolding(crate::specs::Meetings::same_ends))]
 fn same_ends(s: Segment, t: Segment) -> bool
     ensures { result ≡ same_ends s t }
 {
-    let a = s.a;
-    let b = s.b;
-    let c = t.a;
-    let d = t.b;
-    if !geom::same(a, c) {
-        return false;
-    }
-    geom::same(b, d)
+    geom::same(s.a, t.a) && geom::same(s.b, t.b)
 }
 
 // Whether two segments meet wrongly. One that starts to the right of the other's b does not: that is the cheap test, and the commonest.

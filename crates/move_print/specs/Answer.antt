@@ -1,17 +1,17 @@
 -- What is printed for a text that is moved. The contracts of `move_print` cite these.
-use Rattle.std.specs.Prelude.{List, ℕ, replicate}
+use Rattle.std.specs.Prelude.{List, ℕ, replicate, Result, Ok, Err}
+use Rattle.refusal.specs.declared.Refusal.{Refusal}
+use Rattle.refusal.specs.Numbers.{number_of}
 use Rattle.writing.specs.Lines.{refused_line}
 use Rattle.text.specs.Grammar.{most_bytes}
 use Rattle.text_forms.specs.declared.Form.{Form}
-use Rattle.stored_text.specs.declared.Wrote.{Wrote}
-use Rattle.stored_text.specs.declared.Wrote.TheVariants.{Done, Refused}
 use Rattle.stored_text.specs.Outcome.{Outcome, move_outcome}
 use Rattle.stored_text.specs.Laws.{bytes_of}
 
 -- the bytes that were written, or the line of the refusal
-abbrev pub printed_of : Wrote → List ℕ → List ℕ
-printed_of (Done count) bytes = bytes
-printed_of (Refused number place) bytes = refused_line number place
+abbrev pub printed_of : Result ℕ Refusal → List ℕ → List ℕ
+printed_of (Ok count) bytes = bytes
+printed_of (Err e) bytes = refused_line (number_of e.kind) e.place
 
 -- the same of an outcome
 unfoldable pub printed : Outcome → List ℕ

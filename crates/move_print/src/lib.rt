@@ -9,7 +9,6 @@ ghost use Rattle.lists.specs.Written.{written};
 ghost use Rattle.move_print.specs.Answer.{answer_to};
 
 pub use program::run;
-use stored_text::Wrote;
 use text_forms::Form;
 
 // What is printed for a text, put at the front of `out`; tells how many bytes that are.
@@ -18,7 +17,7 @@ pub fn answer(text: &[u8], from: Form, to: Form, out: &mut [u8; text::MOST_BYTES
     ensures value { (result ≡ length (answer_to from to text.now)) × (out.new ≡ written (answer_to from to text.now) out.old) }
 {
     match stored_text::move_text(text, from, to, out) {
-        Wrote::Done(count) => count,
-        Wrote::Refused(number, place) => writing::put_refused(number, place, out),
+        Ok(count) => count,
+        Err(refusal) => writing::put_refused(refusal, out),
     }
 }

@@ -1,18 +1,16 @@
 -- Moves named by the end of a link that they leave: where they lead, the bit that they take, and the ends of a node.
 use mathlib.Core.Path.{◌≡◌, refl, sym, ◌∙◌, ap, subst}
-use mathlib.Core.List.{List, [], ◌∷◌}
-use mathlib.Core.Logic.{inl, inr}
+use mathlib.Core.List.{List}
 use mathlib.Core.Bool.{Bool, true, false, beq}
-use Prim.Native.Nat.{ℕ, zero, suc, ◌+◌, ◌-◌, ◌*◌, ◌<◌, ◌≤◌}
+use Prim.Native.Nat.{ℕ, ◌+◌, ◌-◌, ◌*◌, ◌<◌, ◌≤◌}
 use native.Mathlib.Omega.{arith}
 use native.Mathlib.Decide.{dec_le}
 use native.Mathlib.Numerals.{add-one}
-use borrow.Author.Tests.{ltb-true, ltb-false, lt-ltb, le-ltb}
-use lib.Dec.{ltb}
+use borrow.Author.Tests.{lt-ltb, le-ltb}
 use lib.ListN.{length, get_or, take, drop}
-use lib.Seq.{drop-cons}
 use Rattle.geom.specs.declared.Point.{Point}
 use Rattle.lists.specs.Members.{◌∈◌}
+use Rattle.lists.proofs.Members.{in_at}
 use Rattle.segm.specs.Segments.{Drawing, segment_at}
 use Rattle.ends.specs.Ends.{end_point}
 use Rattle.ends.proofs.Ends.{end_a, end_b}
@@ -89,35 +87,15 @@ fits links rise out f p b q = go (dec_le (length links) f)
 pub node_at_lem : {links : Drawing} {flat starts nodes : List ℕ} → Nodes links flat starts nodes → (e : ℕ) → e < 2 * length links → NodeAt (length links) flat starts (get_or nodes e 0)
 node_at_lem n e h = record { known = n.known e h; rising = n.rising e h; in_flat = omega (arith, n.inside e h, n.all_ends); ends = λ f i. (n.ends e f h i).0 }
 
--- a part of a flat list from j on
-abbrev pub part_from : List ℕ → ℕ → ℕ → List ℕ
-part_from flat end j = take (end - j) (drop j flat)
-
-pub part_step : (flat : List ℕ) (end j : ℕ) → j < end → end ≤ length flat → part_from flat end j ≡ get_or flat j 0 ∷ part_from flat end (j + 1)
-part_step flat end j h k =
-    let e : end - j ≡ suc (end - (j + 1)) = omega arith in
-    rw (e, drop-cons flat j 0 (omega arith), add-one)
-
-pub part_end : (flat : List ℕ) (end j : ℕ) → end ≤ j → part_from flat end j ≡ []
-part_end flat end j h = let e : end - j ≡ 0 = omega arith in rw e
-
--- the parts from j on are parts of the node's
-part_in : (flat : List ℕ) (end j k x : ℕ) → j ≤ k → end ≤ length flat → x ∈ part_from flat end k → x ∈ part_from flat end j
-part_in flat end j k x h l m = go (k - j) j (omega arith)
-  where
-    go : (n i : ℕ) → i + n ≡ k → x ∈ part_from flat end i
-    go zero i e = let q : k ≡ i = omega arith in subst (λ t. x ∈ part_from flat end t) q m
-    go (suc n) i e = by (ltb i end) refl (go n (i + 1) (omega arith))
-      where
-        by : (b : Bool) → ltb i end ≡ b → x ∈ part_from flat end (i + 1) → x ∈ part_from flat end i
-        by true q r = subst (λ t. x ∈ t) (sym (part_step flat end i (ltb-true i end q) l)) (inr r)
-        by false q r = absurd (subst (λ t. x ∈ t) (part_end flat end (i + 1) (omega (arith, ltb-false i end q))) r)
-
--- the end at place j of a node's part
-pub end_below : (m : ℕ) (flat starts : List ℕ) (v j end : ℕ) → NodeAt m flat starts v → get_or starts v 0 ≤ j → j < end → end ≡ get_or starts (suc v) 0 → get_or flat j 0 < 2 * m
+-- a node's part as a range of the flat list
+pub part_is : (flat starts : List ℕ) (v : ℕ) → take (get_or starts (v + 1) 0 - get_or starts v 0) (drop (get_or starts v 0) flat) ≡ part flat starts v
 unfolding part
-end_below m flat starts v j end n low h q =
-    let e = get_or flat j 0 in
-    let within : end ≤ length flat = omega (arith, q, n.in_flat) in
-    let mem : e ∈ part_from flat end (get_or starts v 0) = part_in flat end (get_or starts v 0) j e low within (subst (λ (t : List ℕ). e ∈ t) (sym (part_step flat end j h within)) (inl refl)) in
-    n.ends e (subst (λ t. e ∈ part_from flat t (get_or starts v 0)) q mem)
+part_is flat starts v = rw add-one
+
+-- the end at place j of it
+pub end_below : (m : ℕ) (flat starts : List ℕ) (v j : ℕ) → NodeAt m flat starts v
+    → j < length (take (get_or starts (v + 1) 0 - get_or starts v 0) (drop (get_or starts v 0) flat))
+    → get_or (take (get_or starts (v + 1) 0 - get_or starts v 0) (drop (get_or starts v 0) flat)) j 0 < 2 * m
+end_below m flat starts v j n h =
+    n.ends (get_or (take (get_or starts (v + 1) 0 - get_or starts v 0) (drop (get_or starts v 0) flat)) j 0)
+    (subst (λ l. get_or (take (get_or starts (v + 1) 0 - get_or starts v 0) (drop (get_or starts v 0) flat)) j 0 ∈ l) (part_is flat starts v) (in_at (take (get_or starts (v + 1) 0 - get_or starts v 0) (drop (get_or starts v 0) flat)) 0 j h))

@@ -14,35 +14,37 @@ pub struct Link {
     pub bits: u8,
 }
 
-// The end that a walk leaves next, or none: it stops.
+// The nodes of links, as the lists that say what they are: the ends of each node, one node after the other; where each begins; and the node of each end.
 #[derive(Clone, Copy)]
-pub enum NextEnd {
-    Stop,
-    Leave(usize),
+pub struct Graph<'a> {
+    pub flat: &'a [u16],
+    pub starts: &'a [u16],
+    pub nodes: &'a [u16],
 }
 
 // Whether a bit is set: bit 1, from a to b, or bit 2, from b to a.
+#[tactic(auto, unfolding(crate::specs::Bits::has))]
 pub fn has(bits: u8, forth: bool) -> bool
     ensures { result ≡ has forth bits }
 {
     if forth {
-        return bits % 2 == 1;
+        bits % 2 == 1
+    } else {
+        bits / 2 % 2 == 1
     }
-    bits / 2 % 2 == 1
 }
 
 // The bits without one that is set.
+#[tactic(auto, unfolding(crate::specs::Bits::has, crate::specs::Bits::clear))]
 fn cleared(bits: u8, forth: bool) -> u8
     requires { has forth bits ≡ true }
     ensures { result ≡ clear forth bits }
 {
-    if forth {
-        return bits - 1;
-    }
-    bits - 2
+    if forth { bits - 1 } else { bits - 2 }
 }
 
 // Link k.
+#[tactic(auto, unfolding(crate::specs::ByEnd::link_at))]
 pub fn link_at(nodes: &[u16], bits: &[u8], k: usize) -> Link
     requires { (k < length bits.now) × (length bits.now ≤ 1024) × (2 * length bits.now ≤ length nodes.now) }
     ensures { result ≡ link_at nodes.now bits.now k }
@@ -56,13 +58,15 @@ pub fn link_at(nodes: &[u16], bits: &[u8], k: usize) -> Link
 }
 
 // The link with one of its bits cleared.
+#[tactic(auto, unfolding(crate::specs::ByEnd::visited))]
 fn visit(link: Link, forth: bool) -> Link
     requires { has forth link.bits ≡ true }
     ensures { result ≡ visited link forth }
 {
-    let mut l = link;
-    l.bits = cleared(link.bits, forth);
-    l
+    Link {
+        bits: cleared(link.bits, forth),
+        ..link
+    }
 }
 
 // Clears one bit of link k, in place.
@@ -84,6 +88,7 @@ fn visit_lent(link: Link, forth: bool) -> Link
 }
 
 // Whether the bit remains that a move leaving end e takes.
+#[tactic(auto, using(graph::proofs::Node::link_of_end), unfolding(crate::specs::Moves::remains, crate::specs::ByEnd::move_of))]
 pub fn remains(bits: &[u8], e: usize, out: bool) -> bool
     requires { e < 2 * length bits.now }
     ensures { result ≡ remains bits.now (move_of (length bits.now) out e) }
@@ -94,6 +99,7 @@ pub fn remains(bits: &[u8], e: usize, out: bool) -> bool
 }
 
 // Clears the bit of a move that leaves end e.
+#[tactic(auto, using(graph::proofs::Node::link_of_end), unfolding(crate::specs::Moves::remains, crate::specs::Moves::taken, crate::specs::ByEnd::move_of, crate::specs::ByEnd::link_at, crate::specs::ByEnd::visited))]
 pub fn take(nodes: &[u16], bits: &mut [u8], e: usize, out: bool)
     requires { (e < 2 * length bits.old) × (length bits.old ≤ 1024) × (2 * length bits.old ≤ length nodes.now) × (remains bits.old (move_of (length bits.old) out e) ≡ true) }
     ensures { bits.new ≡ taken bits.old (move_of (length bits.old) out e) }

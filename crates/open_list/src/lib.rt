@@ -3,13 +3,13 @@
 // search, the new neighbours are compared, and the list is moved. Vertical segments are passed over.
 //
 // Each promise has two halves: what holds of the list where all tests were passed, and where they are: in a drawing in which no two segments meet wrongly, of
-// a list that spans one strip.
+// a list that spans one strip. A test that is not passed ends all with None.
 //
 // Names: `list[..used]` has places of the drawing; k is a place of the list, i and j are places of the drawing with the segments t and u, and e is an end;
-// `near` is where the last one left or entered, `guess` where to look first.
+// `near` is where the last one left or entered, and where to look first.
 #![tactic(auto)]
 
-ghost use Rattle.std.specs.Prelude.{◌≡◌, [], ◌∷◌, ◌↔◌, true, false, ℕ, ◌+◌, ◌*◌, ◌≤◌, ◌<◌, length, get_or, take, ℤ};
+ghost use Rattle.std.specs.Prelude.{◌≡◌, [], ◌∷◌, ◌↔◌, true, ℕ, ◌+◌, ◌*◌, ◌≤◌, ◌<◌, length, get_or, take, ℤ, IfSome, IsSome};
 ghost use Rattle.lists.specs.Members.{◌∈◌};
 ghost use Rattle.segm.specs.Segments.{segments, segment_at};
 ghost use Rattle.faults.specs.Faultless.{Proper, Faultless};
@@ -21,24 +21,12 @@ ghost use Rattle.open_list.specs.OpenList.{StandsOver, StandsUnder, FitsAt, Clos
 use scan::Sought;
 use segm::Segment;
 
-// How many segments are open, a place of the list, and whether all tests were passed so far. The place is where a segment left or entered: at one x ends and
-// starts come in order, so that of the next one is near; and what changes at the next x is often near the lowest that changed at this one.
+// How many segments are open, and a place of the list: where a segment left or entered. At one x ends and starts come in order, so that of the next one is
+// near; and what changes at the next x is often near the lowest that changed at this one.
 #[derive(Clone, Copy)]
 pub struct Status {
     pub used: usize,
     pub near: usize,
-    pub clear: bool,
-}
-
-// A test was not passed.
-pub fn unclear() -> Status
-    ensures { result.clear ≡ false }
-{
-    Status {
-        used: 0,
-        near: 0,
-        clear: false,
-    }
 }
 
 // Whether u may stand right over t: t is the lower, and the two do not meet wrongly. Where the later start and its other end lie on one side of the other
@@ -128,140 +116,116 @@ fn closes_at(s: &[i32], list: &[u16], k: usize) -> bool
 }
 
 // End e is passed: where a segment that is not vertical ends there, it leaves the list.
-fn leave_one(s: &[i32], e: u16, list: &mut [u16], used: usize, near: usize) -> Status
-    requires { let d = segments s.now in let l = take used list.old in
+fn leave_one(s: &[i32], e: u16, list: &mut [u16], status: Status) -> Option<Status>
+    requires { let d = segments s.now in let l = take status.used list.old in
         Faultless d
         × (e < 2 * length d)
-        × RoomFor used list.old
+        × RoomFor status.used list.old
         × PlacesOf d l
         × InOrder d l
         × Distinct l }
-    ensures { let d = segments s.now in let l = take used list.old in
-        (result.clear ≡ true → ((result.used ≤ used) × HasLeft d (e ∷ []) l (take result.used list.new)))
-        × (CanLeave d (e ∷ []) l → result.clear ≡ true) }
+    ensures passed { let d = segments s.now in let l = take status.used list.old in
+        IfSome result (λ left. (left.used ≤ status.used) × HasLeft d (e ∷ []) l (take left.used list.new)) }
+    ensures can { CanLeave (segments s.now) (e ∷ []) (take status.used list.old) → IsSome result }
 {
     let n = segm::count(s);
     let end = e as usize;
     if end < n {
-        return Status {
-            used: used,
-            near: near,
-            clear: true,
-        };
+        return Some(status);
     }
     let i = end - n;
     let t = segm::segment_in(s, i);
     if scan::is_vertical(t) {
-        return Status {
-            used: used,
-            near: near,
-            clear: true,
-        };
+        return Some(status);
     }
-    take_out(s, t, i, list, used, near)
+    take_out(s, t, i, list, status)
 }
 
-// A place of the list for i, whose segment is t: where the last one left or before it, if it stands there, else by search. Without a wrong meeting it stands
-// there.
-fn place_to_leave(s: &[i32], t: Segment, i: usize, list: &[u16], near: usize) -> usize
+// The place of the list at which i stands, whose segment is t: where the last one left or before it, else by search. Without a wrong meeting it is found.
+fn place_to_leave(s: &[i32], t: Segment, i: usize, list: &[u16], near: usize) -> Option<usize>
     requires { let d = segments s.now in
         Faultless d
         × (t ≡ segment_at d i)
         × (i < length d)
         × PlacesOf d list.now
         × InOrder d list.now }
-    ensures { let l = list.now in
-        (x : ℤ) → Spanning (segments s.now) x l → i ∈ l → ((result < length l) × (get_or l result 0 ≡ i)) }
+    ensures stands { IfSome result (λ k. (k < length list.now) × (get_or list.now k 0 ≡ i)) }
+    ensures can { (x : ℤ) → Spanning (segments s.now) x list.now → i ∈ list.now → IsSome result }
 {
-    if near < list.len() {
-        if list[near] as usize == i {
-            return near;
-        }
+    if near < list.len() && list[near] as usize == i {
+        return Some(near);
     }
-    if 0 < near {
-        if near <= list.len() {
-            if list[near - 1] as usize == i {
-                return near - 1;
-            }
-        }
+    if 0 < near && near <= list.len() && list[near - 1] as usize == i {
+        return Some(near - 1);
     }
-    scan::place_of(s, list, Sought::Along(t))
+    let k = scan::place_of(s, list, Sought::Along(t));
+    if k < list.len() && list[k] as usize == i {
+        return Some(k);
+    }
+    None
 }
 
 // The segment t, at place i of the drawing, leaves the list.
-fn take_out(s: &[i32], t: Segment, i: usize, list: &mut [u16], used: usize, near: usize) -> Status
-    requires { let d = segments s.now in let l = take used list.old in
+fn take_out(s: &[i32], t: Segment, i: usize, list: &mut [u16], status: Status) -> Option<Status>
+    requires { let d = segments s.now in let l = take status.used list.old in
         Faultless d
         × (t ≡ segment_at d i)
         × (i < length d)
-        × RoomFor used list.old
+        × RoomFor status.used list.old
         × PlacesOf d l
         × InOrder d l
         × Distinct l }
-    ensures { let d = segments s.now in let l = take used list.old in
-        (result.clear ≡ true → ((result.used ≤ used) × HasLeft d ((length d + i) ∷ []) l (take result.used list.new)))
-        × ((x : ℤ) → Spanning d x l → i ∈ l → result.clear ≡ true) }
+    ensures passed { let d = segments s.now in let l = take status.used list.old in
+        IfSome result (λ left. (left.used ≤ status.used) × HasLeft d ((length d + i) ∷ []) l (take left.used list.new)) }
+    ensures can { let l = take status.used list.old in
+        (x : ℤ) → Spanning (segments s.now) x l → i ∈ l → IsSome result }
 {
-    let k = place_to_leave(s, t, i, &list[..used], near);
-    if used <= k {
-        return unclear();
-    }
-    if list[k] as usize != i {
-        return unclear();
-    }
+    let used = status.used;
+    let k = place_to_leave(s, t, i, &list[..used], status.near)?;
     if !closes_at(s, &list[..used], k) {
-        return unclear();
+        return None;
     }
     scan::remove(list, used, k);
-    let fewer = used - 1;
-    Status {
-        used: fewer,
+    Some(Status {
+        used: used - 1,
         near: k,
-        clear: true,
+    })
+}
+
+// The lower of a place at which one left or entered, and the lowest before it, if there is one.
+pub fn lowest_place(before: Option<usize>, here: usize) -> usize {
+    match before {
+        Some(lowest) => lowest.min(here),
+        None => here,
     }
 }
 
-// The lowest place so far at which one left or entered: here, if none has before.
-pub fn lowest_place(none_before: bool, lowest: usize, here: usize) -> usize {
-    if none_before | (here < lowest) {
-        here
-    } else {
-        lowest
-    }
-}
-
-// All these ends are passed, one after the other. The place told is the lowest at which one left, or the guess.
-pub fn leave_all(s: &[i32], ends: &[u16], list: &mut [u16], used: usize, guess: usize) -> Status
-    requires { let d = segments s.now in let l = take used list.old in
+// All these ends are passed, one after the other. The place told is the lowest at which one left, or the one before.
+pub fn leave_all(s: &[i32], ends: &[u16], list: &mut [u16], status: Status) -> Option<Status>
+    requires { let d = segments s.now in let l = take status.used list.old in
         Faultless d
         × ((e : ℕ) → e ∈ ends.now → e < 2 * length d)
-        × RoomFor used list.old
+        × RoomFor status.used list.old
         × PlacesOf d l
         × InOrder d l
         × Distinct l }
-    ensures { let d = segments s.now in let l = take used list.old in
-        (result.clear ≡ true → ((result.used ≤ used) × HasLeft d ends.now l (take result.used list.new)))
-        × (CanLeave d ends.now l → result.clear ≡ true) }
+    ensures passed { let d = segments s.now in let l = take status.used list.old in
+        IfSome result (λ left. (left.used ≤ status.used) × HasLeft d ends.now l (take left.used list.new)) }
+    ensures can { CanLeave (segments s.now) ends.now (take status.used list.old) → IsSome result }
 {
-    let mut held = used;
-    let mut near = guess;
-    let mut lowest = guess;
-    let mut k: usize = 0;
-    while k < ends.len() {
-        let left = leave_one(s, ends[k], list, held, near);
-        if !left.clear {
-            return unclear();
+    let mut held = status;
+    let mut lowest = None;
+    for e in ends {
+        let before = held.used;
+        held = leave_one(s, *e, list, held)?;
+        if held.used < before {
+            lowest = Some(lowest_place(lowest, held.near));
         }
-        near = left.near;
-        lowest = lowest_place(held == used, lowest, near);
-        held = left.used;
-        k += 1;
     }
-    Status {
-        used: held,
-        near: lowest,
-        clear: true,
-    }
+    Some(Status {
+        used: held.used,
+        near: lowest.unwrap_or(status.near),
+    })
 }
 
 // Whether the segment at place i may stand at place k of the list.
@@ -270,113 +234,77 @@ fn fits_at(s: &[i32], list: &[u16], k: usize, i: u16) -> bool
         Faultless d × PlacesOf d list.now × (i < length d) × (k ≤ length list.now) }
     ensures { (result ≡ true) ↔ FitsAt (segments s.now) k i list.now }
 {
-    if !stands_over(s, list, k, i) {
-        return false;
-    }
-    stands_under(s, list, k, i)
+    stands_over(s, list, k, i) && stands_under(s, list, k, i)
 }
 
-// A place of the list, and whether a segment may stand there.
-#[derive(Clone, Copy)]
-struct Place {
-    at: usize,
-    fits: bool,
-}
-
-// A place for the segment t, at place i of the drawing: where the last one entered, if it fits there, else by search. Without a wrong meeting it fits.
-fn place_to_enter(s: &[i32], t: Segment, i: u16, list: &[u16], near: usize) -> Place
+// A place at which the segment t, at place i of the drawing, fits: where the last one entered, else by search. Without a wrong meeting it is found.
+fn place_to_enter(s: &[i32], t: Segment, i: u16, list: &[u16], near: usize) -> Option<usize>
     requires { let d = segments s.now in
         Faultless d × (t ≡ segment_at d i) × PlacesOf d list.now × (i < length d) }
-    ensures { let d = segments s.now in let l = list.now in
-        (result.fits ≡ true → FitsAt d result.at i l)
-        × ((x : ℤ) → Spanning d x (i ∷ l) → (i ∈ l → ⊥) → result.fits ≡ true) }
+    ensures fits { IfSome result (λ k. FitsAt (segments s.now) k i list.now) }
+    ensures can { let l = list.now in
+        (x : ℤ) → Spanning (segments s.now) x (i ∷ l) → (i ∈ l → ⊥) → IsSome result }
 {
-    if near <= list.len() {
-        if fits_at(s, list, near, i) {
-            return Place {
-                at: near,
-                fits: true,
-            };
-        }
+    if near <= list.len() && fits_at(s, list, near, i) {
+        return Some(near);
     }
     let k = scan::place_of(s, list, Sought::Along(t));
-    Place {
-        at: k,
-        fits: fits_at(s, list, k, i),
+    if fits_at(s, list, k, i) {
+        return Some(k);
     }
+    None
 }
 
 // The segment at place i is passed: where it is not vertical it enters the list.
-fn enter_one(s: &[i32], i: usize, list: &mut [u16], used: usize, near: usize) -> Status
-    requires { let d = segments s.now in let l = take used list.old in
+fn enter_one(s: &[i32], i: usize, list: &mut [u16], status: Status) -> Option<Status>
+    requires { let d = segments s.now in let l = take status.used list.old in
         Faultless d
         × (i < length d)
-        × RoomFor used list.old
+        × RoomFor status.used list.old
         × PlacesOf d l
         × InOrder d l }
-    ensures { let d = segments s.now in let l = take used list.old in let l' = take result.used list.new in
-        (result.clear ≡ true → ((result.used ≤ used + 1) × Entered d i (i + 1) l l' × Marked i near l result.near l'))
-        × (CanEnter d i (i + 1) l → result.clear ≡ true) }
+    ensures passed { let d = segments s.now in let l = take status.used list.old in
+        IfSome result (λ entered. let l' = take entered.used list.new in
+        (entered.used ≤ status.used + 1) × Entered d i (i + 1) l l' × Marked i status.near l entered.near l') }
+    ensures can { CanEnter (segments s.now) i (i + 1) (take status.used list.old) → IsSome result }
 {
     let t = segm::segment_in(s, i);
     if scan::is_vertical(t) {
-        return Status {
-            used: used,
-            near: near,
-            clear: true,
-        };
+        return Some(status);
     }
-    let place = place_to_enter(s, t, i as u16, &list[..used], near);
-    if !place.fits {
-        return unclear();
-    }
-    let k = place.at;
+    let used = status.used;
+    let k = place_to_enter(s, t, i as u16, &list[..used], status.near)?;
     scan::insert(list, used, k, i as u16);
-    let more = used + 1;
-    let after = k + 1;
-    Status {
-        used: more,
-        near: after,
-        clear: true,
-    }
+    Some(Status {
+        used: used + 1,
+        near: k + 1,
+    })
 }
 
-// The segments from one place up to another are passed. The place told is that after the last one that entered, or the guess.
+// The segments from one place up to another are passed. The place told is that after the last one that entered, or the one before.
 pub fn enter_all(
     s: &[i32],
     from: usize,
     to: usize,
     list: &mut [u16],
-    used: usize,
-    guess: usize,
-) -> Status
-    requires { let d = segments s.now in let l = take used list.old in
+    status: Status,
+) -> Option<Status>
+    requires { let d = segments s.now in let l = take status.used list.old in
         Faultless d
         × (from ≤ to)
         × (to ≤ length d)
-        × (used ≤ from)
+        × (status.used ≤ from)
         × RoomFor (length d) list.old
         × PlacesOf d l
         × InOrder d l }
-    ensures { let d = segments s.now in let l = take used list.old in let l' = take result.used list.new in
-        (result.clear ≡ true → ((result.used ≤ to) × Entered d from to l l' × (Older from l → Marks from result.near l')))
-        × (CanEnter d from to l → result.clear ≡ true) }
+    ensures passed { let d = segments s.now in let l = take status.used list.old in
+        IfSome result (λ entered. let l' = take entered.used list.new in
+        (entered.used ≤ to) × Entered d from to l l' × (Older from l → Marks from entered.near l')) }
+    ensures can { CanEnter (segments s.now) from to (take status.used list.old) → IsSome result }
 {
-    let mut held = used;
-    let mut near = guess;
-    let mut i = from;
-    while i < to {
-        let entered = enter_one(s, i, list, held, near);
-        if !entered.clear {
-            return unclear();
-        }
-        near = entered.near;
-        held = entered.used;
-        i += 1;
+    let mut held = status;
+    for i in from..to {
+        held = enter_one(s, i, list, held)?;
     }
-    Status {
-        used: held,
-        near: near,
-        clear: true,
-    }
+    Some(held)
 }

@@ -14,7 +14,7 @@ pub extern "C" fn overlay_fills(numbers: &[i32], rule: i32, fills: &mut [u8]) ->
     ensures { returned result fills.new ≡ fills_numbers numbers.now rule fills.old }
 {
     let answer = build::fills(numbers, rule, fills);
-    c_structs::fills_of(answer)
+    Fills::from(answer)
 }
 
 // The cut lines inside or outside, as x, y pairs and one length a path.
@@ -30,7 +30,7 @@ pub extern "C" fn overlay_clip(
     ensures { returned_clip result (clip_lists points.new lengths.new) ≡ clip_numbers numbers.now rule invert boundary (clip_lists points.old lengths.old) }
 {
     let answer = string_clip::clip(numbers, rule, invert, boundary, points, lengths);
-    c_structs::clip_of(answer)
+    Clip::from(answer)
 }
 
 // The contours of the filled area cut along all segments, as x, y pairs and one length and one role a contour.
@@ -47,7 +47,7 @@ pub extern "C" fn overlay_slice(
     ensures { returned_slice result (slice_lists points.new lengths.new roles.new) ≡ slice_numbers numbers.now rule direction min_area (slice_lists points.old lengths.old roles.old) }
 {
     let answer = string_slice::slice(numbers, rule, direction, min_area, points, lengths, roles);
-    c_structs::slice_of(answer)
+    Slice::from(answer)
 }
 
 // The loops of a list of points, as x, y pairs and one length a loop.
@@ -61,7 +61,7 @@ pub extern "C" fn overlay_split(
     ensures { returned_split result (split_lists out.new lengths.new) ≡ split_numbers points.now min_area (split_lists out.old lengths.old) }
 {
     let answer = string_split::split(points, min_area, out, lengths);
-    c_structs::split_of(answer)
+    Split::from(answer)
 }
 
 // A comma text read: the numbers of its segments.
@@ -70,7 +70,7 @@ pub extern "C" fn overlay_read(text: &[u8], numbers: &mut [i32]) -> Read
     ensures { returned_read result numbers.new ≡ read_numbers text.now numbers.old }
 {
     let answer = text::read(text, segm::WIDTH, numbers);
-    c_structs::read_of(answer)
+    Read::from(answer)
 }
 
 // The text of a drawing and its choices.
@@ -85,7 +85,7 @@ pub extern "C" fn overlay_write(
     ensures { returned_write result text.new ≡ write_numbers numbers.now rule invert boundary text.old }
 {
     let answer = stored_text::write(numbers, rule, invert, boundary, text);
-    c_structs::write_of(answer)
+    Write::from(answer)
 }
 
 // A text without lots moved to the form with them: every lot is 0.
@@ -94,7 +94,7 @@ pub extern "C" fn overlay_old_to_new(text: &[u8], moved: &mut [u8]) -> Write
     ensures { returned_write result moved.new ≡ move_numbers Old New text.now moved.old }
 {
     let answer = stored_text::move_text(text, Form::Old, Form::New, moved);
-    c_structs::write_of(answer)
+    Write::from(answer)
 }
 
 // And back.
@@ -103,5 +103,5 @@ pub extern "C" fn overlay_new_to_old(text: &[u8], moved: &mut [u8]) -> Write
     ensures { returned_write result moved.new ≡ move_numbers New Old text.now moved.old }
 {
     let answer = stored_text::move_text(text, Form::New, Form::Old, moved);
-    c_structs::write_of(answer)
+    Write::from(answer)
 }

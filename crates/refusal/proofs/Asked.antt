@@ -10,8 +10,8 @@ use Rattle.integers.proofs.Booleans.{nor_l, nor_r}
 use Rattle.lists.specs.Members.{◌∈◌, any}
 use Rattle.lists.proofs.Members.{any_false}
 use Rattle.geom.specs.Points.{within}
-use Rattle.refusal.specs.declared.Verdict.TheVariants.{Accepted}
-use Rattle.refusal.specs.Order.{refuse_if}
+use Rattle.refusal.specs.declared.Kind.TheVariants.{WrongLength, UnknownChoice, TooShort}
+use Rattle.refusal.specs.Order.{accepted, refuse_if}
 use Rattle.refusal.specs.Asked.{wrong_length, Choice, unknown_choice, Lent, too_short, asked_first}
 use Rattle.refusal.proofs.Order.{accepted_then, accepted_if}
 
@@ -21,14 +21,14 @@ pub record AskedPasses (wrong unknown short : Bool) : Type 0 where
   pub known : unknown ≡ false
   pub long : short ≡ false
 
-pub asked_passes : (wrong unknown short : Bool) → asked_first wrong unknown short ≡ Accepted → AskedPasses wrong unknown short
+pub asked_passes : (wrong unknown short : Bool) → asked_first wrong unknown short ≡ accepted → AskedPasses wrong unknown short
 unfolding asked_first
 asked_passes wrong unknown short e =
-    let e₂ = accepted_then (refuse_if 2 wrong) _ e in
-    let e₁₀ = accepted_then (refuse_if 10 unknown) _ e₂.1 in
-    record { right_length = accepted_if 2 wrong e₂.0; known = accepted_if 10 unknown e₁₀.0; long = accepted_if 11 short e₁₀.1 }
+    let e₂ = accepted_then (refuse_if WrongLength wrong) _ e in
+    let e₁₀ = accepted_then (refuse_if UnknownChoice unknown) _ e₂.1 in
+    record { right_length = accepted_if WrongLength wrong e₂.0; known = accepted_if UnknownChoice unknown e₁₀.0; long = accepted_if TooShort short e₁₀.1 }
 
-pub passes_asked : (wrong unknown short : Bool) → AskedPasses wrong unknown short → asked_first wrong unknown short ≡ Accepted
+pub passes_asked : (wrong unknown short : Bool) → AskedPasses wrong unknown short → asked_first wrong unknown short ≡ accepted
 unfolding asked_first
 passes_asked wrong unknown short p = simp (p.right_length, p.known, p.long)
 

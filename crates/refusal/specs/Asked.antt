@@ -1,8 +1,8 @@
 -- What operations ask before they look at what they are given, with place 0: the length, the choices, the lent lists.
 use Rattle.std.specs.Prelude.{Bool, not, ◌||◌, ℕ, ◌*◌, ◌/◌, ◌%◌, eqb, ltb, ℤ, pos}
 use Rattle.geom.specs.Points.{within}
-use Rattle.refusal.specs.declared.Verdict.{Verdict}
-use Rattle.refusal.specs.Order.{refuse_if, ◌then◌}
+use Rattle.refusal.specs.declared.Kind.TheVariants.{WrongLength, UnknownChoice, TooShort}
+use Rattle.refusal.specs.Order.{Verdict, refuse_if, ◌then◌}
 
 -- 2: so many numbers are not whole entries of `each` numbers, or are more than `most` of them
 unfoldable pub wrong_length : (each most : ℕ) → ℕ → Bool
@@ -36,4 +36,4 @@ too_short n l = ltb l.entries (l.each * n)
 
 -- 2, 10, 11
 unfoldable pub asked_first : (wrong unknown short : Bool) → Verdict
-asked_first wrong unknown short = refuse_if 2 wrong then refuse_if 10 unknown then refuse_if 11 short
+asked_first wrong unknown short = refuse_if WrongLength wrong then refuse_if UnknownChoice unknown then refuse_if TooShort short

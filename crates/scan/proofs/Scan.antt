@@ -1,22 +1,19 @@
--- The laws of the ordered list: what enters and what is taken out; and the list in place, where those from a place on move up, from the back, or down, and
--- some that lie past its end move with them.
-use mathlib.Core.Path.{◌≡◌, refl, sym, ap, subst, ◌∙◌, ap₂}
-use mathlib.Core.List.{List, [], ◌∷◌, ◌++◌, append_assoc, append-nil}
+-- The laws of the ordered list: what enters and what is taken out; and the list in place, where those from a place on have moved up or down.
+use mathlib.Core.Path.{◌≡◌, refl, sym, ap, subst}
+use mathlib.Core.List.{List, [], ◌∷◌}
 use mathlib.Core.Logic.{◌⊎◌, inl, inr}
 use Prim.Native.Nat.{ℕ, zero, suc, ◌<◌, ◌+◌, ◌-◌, ◌≤◌}
 use native.Mathlib.Omega.{arith}
-use native.Mathlib.Numerals.{add-one}
-use lib.ListN.{length, get_or, take, drop, length-append, take-append-drop, set, get_or-append}
-use lib.Seq.{split_at, take-suc, take_all, take-take, take-append-le, drop-append-le, drop-length, drop-cons, set_at, set-append_left, get_or-take, get_or-drop, length-take-le}
+use lib.ListN.{length, get_or, take, drop, length-append, take-append-drop, set}
+use lib.Seq.{split_at}
 use Rattle.lists.specs.Members.{◌∈◌, Pairs}
-use Rattle.lists.specs.Written.{written}
 use Rattle.lists.proofs.Members.{in_at, in_take, in_drop, cases, in-++, in_left, in_right}
-use Rattle.lists.proofs.Written.{written_past, written_more}
 use Rattle.segm.specs.Segments.{Drawing}
 use Rattle.faults.specs.Faultless.{Faultless}
 use Rattle.faults.proofs.Faultless.{proper_at}
 use Rattle.strip.specs.Neighbours.{PlacesOf}
-use Rattle.scan.specs.Scan.{ProperAt, AllProper, insert_at, remove_at, moved_up, moved_down}
+use Rattle.std.proofs.lemmas.Grind.{common_steps, same_number_lists}
+use Rattle.scan.specs.Scan.{ProperAt, AllProper, insert_at, remove_at}
 
 -- ---- places with proper segments
 module _ {d : Drawing} (faultless : Faultless d) where
@@ -83,172 +80,35 @@ not_removed zero (x ∷ l) h p m = p.0 x m refl
 not_removed (suc k) (x ∷ l) h p (inl e) = p.0 (get_or l k 0) (in_at l 0 k (omega arith)) (sym e)
 not_removed (suc k) (x ∷ l) h p (inr m) = not_removed k l (omega arith) p.1 m
 
--- ---- moving up: the first j as they were, the rest one place further, and any entry between them
-module _ (l old : List ℕ) where
-  -- the entry between is written over
-  pub insert_over : (j z y : ℕ) → j ≤ length l → set (written (insert_at j z l) old) j y ≡ written (insert_at j y l) old
-  unfolding written insert_at
-  insert_over j z y h =
-      let same : length (insert_at j z l) ≡ length (insert_at j y l) = length_insert j z l ∙ sym (length_insert j y l) in
-      let inside : j < length (insert_at j z l) = omega (arith, length_insert j z l) in
-      set-append_left (insert_at j z l) (drop (length (insert_at j z l)) old) j y inside
-      ∙ ap₂ (λ (a : List ℕ) (n : ℕ). a ++ drop n old) (set_at (take j l) z (drop j l) y j (length-take-le j l h)) same
-
-  -- the entry below j, twice
-  insert_twice : (j : ℕ) → j < length l → insert_at (suc j) (get_or l j 0) l ≡ insert_at j (get_or l j 0) l
-  unfolding insert_at
-  insert_twice j h =
-      ap (λ (a : List ℕ). a ++ (get_or l j 0 ∷ drop (suc j) l)) (take-suc l j 0 h)
-      ∙ append_assoc (take j l) (get_or l j 0 ∷ []) (get_or l j 0 ∷ drop (suc j) l)
-      ∙ ap (λ (a : List ℕ). take j l ++ (get_or l j 0 ∷ a)) (sym (drop-cons l j 0 h))
-
-  read_below : (j z : ℕ) → j < length l → get_or (written (insert_at (suc j) z l) old) j 0 ≡ get_or l j 0
-  unfolding written insert_at
-  read_below j z h =
-      let long : length (take (suc j) l) ≡ suc j = length-take-le (suc j) l h in
-      get_or-append (insert_at (suc j) z l) (drop (length (insert_at (suc j) z l)) old) 0 j (omega (arith, length_insert (suc j) z l))
-      ∙ get_or-append (take (suc j) l) (z ∷ drop (suc j) l) 0 j (omega (arith, long))
-      ∙ get_or-take (suc j) l j 0 (omega arith)
-
-  moves : (list : List ℕ) (j z : ℕ) → j < length l → list ≡ written (insert_at (suc j) z l) old → set list (suc j) (get_or list j 0) ≡ written (insert_at j (get_or l j 0) l) old
-  moves list j z h e =
-      let entry : get_or list j 0 ≡ get_or l j 0 = ap (λ (a : List ℕ). get_or a j 0) e ∙ read_below j z h in
-      ap₂ (λ (a : List ℕ) (y : ℕ). set a (suc j) y) e entry
-      ∙ insert_over (suc j) z (get_or l j 0) h
-      ∙ ap (λ (a : List ℕ). written a old) (insert_twice j h)
-
-  -- so many move up, from the last
-  pub move_up : (n j z : ℕ) (list : List ℕ) → j + n ≤ length l → list ≡ written (insert_at (j + n) z l) old → (y : ℕ) × (moved_up n j list ≡ written (insert_at j y l) old)
-  unfolding moved_up
-  move_up zero j z list h e = let same : j + 0 ≡ j = omega arith in (z, e ∙ ap (λ k. written (insert_at k z l) old) same)
-  move_up (suc n) j z list h e =
-      let next : j + suc n ≡ suc (j + n) = omega arith in
-      move_up n j (get_or l (j + n) 0) (set list (suc (j + n)) (get_or list (j + n) 0)) (omega arith) (moves list (j + n) z (omega arith) (e ∙ ap (λ k. written (insert_at k z l) old) next))
-
--- nothing has moved: between the first n and the rest is the entry at n
-pub unmoved : (old : List ℕ) (n : ℕ) → n < length old → old ≡ written (insert_at n (get_or old n 0) (take n old)) old
-unfolding written insert_at
-unmoved old n h =
-    let long : length (take n old) ≡ n = length-take-le n old (omega arith) in
-    let whole : take n (take n old) ≡ take n old = take_all n (take n old) (omega (arith, long)) in
-    let none : drop n (take n old) ≡ [] = ap (λ m. drop m (take n old)) (sym long) ∙ drop-length (take n old) in
-    let all : insert_at n (get_or old n 0) (take n old) ≡ take n old ++ (get_or old n 0 ∷ []) = ap₂ (λ (a b : List ℕ). a ++ (get_or old n 0 ∷ b)) whole none in
-    let many : suc n ≡ length (insert_at n (get_or old n 0) (take n old)) = sym (length_insert n (get_or old n 0) (take n old) ∙ ap suc long) in
-    split_at old n 0 h
-    ∙ sym (append_assoc (take n old) (get_or old n 0 ∷ []) (drop (suc n) old))
-    ∙ ap₂ (λ (a : List ℕ) (m : ℕ). a ++ drop m old) (sym all) many
-
--- a list's own front, written to it
-pub written_own : (old : List ℕ) (n : ℕ) → n ≤ length old → written (take n old) old ≡ old
-unfolding written
-written_own old n h = ap (λ m. take n old ++ drop m old) (length-take-le n old h) ∙ take-append-drop n old
-
--- ---- moving down: what was not yet written over is as it was
-pub unwritten : (answer old : List ℕ) (k : ℕ) → length answer ≤ k → get_or (written answer old) k 0 ≡ get_or old k 0
-unfolding written
-unwritten answer old k h =
-    let n = length answer in
-    let e : n + (k - n) ≡ k = omega arith in
-    ap (λ m. get_or (written answer old) m 0) (sym e)
-    ∙ sym (get_or-drop n (written answer old) (k - n) 0)
-    ∙ ap (λ (a : List ℕ). get_or a (k - n) 0) (written_past answer old n refl)
-    ∙ get_or-drop n old (k - n) 0
-    ∙ ap (λ m. get_or old m 0) e
-
--- one is taken out at place k, and the rest up to place j have moved
-length_moved : (old : List ℕ) (k j : ℕ) → k < j → j ≤ length old → j - 1 ≡ length (remove_at k (take j old))
-length_moved old k j h l = omega (arith, length_remove k (take j old) (omega (arith, length-take-le j old l)), length-take-le j old l)
-
-pub none_moved : (old : List ℕ) (k : ℕ) → k < length old → old ≡ written (remove_at k (take (suc k) old)) old
-unfolding remove_at
-none_moved old k h =
-    let past : suc k ≡ length (take (suc k) old) = sym (length-take-le (suc k) old (omega arith)) in
-    let none : drop (suc k) (take (suc k) old) ≡ [] = ap (λ n. drop n (take (suc k) old)) past ∙ drop-length (take (suc k) old) in
-    sym (ap₂ (λ (a b : List ℕ). written (a ++ b) old) (take-take k (suc k) old (omega arith)) none ∙ ap (λ (a : List ℕ). written a old) (append-nil (take k old)) ∙ written_own old k (omega arith))
-
-remove_more : (old : List ℕ) (k j : ℕ) → k < j → j < length old → remove_at k (take j old) ++ (get_or old j 0 ∷ []) ≡ remove_at k (take (suc j) old)
-unfolding remove_at
-remove_more old k j h l =
-    let long : length (take j old) ≡ j = length-take-le j old (omega arith) in
-    let one = get_or old j 0 ∷ [] in
-    append_assoc (take k (take j old)) (drop (suc k) (take j old)) one
-    ∙ sym (ap₂ (λ (a b : List ℕ). a ++ b) (take-append-le k (take j old) one (omega (arith, long))) (drop-append-le (suc k) (take j old) one (omega (arith, long))))
-    ∙ ap (λ (a : List ℕ). take k a ++ drop (suc k) a) (sym (take-suc old j 0 l))
-
-moves_down : (old list : List ℕ) (k j : ℕ) → k ≤ j → suc j < length old → list ≡ written (remove_at k (take (suc j) old)) old
-    → set list j (get_or list (suc j) 0) ≡ written (remove_at k (take (suc (suc j)) old)) old
-moves_down old list k j h l e =
-    let many : j ≡ length (remove_at k (take (suc j) old)) = omega (arith, length_moved old k (suc j) (omega arith) (omega arith)) in
-    let entry : get_or list (suc j) 0 ≡ get_or old (suc j) 0 = ap (λ (a : List ℕ). get_or a (suc j) 0) e ∙ unwritten (remove_at k (take (suc j) old)) old (suc j) (omega (arith, many)) in
-    ap₂ (λ (a : List ℕ) (y : ℕ). set a j y) e entry
-    ∙ written_more (remove_at k (take (suc j) old)) old j (get_or old (suc j) 0) many (omega arith)
-    ∙ ap (λ (a : List ℕ). written a old) (remove_more old k (suc j) (omega arith) l)
-
--- so many move down, from the first
-pub move_down : (old : List ℕ) (k n j : ℕ) (list : List ℕ) → k ≤ j → j + n < length old → list ≡ written (remove_at k (take (suc j) old)) old
-    → moved_down n j list ≡ written (remove_at k (take (suc (j + n)) old)) old
-unfolding moved_down
-move_down old k zero j list h l e = let same : j ≡ j + 0 = omega arith in e ∙ ap (λ m. written (remove_at k (take (suc m) old)) old) same
-move_down old k (suc n) j list h l e =
-    let next : suc j + n ≡ j + suc n = omega arith in
-    move_down old k n (suc j) (set list j (get_or list (suc j) 0)) (omega arith) (omega arith) (moves_down old list k j h (omega arith) e)
-    ∙ ap (λ m. written (remove_at k (take (suc m) old)) old) next
-
--- ---- one move, and the rest of them; and no move
-pub move_up_next : (n j : ℕ) (l : List ℕ) → 0 < n → moved_up n j l ≡ moved_up (n - 1) j (set l (j + n) (get_or l (j + (n - 1)) 0))
-unfolding moved_up
-move_up_next zero j l h = absurd (omega arith)
-move_up_next (suc n) j l h =
-    let last : n ≡ suc n - 1 = omega arith in
-    let there : suc (j + n) ≡ j + suc n = omega arith in
-    ap₂ (λ a b. moved_up a j (set l b (get_or l (j + a) 0))) last there
-
-pub move_down_next : (n m i j : ℕ) (l : List ℕ) → n ≡ suc m → j ≡ suc i → moved_down n i l ≡ moved_down m j (set l i (get_or l j 0))
-unfolding moved_down
-move_down_next n m i j l e f = ap (λ a. moved_down a i l) e ∙ ap (λ a. moved_down m a (set l i (get_or l a 0))) (sym f)
-
-pub move_up_none : (n j : ℕ) (l : List ℕ) → n ≡ 0 → moved_up n j l ≡ l
-unfolding moved_up
-move_up_none n j l e = ap (λ m. moved_up m j l) e
-
-pub move_down_none : (n j : ℕ) (l : List ℕ) → n ≡ 0 → moved_down n j l ≡ l
-unfolding moved_down
-move_down_none n j l e = ap (λ m. moved_down m j l) e
-
--- ---- what is moved past the list's end is no part of it
-take_insert : (k c i : ℕ) (l : List ℕ) → k ≤ c → take (suc c) (insert_at k i l) ≡ insert_at k i (take c l)
+-- ---- in place, by what stands at each place
+entry_below : (k i : ℕ) (l : List ℕ) (m : ℕ) → m < k → k ≤ length l → get_or (insert_at k i l) m 0 ≡ get_or l m 0
 unfolding insert_at
-take_insert zero c i l h = refl
-take_insert (suc k) zero i l h = absurd (omega arith)
-take_insert (suc k) (suc c) i [] h = refl
-take_insert (suc k) (suc c) i (x ∷ l) h = ap (x ∷◌) (take_insert k c i l (omega arith))
+entry_below k i l m h t = grind (arith, common_steps)
 
-pub insert_within : (old : List ℕ) (k used top i : ℕ) → k ≤ used → used ≤ top → top ≤ length old
-    → take (used + 1) (written (insert_at k i (take top old)) old) ≡ insert_at k i (take used old)
-unfolding written
-insert_within old k used top i h t l =
-    let long : length (take top old) ≡ top = length-take-le top old l in
-    take-append-le (used + 1) (insert_at k i (take top old)) _ (omega (arith, length_insert k i (take top old), long))
-    ∙ ap (λ n. take n (insert_at k i (take top old))) (add-one used)
-    ∙ take_insert k used i (take top old) h
-    ∙ ap (insert_at k i) (take-take used top old t)
+entry_here : (k i : ℕ) (l : List ℕ) (m : ℕ) → m ≡ k → k ≤ length l → get_or (insert_at k i l) m 0 ≡ i
+unfolding insert_at
+entry_here k i l m h t = grind (arith, common_steps)
 
-take_remove : (k c : ℕ) (l : List ℕ) → k ≤ c → take c (remove_at k l) ≡ remove_at k (take (suc c) l)
+entry_above : (k i : ℕ) (l : List ℕ) (m : ℕ) → k < m → k ≤ length l → get_or (insert_at k i l) m 0 ≡ get_or l (m - 1) 0
+unfolding insert_at
+entry_above k i l m h t = grind (arith, common_steps)
+
+-- those from place k on have moved up, and i is written there
+pub inserted : (old list : List ℕ) (used k i : ℕ) → k ≤ used → used < length list → used ≤ length old → ((m : ℕ) → m < k → get_or list m 0 ≡ get_or old m 0)
+    → ((m : ℕ) → k < m → m ≤ used → get_or list m 0 ≡ get_or old (m - 1) 0) → take (used + 1) (set list k i) ≡ insert_at k i (take used old)
+inserted old list used k i h room long same moved =
+    same_number_lists _ _ (grind (arith, common_steps, length_insert)) (λ m lt. grind (arith, common_steps, entry_below, entry_here, entry_above, same m, moved m))
+
+entry_before : (k : ℕ) (l : List ℕ) (m : ℕ) → m < k → k < length l → get_or (remove_at k l) m 0 ≡ get_or l m 0
 unfolding remove_at
-take_remove zero zero [] h = refl
-take_remove zero (suc c) [] h = refl
-take_remove zero c (x ∷ l) h = refl
-take_remove (suc k) zero l h = absurd (omega arith)
-take_remove (suc k) (suc c) [] h = refl
-take_remove (suc k) (suc c) (x ∷ l) h = ap (x ∷◌) (take_remove k c l (omega arith))
+entry_before k l m h t = grind (arith, common_steps)
 
-pub remove_within : (old : List ℕ) (k used top : ℕ) → k < used → used ≤ top → top ≤ length old
-    → take (used - 1) (written (remove_at k (take top old)) old) ≡ remove_at k (take used old)
-unfolding written
-remove_within old k used top h t l =
-    let long : length (take top old) ≡ top = length-take-le top old l in
-    let whole : suc (used - 1) ≡ used = omega arith in
-    take-append-le (used - 1) (remove_at k (take top old)) _ (omega (arith, length_remove k (take top old) (omega (arith, long)), long))
-    ∙ take_remove k (used - 1) (take top old) (omega arith)
-    ∙ ap (λ n. remove_at k (take n (take top old))) whole
-    ∙ ap (remove_at k) (take-take used top old t)
+entry_after : (k : ℕ) (l : List ℕ) (m : ℕ) → k ≤ m → k < length l → get_or (remove_at k l) m 0 ≡ get_or l (m + 1) 0
+unfolding remove_at
+entry_after k l m h t = grind (arith, common_steps)
+
+-- those after place k have moved down
+pub removed : (old list : List ℕ) (used k : ℕ) → k < used → used ≤ length list → used ≤ length old → ((m : ℕ) → m < k → get_or list m 0 ≡ get_or old m 0)
+    → ((m : ℕ) → k ≤ m → m < used - 1 → get_or list m 0 ≡ get_or old (m + 1) 0) → take (used - 1) list ≡ remove_at k (take used old)
+removed old list used k h room long same moved =
+    same_number_lists _ _ (grind (arith, common_steps, length_remove)) (λ m lt. grind (arith, common_steps, entry_before, entry_after, same m, moved m))

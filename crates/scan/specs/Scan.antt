@@ -1,6 +1,6 @@
 -- The ordered list of the open segments: places of segments, the lowest first. Where a point or a segment stands in it, what enters and what is taken out.
 -- The contracts of `scan` cite these.
-use Rattle.std.specs.Prelude.{List, ◌∷◌, ◌++◌, ◌≡◌, Bool, true, false, ℕ, zero, suc, ◌+◌, ◌-◌, ◌≤◌, ◌<◌, length, get_or, take, drop, set}
+use Rattle.std.specs.Prelude.{List, ◌∷◌, ◌++◌, ◌≡◌, Bool, true, false, ℕ, suc, ◌+◌, ◌-◌, ◌≤◌, ◌<◌, length, get_or, take, drop}
 use Rattle.geom.specs.Points.{in_range}
 use Rattle.lists.specs.Members.{◌∈◌}
 use Rattle.segm.specs.Segments.{Drawing, segment_at}
@@ -32,16 +32,6 @@ insert_at k i l = take k l ++ (i ∷ drop k l)
 -- the one at place k is gone
 unfoldable pub remove_at : ℕ → List ℕ → List ℕ
 remove_at k l = take k l ++ drop (suc k) l
-
--- the n entries from place j on stand one place further, the last of them first
-unfoldable pub moved_up : ℕ → ℕ → List ℕ → List ℕ
-moved_up zero j l = l
-moved_up (suc n) j l = moved_up n j (set l (suc (j + n)) (get_or l (j + n) 0))
-
--- the n entries after place j stand one place before, the first of them first
-unfoldable pub moved_down : ℕ → ℕ → List ℕ → List ℕ
-moved_down zero j l = l
-moved_down (suc n) j l = moved_down n (suc j) (set l j (get_or l (suc j) 0))
 
 -- memory for a list of so many, and for a block more that moves with it
 abbrev pub RoomFor : ℕ → List ℕ → Type 0

@@ -6,7 +6,7 @@ ghost use Rattle.std.specs.Prelude.{◌≡◌, ◌+◌, ◌-◌, ◌≤◌, ◌<
 ghost use Rattle.segm.specs.Segments.{segments};
 ghost use Rattle.faults.specs.Faultless.{Proper};
 ghost use Rattle.strip.specs.Strip.{is_vertical, under_by_side};
-ghost use Rattle.scan.specs.Scan.{is_below, below_at, insert_at, remove_at, moved_up, moved_down, RoomFor, Changes, ProperAt, AllProper, SoughtInRange};
+ghost use Rattle.scan.specs.Scan.{is_below, below_at, insert_at, remove_at, RoomFor, Changes, ProperAt, AllProper, SoughtInRange};
 
 use geom::Point;
 use segm::Segment;
@@ -57,7 +57,8 @@ pub fn is_vertical(t: Segment) -> bool
     a.x == b.x
 }
 
-// A place at which the list changes from below to above what is sought, by bisection.
+// A place at which the list changes from below to above what is sought, by bisection: there is one in any list, while `partition_point` promises none but of
+// a list in order.
 pub fn place_of(s: &[i32], list: &[u16], sought: Sought) -> usize
     requires { AllProper (segments s.now) list.now × SoughtInRange sought }
     ensures { Changes (below_at (segments s.now) sought list.now) 0 (length list.now) result }
@@ -75,42 +76,17 @@ pub fn place_of(s: &[i32], list: &[u16], sought: Sought) -> usize
     low
 }
 
-// So many entries move at a time, whatever lies past the list: there is no rest to move one by one, and as many rounds as the last time, mostly.
-const BLOCK: usize = 16;
+// So many entries move at a time, whatever lies past the list: as many rounds as the last time, mostly, where a move of just the rest takes twice as long.
+pub const BLOCK: usize = 16;
 
-// A block of entries from place j on moves up by one place.
-fn move_up(list: &mut [u16], j: usize)
-    requires { j + 16 < length list.old }
-    ensures { list.new ≡ moved_up 16 j list.old }
-{
-    let mut t = BLOCK;
-    while 0 < t {
-        list[j + t] = list[j + (t - 1)];
-        t -= 1;
-    }
-}
-
-// A block of entries after place j moves down by one place.
-fn move_down(list: &mut [u16], j: usize)
-    requires { j + 16 < length list.old }
-    ensures { list.new ≡ moved_down 16 j list.old }
-{
-    let mut t: usize = 0;
-    while t < BLOCK {
-        list[j + t] = list[j + (t + 1)];
-        t += 1;
-    }
-}
-
-// i goes to place k of the list, and those from there on move up.
+// i goes to place k of the list, and those from there on move up, the last of them first.
 pub fn insert(list: &mut [u16], used: usize, k: usize, i: u16)
     requires { (k ≤ used) × RoomFor used list.old }
     ensures { take (used + 1) list.new ≡ insert_at k i (take used list.old) }
 {
-    let mut j = k + (used - k + (BLOCK - 1)) / BLOCK * BLOCK;
-    while k < j {
-        j -= BLOCK;
-        move_up(list, j);
+    for block in (0..(used - k).div_ceil(BLOCK)).rev() {
+        let j = k + block * BLOCK;
+        list.copy_within(j..j + BLOCK, j + 1);
     }
     list[k] = i;
 }
@@ -120,10 +96,8 @@ pub fn remove(list: &mut [u16], used: usize, k: usize)
     requires { (k < used) × RoomFor used list.old }
     ensures { take (used - 1) list.new ≡ remove_at k (take used list.old) }
 {
-    let last = used - 1;
-    let mut j = k;
-    while j < last {
-        move_down(list, j);
-        j += BLOCK;
+    for block in 0..(used - 1 - k).div_ceil(BLOCK) {
+        let j = k + block * BLOCK;
+        list.copy_within(j + 1..j + 1 + BLOCK, j);
     }
 }

@@ -52,8 +52,8 @@ pub fn segment_in(s: &[i32], i: usize) -> Segment
         y: s[k + 3],
     };
     Segment {
-        a: a,
-        b: b,
+        a,
+        b,
         winding: s[k + 4],
         bits: s[k + 5],
         lot: s[k + 6],
@@ -83,20 +83,5 @@ pub fn put(s: &mut [i32], i: usize, t: Segment)
     ensures { s.new ≡ take (i * width) s.old ++ (numbers_of t ++ drop (i * width + width) s.old) }
 {
     let k = i * WIDTH;
-    let a = t.a;
-    let b = t.b;
-    let ax = a.x;
-    let ay = a.y;
-    let bx = b.x;
-    let by = b.y;
-    let winding = t.winding;
-    let bits = t.bits;
-    let lot = t.lot;
-    s[k] = ax;
-    s[k + 1] = ay;
-    s[k + 2] = bx;
-    s[k + 3] = by;
-    s[k + 4] = winding;
-    s[k + 5] = bits;
-    s[k + 6] = lot;
+    s[k..k + WIDTH].copy_from_slice(&[t.a.x, t.a.y, t.b.x, t.b.y, t.winding, t.bits, t.lot]);
 }

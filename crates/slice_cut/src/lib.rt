@@ -1,7 +1,7 @@
 // Walks cut into loops, and loops made contours: each with its role, and turned round where it must be.
 #![tactic(auto)]
 
-ghost use Rattle.std.specs.Prelude.{◌≡◌, ◌*◌, ◌≤◌, length};
+ghost use Rattle.std.specs.Prelude.{◌≡◌, ◌+◌, ◌*◌, ◌≤◌, length};
 ghost use mathlib.Core.List.{map, flatten};
 ghost use Rattle.lists.specs.Sums.{tally};
 ghost use Rattle.lists.specs.Written.{written};
@@ -12,7 +12,7 @@ ghost use Rattle.split_loops.specs.Splitting.{Working, Splittable};
 ghost use Rattle.contour.specs.Contour.{contour_of};
 ghost use Rattle.slice_cut.specs.Cutting.{walk_contours, points_of, roles_of, counts, Holds, paths_in, cut_walks, Stand};
 
-use split_loops::LoopTotals;
+use split_loops::{COORDINATES, HEADS, LoopTotals, MOST, SMALL, SMALL_COORDINATES, SMALL_HEADS};
 
 // How many contours and points were found.
 #[derive(Clone, Copy)]
@@ -33,13 +33,11 @@ fn finish_all(
     ensures { (points.new ≡ written (coordinates (flatten (points_of (map (contour_of clockwise direction) (paths_in points.old lengths.now))))) points.old)
         × (roles.new ≡ written (roles_of (map (contour_of clockwise direction) (paths_in points.old lengths.now))) roles.old) }
 {
-    let mut from: usize = 0;
-    let mut k: usize = 0;
-    while k < lengths.len() {
-        let to = from + 2 * lengths[k] as usize;
+    let mut from = 0;
+    for (k, length) in lengths.iter().enumerate() {
+        let to = from + 2 * *length as usize;
         roles[k] = contour::finish(&mut points[from..to], direction, clockwise);
         from = to;
-        k += 1;
     }
 }
 
@@ -69,8 +67,7 @@ fn cut_walk(
     let found = split_loops::split_loops(
         walk, min_area, heads, nexts, seen, numbers, buffer, points, lengths,
     );
-    let n = found.loops;
-    finish_all(points, &lengths[..n], roles, direction, clockwise);
+    finish_all(points, &lengths[..found.loops], roles, direction, clockwise);
     found
 }
 
@@ -99,12 +96,11 @@ fn cut_all(
     ensures { (result ≡ counts (cut_walks clockwise min_area (paths_in walks.now walk_lengths.now) directions.now))
         × Holds (cut_walks clockwise min_area (paths_in walks.now walk_lengths.now) directions.now) points.old lengths.old roles.old points.new lengths.new roles.new }
 {
-    let mut contours: usize = 0;
-    let mut at: usize = 0;
-    let mut from: usize = 0;
-    let mut k: usize = 0;
-    while k < walk_lengths.len() {
-        let to = from + 2 * walk_lengths[k] as usize;
+    let mut contours = 0;
+    let mut at = 0;
+    let mut from = 0;
+    for (k, length) in walk_lengths.iter().enumerate() {
+        let to = from + 2 * *length as usize;
         let found = cut_walk(
             &walks[from..to],
             directions[k] == 1,
@@ -122,16 +118,56 @@ fn cut_all(
         contours += found.loops;
         at += found.points;
         from = to;
-        k += 1;
     }
     Contours {
-        contours: contours,
+        contours,
         points: at,
     }
 }
 
-// The contours of all walks, with memory for those of a small drawing or of any.
+// The contours of all walks. It owns the memory for up to POINTS points, and stands by itself, so that no other memory stands beside it.
 #[inline(never)]
+fn cut_in<const POINTS: usize, const NUMBERS: usize, const BINS: usize>(
+    walks: &[i32],
+    walk_lengths: &[u16],
+    directions: &[u8],
+    clockwise: bool,
+    min_area: u64,
+    points: &mut [i32],
+    lengths: &mut [u32],
+    roles: &mut [u8],
+) -> Contours
+    requires sizes { (POINTS ≤ 2048) × (NUMBERS ≡ 2 * POINTS) × (BINS ≡ POINTS + 1) }
+    requires walks_stand { Stand walks.now walk_lengths.now × (length directions.now ≡ length walk_lengths.now) × (tally (λ n. n) walk_lengths.now ≤ POINTS) }
+    requires room { (2 * length (flatten (paths_in walks.now walk_lengths.now)) ≤ length points.old)
+        × (length (flatten (paths_in walks.now walk_lengths.now)) ≤ length lengths.old)
+        × (length (flatten (paths_in walks.now walk_lengths.now)) ≤ length roles.old) }
+    ensures { (result ≡ counts (cut_walks clockwise min_area (paths_in walks.now walk_lengths.now) directions.now))
+        × Holds (cut_walks clockwise min_area (paths_in walks.now walk_lengths.now) directions.now) points.old lengths.old roles.old points.new lengths.new roles.new }
+{
+    let mut heads = [0u16; BINS];
+    let mut nexts = [0u16; POINTS];
+    let mut seen = [0i32; NUMBERS];
+    let mut numbers = [0u16; POINTS];
+    let mut buffer = [0i32; NUMBERS];
+    cut_all(
+        walks,
+        walk_lengths,
+        directions,
+        clockwise,
+        min_area,
+        &mut heads,
+        &mut nexts,
+        &mut seen,
+        &mut numbers,
+        &mut buffer,
+        points,
+        lengths,
+        roles,
+    )
+}
+
+// The contours of all walks, with memory for those of a small drawing or of any.
 pub fn cut_walks(
     walks: &[i32],
     walk_lengths: &[u16],
@@ -150,44 +186,24 @@ pub fn cut_walks(
     ensures { (result ≡ counts (cut_walks clockwise min_area (paths_in walks.now walk_lengths.now) directions.now))
         × Holds (cut_walks clockwise min_area (paths_in walks.now walk_lengths.now) directions.now) points.old lengths.old roles.old points.new lengths.new roles.new }
 {
-    if walks.len() <= split_loops::SMALL_COORDINATES {
-        let mut heads = [0u16; split_loops::SMALL_HEADS];
-        let mut nexts = [0u16; split_loops::SMALL];
-        let mut seen = [0i32; split_loops::SMALL_COORDINATES];
-        let mut numbers = [0u16; split_loops::SMALL];
-        let mut buffer = [0i32; split_loops::SMALL_COORDINATES];
-        return cut_all(
+    if walks.len() <= SMALL_COORDINATES {
+        return cut_in::<SMALL, SMALL_COORDINATES, SMALL_HEADS>(
             walks,
             walk_lengths,
             directions,
             clockwise,
             min_area,
-            &mut heads,
-            &mut nexts,
-            &mut seen,
-            &mut numbers,
-            &mut buffer,
             points,
             lengths,
             roles,
         );
     }
-    let mut heads = [0u16; split_loops::HEADS];
-    let mut nexts = [0u16; split_loops::MOST];
-    let mut seen = [0i32; split_loops::COORDINATES];
-    let mut numbers = [0u16; split_loops::MOST];
-    let mut buffer = [0i32; split_loops::COORDINATES];
-    cut_all(
+    cut_in::<MOST, COORDINATES, HEADS>(
         walks,
         walk_lengths,
         directions,
         clockwise,
         min_area,
-        &mut heads,
-        &mut nexts,
-        &mut seen,
-        &mut numbers,
-        &mut buffer,
         points,
         lengths,
         roles,

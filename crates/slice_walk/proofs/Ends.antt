@@ -1,7 +1,7 @@
 -- The choice of the next move over flat lists is the walk's: over the nodes of the links, the same move. And a move that is found can be made.
 use mathlib.Core.Path.{◌≡◌, refl, sym, ◌∙◌, ap, ap₂, subst}
 use mathlib.Core.List.{List, [], ◌∷◌, map}
-use mathlib.Core.Logic.{inl, inr}
+use mathlib.Core.Logic.{◌⊎◌, inl, inr}
 use mathlib.Core.Option.{Option, none, some}
 use mathlib.Core.Bool.{Bool, true, false, not, ◌&&◌, cond}
 use Prim.Native.Nat.{ℕ, ◌+◌, ◌-◌, ◌*◌, ◌<◌, ◌≤◌}
@@ -9,10 +9,13 @@ use native.Mathlib.Omega.{arith}
 use native.Mathlib.Decide.{dec_le}
 use borrow.Author.Tests.{eqb-true, eq-eqb}
 use lib.Dec.{eqb}
-use lib.ListN.{length, get_or}
+use lib.ListN.{length, get_or, drop}
 use lib.IntN.{ℤ, pos, neg_ℤ}
 use lib.Signed.{lt_z, le_z}
-use Rattle.integers.proofs.Booleans.{clash, both_r, same_test}
+use Rattle.std.specs.Prelude.{Some, None, MatchOption}
+use Rattle.std.proofs.lemmas.List.{at_drop_more, drop_all}
+use Rattle.std.proofs.lemmas.Bool.{ne_eqb}
+use Rattle.integers.proofs.Booleans.{clash, both_r, not_r, same_test}
 use Rattle.integers.proofs.Linear.{ints, of_neg, of_pos}
 use Rattle.integers.proofs.Order.{le_le_z, lt_lt_z}
 use Rattle.geom.specs.declared.Point.{Point}
@@ -20,16 +23,15 @@ use Rattle.geom.specs.Points.{lt_p, eq_p, in_range}
 use Rattle.geom.proofs.Points.{eq_eq_p, ne_eq_p, lt_p_irrefl}
 use Rattle.lists.specs.Members.{◌∈◌, keep}
 use Rattle.segm.specs.Segments.{Drawing, segment_at}
+use Rattle.segm.proofs.Segments.{length-segments}
 use Rattle.lists.proofs.Members.{keep_in}
 use Rattle.ends.specs.Ends.{end_point}
 use Rattle.ends.proofs.Ends.{end_a, end_b, end_near}
 use Rattle.graph.specs.Nodes.{node, link_of, other_end, part, Nodes}
 use Rattle.graph.proofs.Node.{link_low, link_high, other_low, other_high, other_end_below}
-use Rattle.moves.specs.declared.NextEnd.{NextEnd}
-use Rattle.moves.specs.declared.NextEnd.TheVariants.{Stop, Leave}
 use Rattle.moves.specs.Steps.{other}
 use Rattle.moves.specs.Moves.{Move, remains}
-use Rattle.moves.specs.ByEnd.{move_of}
+use Rattle.moves.specs.ByEnd.{NextEnd, move_of}
 use Rattle.moves.proofs.Steps.{at_place}
 use Rattle.moves.proofs.ByEnd.{fits}
 use Rattle.faults.specs.Faultless.{Faultless}
@@ -138,6 +140,9 @@ module _ (links : Drawing) (faultless : Faultless links) where
       (λ t. eq-eqb (link_of m e) (link_of m f) (ap (link_of m) (eqb-true e f t)))
 
 -- ---- the nearest end
+-- how many links there are
+pub ruleset counted = (length-segments)
+
 pub far_near : (links : Drawing) → Faultless links → (e : ℕ) → e < 2 * length links → in_range (far_point links e) ≡ true
 unfolding far_point
 far_near links faultless e h = end_near links faultless (other_end (length links) e) (other_end_below (length links) e h)
@@ -150,10 +155,10 @@ module _ (links : Drawing) (direction : Bool) (f : ℕ) where
   -- what the best end and another have, the nearer one has
   add_has : (P : ℕ → Type 0) (e : ℕ) (best : NextEnd) → Leaving P best → P e → Leaving P (add best e)
   unfolding add_end
-  add_has P e Stop b q = q
-  add_has P e (Leave g) b q = go (is_nearer direction (end_point links f) (far_point links f) (far_point links g) (far_point links e))
+  add_has P e None b q = q
+  add_has P e (Some g) b q = go (is_nearer direction (end_point links f) (far_point links f) (far_point links g) (far_point links e))
     where
-      go : (t : Bool) → Leaving P (cond t (Leave e) (Leave g))
+      go : (t : Bool) → Leaving P (cond t (Some e) (Some g))
       go true = q
       go false = b
 
@@ -167,6 +172,43 @@ module _ (links : Drawing) (direction : Bool) (f : ℕ) where
       go : (t : Bool) → is_other links direction f bits e ≡ t → Leaving P (cond t (add best e) best)
       go true q = add_has P e best b (h e (inl refl) (both_r (not (eqb e f)) _ q))
       go false q = b
+
+-- the loop over the ends of a part: the best end so far and those to come decide
+module _ (links : Drawing) (direction : Bool) (f : ℕ) (bits all es : List ℕ) where
+  abbrev nearest_of : NextEnd → List ℕ → NextEnd
+  nearest_of = nearest_end links direction f bits
+
+  pub record Sought (j : ℕ) (best : NextEnd) : Type 0 where
+    pub below : Leaving (λ e. e < 2 * length links) best
+    pub same : nearest_of None all ≡ nearest_of best (drop j es)
+
+  module _ {j : ℕ} {best : NextEnd} (w : Sought j best) where
+    abbrev here : ℕ
+    here = get_or es j 0
+
+    module _ (as_many : length bits ≡ length links) (inside : j < length es) where
+      step : nearest_of None all ≡ nearest_of (cond (is_other links direction f bits here) (add_end links direction (end_point links f) (far_point links f) best here) best) (drop (j + 1) es)
+      unfolding nearest_end
+      step = w.same ∙ at_drop_more (nearest_of best) es j 0 inside
+
+      pub passed : {next : NextEnd} → (here ≡ f) ⊎ (remains bits (move_of (length bits) direction here) ≡ false) → next ≡ best → Sought (j + 1) next
+      unfolding is_other
+      passed h q = record { below = rw q w.below; same = step ∙ rw (other h, q) }
+        where
+          other : (here ≡ f) ⊎ (remains bits (move_of (length bits) direction here) ≡ false) → is_other links direction f bits here ≡ false
+          other (inl h) = rw (eq-eqb here f h)
+          other (inr h) = rw (sym as_many) (not_r (not (eqb here f)) h)
+
+      pub taken : {next : NextEnd} → here < 2 * length bits → (here ≡ f → ⊥) → remains bits (move_of (length bits) direction here) ≡ true → {c a : Point} → c ≡ end_point links f → a ≡ far_point links f
+          → next ≡ add_end links direction c a best here → Sought (j + 1) next
+      unfolding is_other
+      taken b n h p r q =
+          let other : is_other links direction f bits here ≡ true = rw (sym as_many, h, ne_eqb here f n) in
+          record { below = rw (q, p, r) (add_has links direction f (λ e. e < 2 * length links) here best w.below (omega (arith, b, as_many))); same = step ∙ rw (other, q, p, r) }
+
+    pub sought : length es ≤ j → best ≡ nearest_of None all
+    unfolding nearest_end
+    sought h = sym (w.same ∙ ap (nearest_of best) (drop_all j es h))
 
 -- over ends at the point of f, as over their links
 module _ (links : Drawing) (faultless : Faultless links) (direction : Bool) (f : ℕ) (below : f < 2 * length links) (bits : List ℕ) where
@@ -186,8 +228,8 @@ module _ (links : Drawing) (faultless : Faultless links) (direction : Bool) (f :
   is_taken k = not (eqb k (link f)) && remains bits (move_from links direction p k)
 
   abbrev as_link : NextEnd → Option ℕ
-  as_link Stop = none
-  as_link (Leave e) = some (link e)
+  as_link None = none
+  as_link (Some e) = some (link e)
 
   move_is : (e : ℕ) → At e → move_from links direction p (link e) ≡ move_of (length links) direction e
   unfolding move_from
@@ -203,11 +245,11 @@ module _ (links : Drawing) (faultless : Faultless links) (direction : Bool) (f :
   add_is : (e : ℕ) → At e → (best : NextEnd) → Leaving At best → (l : List ℕ)
       → nearest links direction p back (as_link best) (link e ∷ l) ≡ nearest links direction p back (as_link (add links direction f best e)) l
   unfolding nearest add_end
-  add_is e h Stop b l = refl
-  add_is e h (Leave g) b l =
+  add_is e h None b l = refl
+  add_is e h (Some g) b l =
       ap (λ (o : Option ℕ). nearest links direction p back o l) (rw (leads f (below, refl), leads g b, leads e h) (go (is_nearer direction p (far_point links f) (far_point links g) (far_point links e))))
     where
-      go : (t : Bool) → some (cond t (link e) (link g)) ≡ as_link (cond t (Leave e) (Leave g))
+      go : (t : Bool) → some (cond t (link e) (link g)) ≡ as_link (cond t (Some e) (Some g))
       go true = refl
       go false = refl
 
@@ -232,31 +274,44 @@ module _ (links : Drawing) (faultless : Faultless links) (direction : Bool) (f :
     es = part flat starts (get_or nodes f 0)
 
     abbrev nearest_other : NextEnd
-    nearest_other = nearest_end links direction f bits Stop es
+    nearest_other = nearest_end links direction f bits None es
 
     find_is : find_nearest links direction (link f) p bits ≡ or_else (move_from links direction p) (as_link nearest_other) (if_remains bits (move_of (length links) direction f))
     unfolding find_nearest
     find_is =
         ap₂ (λ (o : Option ℕ) (k : Move). or_else (move_from links direction p) o (if_remains bits k))
-        (ap (λ (l : List ℕ). nearest links direction p back none (keep is_taken l)) (sym (n.list f below)) ∙ nearest_is es Stop tt (λ e i. n.ends f e below i))
+        (ap (λ (l : List ℕ). nearest links direction p back none (keep is_taken l)) (sym (n.list f below)) ∙ nearest_is es None tt (λ e i. n.ends f e below i))
         (move_is f (below, refl))
 
     -- what is answered, by the nearest other end
-    pub next_other : (e : ℕ) → nearest_other ≡ Leave e → NextIs links direction bits f (Leave e)
+    next_other : (e : ℕ) → nearest_other ≡ Some e → NextIs links direction bits f (Some e)
     next_other e q =
         let h : At e × (remains bits (move_of (length links) direction e) ≡ true) =
-        subst (Leaving (λ g. At g × (remains bits (move_of (length links) direction g) ≡ true))) q (nearest-has links direction f _ bits es Stop tt (λ g i l. (n.ends f g below i, l))) in (
+        subst (Leaving (λ g. At g × (remains bits (move_of (length links) direction g) ≡ true))) q (nearest-has links direction f _ bits es None tt (λ g i l. (n.ends f g below i, l))) in (
           find_is ∙ ap (λ (r : NextEnd). or_else (move_from links direction p) (as_link r) (if_remains bits (move_of (length links) direction f))) q ∙ ap some (move_is e h.0),
           h.0.0,
           h.1,
         )
 
-    module _ (q : nearest_other ≡ Stop) where
+    module _ (q : nearest_other ≡ None) where
       alone : find_nearest links direction (link f) p bits ≡ if_remains bits (move_of (length links) direction f)
       alone = find_is ∙ ap (λ (r : NextEnd). or_else (move_from links direction p) (as_link r) (if_remains bits (move_of (length links) direction f))) q
 
-      pub next_current : remains bits (move_of (length links) direction f) ≡ true → NextIs links direction bits f (Leave f)
+      next_current : remains bits (move_of (length links) direction f) ≡ true → NextIs links direction bits f (Some f)
       next_current l = (alone ∙ rw l, below, l)
 
-      pub next_none : remains bits (move_of (length links) direction f) ≡ false → NextIs links direction bits f Stop
+      next_none : remains bits (move_of (length links) direction f) ≡ false → NextIs links direction bits f None
       next_none l = alone ∙ rw l
+
+    -- by what is found of the other ends, the current link's own end is answered or not
+    pub next_is : length bits ≡ length links → {found : NextEnd} (answer : NextEnd) → found ≡ nearest_other
+        → MatchOption found (answer ≡ cond (remains bits (move_of (length bits) direction f)) (Some f) None) (λ e. answer ≡ Some e) → NextIs links direction bits f answer
+    next_is as_many {found} answer q h = go found q h
+      where
+        by : nearest_other ≡ None → (t : Bool) → remains bits (move_of (length links) direction f) ≡ t → answer ≡ cond t (Some f) None → NextIs links direction bits f answer
+        by e true r h = rw h (next_current e r)
+        by e false r h = rw h (next_none e r)
+
+        go : (n : NextEnd) → n ≡ nearest_other → MatchOption n (answer ≡ cond (remains bits (move_of (length bits) direction f)) (Some f) None) (λ e. answer ≡ Some e) → NextIs links direction bits f answer
+        go None q h = by (sym q) (remains bits (move_of (length links) direction f)) refl (rw as_many at h)
+        go (Some e) q h = rw h (next_other e (sym q))

@@ -1,13 +1,11 @@
 -- The choice of the next move over flat lists, as the code goes: a move is named by the end of a link that it leaves.
-use Rattle.std.specs.Prelude.{List, [], ◌∷◌, Bool, not, ◌&&◌, cond, ℕ, eqb, length}
+use Rattle.std.specs.Prelude.{List, [], ◌∷◌, Some, None, Bool, not, ◌&&◌, cond, ℕ, eqb, length}
 use Rattle.geom.specs.declared.Point.{Point}
 use Rattle.segm.specs.Segments.{Drawing}
 use Rattle.ends.specs.Ends.{end_point}
 use Rattle.graph.specs.Nodes.{other_end}
-use Rattle.moves.specs.declared.NextEnd.{NextEnd}
-use Rattle.moves.specs.declared.NextEnd.TheVariants.{Stop, Leave}
 use Rattle.moves.specs.Moves.{remains}
-use Rattle.moves.specs.ByEnd.{move_of}
+use Rattle.moves.specs.ByEnd.{NextEnd, move_of}
 use Rattle.slice_walk.specs.Walk.{is_nearer}
 
 -- where the link of end e leads from there
@@ -16,8 +14,8 @@ far_point links e = end_point links (other_end (length links) e)
 
 -- the nearer of the best end so far and e to a, turning about c, where they are left
 unfoldable pub add_end : Drawing → Bool → Point → Point → NextEnd → ℕ → NextEnd
-add_end links direction c a Stop e = Leave e
-add_end links direction c a (Leave b) e = cond (is_nearer direction c a (far_point links b) (far_point links e)) (Leave e) (Leave b)
+add_end links direction c a None e = Some e
+add_end links direction c a (Some b) e = cond (is_nearer direction c a (far_point links b) (far_point links e)) (Some e) (Some b)
 
 -- e is another end than f, and can be left
 unfoldable pub is_other : Drawing → Bool → ℕ → List ℕ → ℕ → Bool
@@ -31,5 +29,5 @@ nearest_end links direction f bits best (e ∷ es) =
 
 -- the end that is left, if one is, has P
 abbrev pub Leaving : (ℕ → Type 0) → NextEnd → Type 0
-Leaving P Stop = Unit {0}
-Leaving P (Leave e) = P e
+Leaving P None = Unit {0}
+Leaving P (Some e) = P e

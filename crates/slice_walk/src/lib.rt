@@ -5,38 +5,23 @@ mod nearest;
 
 ghost use Rattle.std.specs.Prelude.{◌≡◌, ◌*◌, ◌%◌, ◌≤◌, ◌<◌, length, get_or};
 ghost use Rattle.segm.specs.Segments.{segments};
+ghost use Rattle.moves.specs.ByEnd.{graph_of};
 ghost use Rattle.moves.specs.Moves.{bits_remaining};
 ghost use Rattle.slice_walk.specs.Walk.{walks};
 ghost use Rattle.slice_walk.specs.Writing.{SliceLists, walk_at, WalkIs, WalksAre};
 
-use moves::NextEnd;
+use moves::Graph;
 use nearest::find_nearest;
 
-// How a walk ends: back where it began, after so many moves, or where it finds no move.
-#[derive(Clone, Copy)]
-pub enum Walked {
-    Closed(usize),
-    Stuck,
-}
-
-// How all walks end: each back where it began, so many of them, or one where it finds no move.
-#[derive(Clone, Copy)]
-pub enum Walks {
-    Done(usize),
-    Stuck,
-}
-
-// The walk that begins with link k, to the points that its moves leave.
+// The walk that begins with link k, to the points that its moves leave: how many there are, or none where it finds no move.
 fn write_walk(
     links: &[i32],
-    flat: &[u16],
-    starts: &[u16],
-    nodes: &[u16],
+    g: Graph,
     bits: &mut [u8],
     k: usize,
     points: &mut [i32],
-) -> Walked
-    requires { SliceLists (segments links.now) flat.now starts.now nodes.now bits.old
+) -> Option<usize>
+    requires { SliceLists (segments links.now) (graph_of g) bits.old
         × (k < length bits.old)
         × (get_or bits.old k 0 % 4 ≡ 0 → ⊥)
         × (2 * bits_remaining bits.old ≤ length points.old) }
@@ -45,57 +30,46 @@ fn write_walk(
     let m = bits.len();
     let direction = moves::has(bits[k], true);
     let home = ends::end_point(links, k);
-    let mut n: usize = 0;
-    let mut next = NextEnd::Leave(k);
+    let mut n = 0;
+    let mut e = k;
     loop {
-        let NextEnd::Leave(e) = next else {
-            return Walked::Stuck;
-        };
-        moves::take(nodes, bits, e, direction);
+        moves::take(g.nodes, bits, e, direction);
         contour::put_point(points, n, ends::end_point(links, e));
         n += 1;
         let f = graph::other_end(m, e);
         if geom::same(ends::end_point(links, f), home) {
-            return Walked::Closed(n);
+            return Some(n);
         }
-        next = find_nearest(links, flat, starts, nodes, bits, f, direction);
+        e = find_nearest(links, g, bits, f, direction)?;
     }
 }
 
-// All walks: their points, how many each has, and its direction.
+// All walks: their points, how many each has, and its direction. Returns how many there are, or none where one finds no move.
 pub fn write_walks(
     links: &[i32],
-    flat: &[u16],
-    starts: &[u16],
-    nodes: &[u16],
+    g: Graph,
     bits: &mut [u8],
     points: &mut [i32],
     lengths: &mut [u16],
     directions: &mut [u8],
-) -> Walks
-    requires { SliceLists (segments links.now) flat.now starts.now nodes.now bits.old
+) -> Option<usize>
+    requires { SliceLists (segments links.now) (graph_of g) bits.old
         × (4 * length bits.old ≤ length points.old)
         × (2 * length bits.old ≤ length lengths.old)
         × (2 * length bits.old ≤ length directions.old) }
     ensures { WalksAre (segments links.now) (walks (segments links.now) bits.old) points.old lengths.old directions.old result points.new lengths.new directions.new }
 {
-    let m = bits.len();
-    let mut walks: usize = 0;
-    let mut at: usize = 0;
-    let mut k: usize = 0;
-    while k < m {
-        if bits[k] % 4 == 0 {
-            k += 1;
-        } else {
+    let mut walks = 0;
+    let mut at = 0;
+    for k in 0..bits.len() {
+        // A walk takes one of the link's bits at least.
+        while bits[k] % 4 != 0 {
             directions[walks] = bits[k] % 2;
-            let walked = write_walk(links, flat, starts, nodes, bits, k, &mut points[2 * at..]);
-            let Walked::Closed(n) = walked else {
-                return Walks::Stuck;
-            };
+            let n = write_walk(links, g, bits, k, &mut points[2 * at..])?;
             lengths[walks] = n as u16;
             walks += 1;
             at += n;
         }
     }
-    Walks::Done(walks)
+    Some(walks)
 }

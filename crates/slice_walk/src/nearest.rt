@@ -4,17 +4,17 @@ ghost use Rattle.std.specs.Prelude.{◌≡◌, true, ◌*◌, ◌<◌, ◌≤◌
 ghost use Rattle.geom.specs.Points.{in_range};
 ghost use Rattle.segm.specs.Segments.{segments};
 ghost use Rattle.graph.specs.Nodes.{part};
-ghost use Rattle.moves.specs.declared.NextEnd.TheVariants.{Stop};
-ghost use Rattle.moves.specs.ByEnd.{NodeAt};
+ghost use Rattle.moves.specs.ByEnd.{graph_of, NodeAt};
 ghost use Rattle.faults.specs.Faultless.{Faultless};
 ghost use Rattle.slice_walk.specs.Walk.{is_wide, is_nearer};
 ghost use Rattle.slice_walk.specs.Ends.{far_point, add_end, nearest_end, Leaving};
 ghost use Rattle.slice_walk.specs.Writing.{SliceLists, NextIs};
 
 use geom::Point;
-use moves::NextEnd;
+use moves::Graph;
 
 // Whether the angle from a to p about c is 180 degrees or more, or none.
+#[tactic(auto, using(crate::proofs::Ends::le_turned), unfolding(crate::specs::Walk::is_wide, crate::specs::Walk::rotated))]
 fn is_wide(clockwise: bool, c: Point, a: Point, p: Point) -> bool
     requires { (in_range c ≡ true) × (in_range a ≡ true) × (in_range p ≡ true) }
     ensures { result ≡ is_wide clockwise c a p }
@@ -24,6 +24,7 @@ fn is_wide(clockwise: bool, c: Point, a: Point, p: Point) -> bool
 }
 
 // Whether p takes the place of b as the nearest to a, turning about c.
+#[tactic(auto, using(crate::proofs::Ends::lt_turned), unfolding(crate::specs::Walk::is_nearer, crate::specs::Walk::rotated))]
 fn is_nearer(clockwise: bool, c: Point, a: Point, b: Point, p: Point) -> bool
     requires { (in_range c ≡ true) × (in_range a ≡ true) × (in_range b ≡ true) × (in_range p ≡ true) }
     ensures { result ≡ is_nearer clockwise c a b p }
@@ -37,6 +38,7 @@ fn is_nearer(clockwise: bool, c: Point, a: Point, b: Point, p: Point) -> bool
 }
 
 // Where the link of end e leads from there.
+#[tactic(auto, using(crate::proofs::Ends::counted), unfolding(crate::specs::Ends::far_point))]
 fn far_point(links: &[i32], e: usize) -> Point
     requires { length (segments links.now) ≤ 1024 }
     ensures { result ≡ far_point (segments links.now) e }
@@ -46,7 +48,15 @@ fn far_point(links: &[i32], e: usize) -> Point
 }
 
 // The nearer of the best end so far and e to a, turning about c, where they are left.
-fn add(links: &[i32], direction: bool, c: Point, a: Point, best: NextEnd, e: usize) -> NextEnd
+#[tactic(auto, using(crate::proofs::Ends::far_near), unfolding(crate::specs::Ends::add_end))]
+fn add(
+    links: &[i32],
+    direction: bool,
+    c: Point,
+    a: Point,
+    best: Option<usize>,
+    e: usize,
+) -> Option<usize>
     requires { Faultless (segments links.now)
         × (in_range c ≡ true)
         × (in_range a ≡ true)
@@ -54,42 +64,36 @@ fn add(links: &[i32], direction: bool, c: Point, a: Point, best: NextEnd, e: usi
         × (e < 2 * length (segments links.now)) }
     ensures { result ≡ add_end (segments links.now) direction c a best e }
 {
-    let NextEnd::Leave(b) = best else {
-        return NextEnd::Leave(e);
-    };
-    if is_nearer(direction, c, a, far_point(links, b), far_point(links, e)) {
-        return NextEnd::Leave(e);
+    match best {
+        Some(b) if !is_nearer(direction, c, a, far_point(links, b), far_point(links, e)) => best,
+        _ => Some(e),
     }
-    best
 }
 
 // The nearest of the ends at node v but f that can be left.
 fn find_other(
     links: &[i32],
-    flat: &[u16],
-    starts: &[u16],
+    g: Graph,
     bits: &[u8],
     v: usize,
     f: usize,
     direction: bool,
-) -> NextEnd
+) -> Option<usize>
     requires { Faultless (segments links.now)
         × (length bits.now ≡ length (segments links.now))
-        × NodeAt (length bits.now) flat.now starts.now v
+        × NodeAt (length bits.now) g.flat.now g.starts.now v
         × (f < 2 * length bits.now) }
-    ensures { result ≡ nearest_end (segments links.now) direction f bits.now Stop (part flat.now starts.now v) }
+    ensures { result ≡ nearest_end (segments links.now) direction f bits.now None (part g.entry.flat.now g.entry.starts.now v) }
 {
     let c = ends::end_point(links, f);
     let a = far_point(links, f);
-    let end = starts[v + 1] as usize;
-    let mut j = starts[v] as usize;
-    let mut best = NextEnd::Stop;
-    while j < end {
-        let e = flat[j] as usize;
-        if (e != f) & moves::remains(bits, e, direction) {
+    let node_ends = &g.flat[g.starts[v] as usize..g.starts[v + 1] as usize];
+    let mut best = None;
+    for end in node_ends {
+        let e = *end as usize;
+        if e != f && moves::remains(bits, e, direction) {
             best = add(links, direction, c, a, best, e);
         }
-        j += 1;
     }
     best
 }
@@ -97,23 +101,15 @@ fn find_other(
 // The end that the next move leaves at the point of f, the current link's end there: of those that can be left the nearest other one, or f itself.
 pub fn find_nearest(
     links: &[i32],
-    flat: &[u16],
-    starts: &[u16],
-    nodes: &[u16],
+    g: Graph,
     bits: &[u8],
     f: usize,
     direction: bool,
-) -> NextEnd
-    requires { SliceLists (segments links.now) flat.now starts.now nodes.now bits.now × (f < 2 * length bits.now) }
+) -> Option<usize>
+    requires { SliceLists (segments links.now) (graph_of g) bits.now × (f < 2 * length bits.now) }
     ensures { NextIs (segments links.now) direction bits.now f result }
 {
-    let v = nodes[f] as usize;
-    let next = find_other(links, flat, starts, bits, v, f, direction);
-    let NextEnd::Stop = next else {
-        return next;
-    };
-    if moves::remains(bits, f, direction) {
-        return NextEnd::Leave(f);
-    }
-    NextEnd::Stop
+    let v = g.nodes[f] as usize;
+    let other = find_other(links, g, bits, v, f, direction);
+    other.or_else(|| moves::remains(bits, f, direction).then_some(f))
 }

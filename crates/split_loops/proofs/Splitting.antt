@@ -5,6 +5,7 @@ use mathlib.Core.Bool.{Bool, cond}
 use Prim.Native.Nat.{ℕ, zero, suc, ◌+◌, ◌-◌, ◌*◌, ◌<◌, ◌≤◌, ◌/◌, ◌%◌}
 use native.Mathlib.Omega.{arith}
 use lib.ListN.{length, take, drop, set, length-append, take-append-drop, replicate}
+use Rattle.std.proofs.lemmas.List.{length-replicate}
 use lib.Seq.{length-take-le, take-suc-set, take-nil, drop-drop, set_split}
 use lib.IntN.{ℤ, pos}
 use Rattle.geom.specs.declared.Point.{Point}
@@ -14,7 +15,6 @@ use Rattle.split_loops.specs.Splitting.{first_points, Adds, Working, loop_totals
 use native.Mathlib.Numerals.{add-one}
 use Rattle.lists.specs.Members.{keep}
 use Rattle.lists.specs.Written.{written}
-use Rattle.lists.proofs.Written.{part_back}
 use Rattle.lists.proofs.Entries.{flatten-++}
 use Rattle.contour.proofs.Points.Written.{writes_more}
 use Rattle.split_loops.specs.declared.buffer.LoopTotals.{LoopTotals}
@@ -60,17 +60,17 @@ adds_none found out lengths = record {
   lengths_are = sym (take-append-drop found.loops lengths);
 }
 
-pub adds_one : (contour : List ℤ) (found : LoopTotals) (out : List ℤ) (lengths : List ℕ) → length contour % 2 ≡ 0 → found.loops < length lengths
+pub adds_one : (contour : List ℤ) (found : LoopTotals) (out : List ℤ) (lengths : List ℕ) (n : ℕ) → length contour % 2 ≡ 0 → found.loops < length lengths → n ≡ length contour
     → Adds (pair_up contour ∷ []) found (record { loops = found.loops + 1; points = found.points + length contour / 2 }) out lengths
-    (take (2 * found.points) out ++ (written contour (take (length out - 2 * found.points) (drop (2 * found.points) out)) ++ drop (length out - 2 * found.points) (drop (2 * found.points) out)))
-    (set lengths found.loops (length contour / 2))
-unfolding flatten
-adds_one contour found out lengths whole room =
+    (take (2 * found.points) out ++ (contour ++ drop n (drop (2 * found.points) out))) (set lengths found.loops (length contour / 2))
+unfolding flatten written
+adds_one contour found out lengths n whole room e =
     let one : flatten (pair_up contour ∷ []) ≡ pair_up contour = append-nil (pair_up contour) in
+    let past = drop (2 * found.points) out in
     record {
       loops_are = omega arith;
       points_are = ap (found.points +◌) (sym (length_pairs contour) ∙ sym (ap length one));
-      out_is = part_back contour out (2 * found.points) ∙ ap (λ (l : List ℤ). take (2 * found.points) out ++ written l (drop (2 * found.points) out)) (sym (coordinates_pairs contour whole) ∙ sym (ap coordinates one));
+      out_is = ap (λ m. take (2 * found.points) out ++ (contour ++ drop m past)) e ∙ ap (λ (l : List ℤ). take (2 * found.points) out ++ written l past) (sym (coordinates_pairs contour whole) ∙ sym (ap coordinates one));
       lengths_are = set_after lengths found.loops (length contour / 2) room ∙ ap (λ n. take found.loops lengths ++ written (n ∷ []) (drop found.loops lengths)) (sym (length_pairs contour));
     }
 
@@ -91,9 +91,14 @@ writes_on done more {out₁} {lengths₁} e w a =
       lengths_are = a.lengths_are ∙ ap (λ (f : LoopTotals). take f.loops lengths₁ ++ written (map length more) (drop f.loops lengths₁)) e ∙ v.lengths_are;
     }
 
--- ---- fresh arrays are working memory: the small ones for up to 256 points, the large ones for any that can be split
-pub small_working : (n : ℕ) → n ≤ 256 → Working n (replicate 257 0) (replicate 256 0) (replicate 512 (pos 0)) (replicate 256 0) (replicate 512 (pos 0))
-small_working n h = record { heads_fit = omega arith; nexts_fit = omega arith; seen_fit = omega arith; numbers_fit = omega arith; buffer_fits = omega arith; buffer_few = omega arith }
-
-pub any_working : (n : ℕ) → n ≤ 2048 → Working n (replicate 2049 0) (replicate 2048 0) (replicate 4096 (pos 0)) (replicate 2048 0) (replicate 4096 (pos 0))
-any_working n h = record { heads_fit = omega arith; nexts_fit = omega arith; seen_fit = omega arith; numbers_fit = omega arith; buffer_fits = omega arith; buffer_few = omega arith }
+-- ---- fresh arrays are working memory for as many points as they have room for
+pub array_working : {points numbers bins : ℕ} (n : ℕ) → points ≤ 2048 → numbers ≡ 2 * points → bins ≡ points + 1 → n ≤ points
+    → Working n (replicate bins 0) (replicate points 0) (replicate numbers (pos 0)) (replicate points 0) (replicate numbers (pos 0))
+array_working {points} {numbers} {bins} n few e f h = record {
+  heads_fit = omega (arith, length-replicate {A = ℕ} bins 0);
+  nexts_fit = omega (arith, length-replicate {A = ℕ} points 0);
+  seen_fit = omega (arith, length-replicate numbers (pos 0));
+  numbers_fit = omega (arith, length-replicate {A = ℕ} points 0);
+  buffer_fits = omega (arith, length-replicate numbers (pos 0));
+  buffer_few = omega (arith, length-replicate numbers (pos 0));
+}

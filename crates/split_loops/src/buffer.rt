@@ -4,10 +4,11 @@ ghost use Rattle.geom.specs.Points.{in_range};
 ghost use Rattle.lists.specs.Members.{keep};
 ghost use Rattle.contour.specs.Points.{pair_up, AllInRange, Writes};
 ghost use Rattle.contour.specs.Area.{is_large};
-ghost use Rattle.bin_store.specs.Bins.{Binned};
+ghost use Rattle.bin_store.specs.Stores.{IsBinned};
 ghost use Rattle.split_loops.specs.Loops.{buffer_point, buffer_points, rest, split_loops};
 ghost use Rattle.split_loops.specs.Splitting.{loop_totals, first_points, Adds, Working, Splittable};
 
+use bin_store::BinStore;
 use geom::Point;
 
 // How many loops and points were written.
@@ -43,13 +44,12 @@ fn add_loop(
         return found;
     }
     let n = contour.len() / 2;
-    let at = found.points;
-    let k = found.loops;
-    contour::copy(contour, &mut out[2 * at..]);
-    lengths[k] = n as u32;
+    let start = 2 * found.points;
+    out[start..start + contour.len()].copy_from_slice(contour);
+    lengths[found.loops] = n as u32;
     LoopTotals {
-        loops: k + 1,
-        points: at + n,
+        loops: found.loops + 1,
+        points: found.points + n,
     }
 }
 
@@ -99,21 +99,19 @@ fn length_after(number: u16, len: usize) -> usize
     if from < len { from } else { len + 1 }
 }
 
-// One point after the other: what was found, and how many points the buffer has then.
+// One point after the other, with an empty memory: what was found, and how many points the buffer has then.
 fn take_points(
     points: &[i32],
     min_area: u64,
-    heads: &mut [u16],
-    nexts: &mut [u16],
-    seen: &mut [i32],
-    numbers: &mut [u16],
+    mut store: BinStore,
     buffer: &mut [i32],
     out: &mut [i32],
     lengths: &mut [u32],
 ) -> Taken
     requires { Splittable points.now
-        × Binned 0 heads.old nexts.old seen.old numbers.old
-        × Working (length (pair_up points.now)) heads.old nexts.old seen.old numbers.old buffer.old
+        × IsBinned store
+        × (store.count ≡ 0)
+        × Working (length (pair_up points.now)) store.heads.now store.nexts.now store.seen.now store.numbers.now buffer.old
         × (length points.now ≤ length out.old)
         × (length (pair_up points.now) ≤ length lengths.old) }
     ensures { (result.found ≡ loop_totals (keep (is_large min_area) (buffer_points [] [] (pair_up points.now)).loops))
@@ -121,27 +119,18 @@ fn take_points(
         × (first_points result.len buffer.new ≡ (buffer_points [] [] (pair_up points.now)).buffer)
         × Writes (keep (is_large min_area) (buffer_points [] [] (pair_up points.now)).loops) out.old lengths.old out.new lengths.new }
 {
-    let n = points.len() / 2;
     let mut found = LoopTotals {
         loops: 0,
         points: 0,
     };
-    let mut count: usize = 0;
-    let mut len: usize = 0;
-    let mut i: usize = 0;
-    while i < n {
+    let mut len = 0;
+    for i in 0..points.len() / 2 {
         let p = contour::point_at(points, i);
-        let s = bin_store::sight_point(count, heads, nexts, seen, numbers, p, (len + 1) as u16);
-        let number = s.number;
+        let number = store.insert_if_not_exist(p, (len + 1) as u16);
         found = close(p, number, min_area, buffer, len, out, lengths, found);
-        count = s.count;
         len = length_after(number, len);
-        i += 1;
     }
-    Taken {
-        found: found,
-        len: len,
-    }
+    Taken { found, len }
 }
 
 // A rest of three or more points is the last loop.
@@ -185,18 +174,13 @@ pub fn split_loops(
         × Writes (split_loops min_area (pair_up points.now)) out.old lengths.old out.new lengths.new }
 {
     let bins = points.len() / 2 + 1;
-    bin_store::clear(&mut heads[..bins], nexts, seen, numbers);
-    let t = take_points(
-        points,
+    let store = BinStore::new(&mut heads[..bins], nexts, seen, numbers);
+    let taken = take_points(points, min_area, store, buffer, out, lengths);
+    add_rest(
+        &buffer[..2 * taken.len],
         min_area,
-        &mut heads[..bins],
-        nexts,
-        seen,
-        numbers,
-        buffer,
         out,
         lengths,
-    );
-    let end = 2 * t.len;
-    add_rest(&buffer[..end], min_area, out, lengths, t.found)
+        taken.found,
+    )
 }

@@ -6,7 +6,7 @@
 // after those of a node.
 #![tactic(auto)]
 
-ghost use Rattle.std.specs.Prelude.{◌≡◌, true, ◌*◌, ◌≤◌, ◌<◌, length, take};
+ghost use Rattle.std.specs.Prelude.{◌*◌, ◌≤◌, ◌<◌, length, take, IfSome, IsSome};
 ghost use Rattle.segm.specs.Segments.{segments};
 ghost use Rattle.faults.specs.Faultless.{Faultless};
 ghost use Rattle.strip.specs.Neighbours.{PlacesOf, InOrder};
@@ -24,22 +24,14 @@ fn node_end(s: &[i32], from: usize, to: usize) -> usize
 {
     let first = segm::segment_in(s, from);
     let p = first.a;
-    let mut j = from + 1;
-    while j < to {
+    for j in from + 1..to {
         let t = segm::segment_in(s, j);
-        if !geom::same(t.a, p) {
+        let here = geom::same(t.a, p);
+        if !here {
             return j;
         }
-        j += 1;
     }
-    j
-}
-
-// The lesser of two.
-fn lesser(x: usize, y: usize) -> usize
-    ensures { (result ≤ y) × (x ≤ y → result ≡ x) }
-{
-    if x < y { x } else { y }
+    to
 }
 
 // The segments of one node, places from..to, are passed. The place told is that after those of them that entered.
@@ -48,14 +40,13 @@ fn start_node(
     from: usize,
     to: usize,
     list: &mut [u16],
-    used: usize,
-    guess: usize,
+    status: Status,
     tops: &mut [i32],
-) -> Status
-    requires { let d = segments s.now in let l = take used list.old in
+) -> Option<Status>
+    requires { let d = segments s.now in let l = take status.used list.old in
         Faultless d
         × (to ≤ length d)
-        × (used ≤ from)
+        × (status.used ≤ from)
         × RoomFor (length d) list.old
         × (length d ≤ length tops.old)
         × PlacesOf d l
@@ -63,41 +54,35 @@ fn start_node(
         × Splits d from
         × NodeEnd d from to to
         × BoundedBy (2048000 * from) tops.old }
-    ensures { let d = segments s.now in let l = take used list.old in let l' = take result.used list.new in
-        (result.clear ≡ true → ((result.used ≤ to) × Started d from to l l' tops.old tops.new × BoundedBy (2048000 * to) tops.new))
-        × (CanStart d from to l → result.clear ≡ true) }
+    ensures passed { let d = segments s.now in let l = take status.used list.old in
+        IfSome result (λ started. let l' = take started.used list.new in
+        (started.used ≤ to) × Started d from to l l' tops.old tops.new × BoundedBy (2048000 * to) tops.new) }
+    ensures can { CanStart (segments s.now) from to (take status.used list.old) → IsSome result }
 {
-    let entered = open_list::enter_all(s, from, to, list, used, guess);
-    if !entered.clear {
-        return open_list::unclear();
+    let entered = open_list::enter_all(s, from, to, list, status)?;
+    let used = entered.used;
+    let near = entered.near.min(used);
+    let high = count_up::count_node(s, &list[..used], from, near, tops);
+    if !verticals::stand_all(s, from, to, &list[..used], high, tops) {
+        return None;
     }
-    let near = lesser(entered.near, entered.used);
-    let high = count_up::count_node(s, &list[..entered.used], from, near, tops);
-    if !verticals::stand_all(s, from, to, &list[..entered.used], high, tops) {
-        return open_list::unclear();
-    }
-    Status {
-        used: entered.used,
-        near: high,
-        clear: true,
-    }
+    Some(Status { used, near: high })
 }
 
-// All segments of places from..to, which start at one x, are passed. The place told is the lowest of those after the nodes, or the guess.
+// All segments of places from..to, which start at one x, are passed. The place told is the lowest of those after the nodes, or the one before.
 pub fn start_all(
     s: &[i32],
     from: usize,
     to: usize,
     list: &mut [u16],
-    used: usize,
-    guess: usize,
+    status: Status,
     tops: &mut [i32],
-) -> Status
-    requires { let d = segments s.now in let l = take used list.old in
+) -> Option<Status>
+    requires { let d = segments s.now in let l = take status.used list.old in
         Faultless d
         × (from ≤ to)
         × (to ≤ length d)
-        × (used ≤ from)
+        × (status.used ≤ from)
         × RoomFor (length d) list.old
         × (length d ≤ length tops.old)
         × PlacesOf d l
@@ -105,28 +90,22 @@ pub fn start_all(
         × Splits d from
         × Splits d to
         × BoundedBy (2048000 * from) tops.old }
-    ensures { let d = segments s.now in let l = take used list.old in let l' = take result.used list.new in
-        (result.clear ≡ true → ((result.used ≤ to) × Started d from to l l' tops.old tops.new × BoundedBy (2048000 * to) tops.new))
-        × (CanStart d from to l → result.clear ≡ true) }
+    ensures passed { let d = segments s.now in let l = take status.used list.old in
+        IfSome result (λ started. let l' = take started.used list.new in
+        (started.used ≤ to) × Started d from to l l' tops.old tops.new × BoundedBy (2048000 * to) tops.new) }
+    ensures can { CanStart (segments s.now) from to (take status.used list.old) → IsSome result }
 {
-    let mut held = used;
-    let mut near = guess;
-    let mut lowest = guess;
+    let mut held = status;
+    let mut lowest = None;
     let mut i = from;
     while i < to {
         let next = node_end(s, i, to);
-        let started = start_node(s, i, next, list, held, near, tops);
-        if !started.clear {
-            return open_list::unclear();
-        }
-        near = started.near;
-        lowest = open_list::lowest_place(i == from, lowest, near);
-        held = started.used;
+        held = start_node(s, i, next, list, held, tops)?;
+        lowest = Some(open_list::lowest_place(lowest, held.near));
         i = next;
     }
-    Status {
-        used: held,
-        near: lowest,
-        clear: true,
-    }
+    Some(Status {
+        used: held.used,
+        near: lowest.unwrap_or(status.near),
+    })
 }

@@ -4,13 +4,13 @@ use mathlib.Core.Bool.{true, true≢false}
 use mathlib.Core.List.{List}
 use Prim.Native.Nat.{ℕ, ◌*◌, ◌≤◌}
 use native.Mathlib.Omega.{arith}
+use Rattle.std.specs.Prelude.{Ok}
 use borrow.Author.Tests.{le-ltb}
 use lib.ListN.{length}
 use lib.IntN.{ℤ}
 use Rattle.integers.proofs.Booleans.{same_test}
 use Rattle.lists.specs.Written.{written}
-use Rattle.refusal.specs.declared.Verdict.TheVariants.{Accepted}
-use Rattle.refusal.specs.Order.{is_accepted, ◌then◌}
+use Rattle.refusal.specs.Order.{accepted, is_accepted, ◌then◌}
 use Rattle.refusal.specs.Asked.{too_short}
 use Rattle.refusal.proofs.Order.{accepted_then, is_accepted_lem}
 use Rattle.refusal.proofs.Asked.{whole_entries}
@@ -19,7 +19,6 @@ use Rattle.segm.proofs.Segments.Laid.{laid-segments}
 use Rattle.checks.specs.Accepted.{accepts}
 use Rattle.checks.proofs.Runs.{passed}
 use Rattle.text.specs.declared.Choices.{Choices}
-use Rattle.text.specs.declared.Reading.TheVariants.{Read}
 use Rattle.text.specs.Grammar.{Parsed, BadLine, Drawn, most_bytes, parsed}
 use Rattle.text.specs.Storing as reading
 use Rattle.text.specs.Storing.{choices_in, numbers_in}
@@ -29,7 +28,6 @@ use Rattle.text_forms.specs.declared.Form.TheVariants.{New}
 use Rattle.text_forms.specs.Forms.{writing}
 use Rattle.text_forms.specs.Reading.{with_all, parsed_in}
 use Rattle.text_forms.proofs.Forms.{Kept, Held, reads, held, one_text, holds_in}
-use Rattle.stored_text.specs.declared.Wrote.TheVariants.{Done}
 use Rattle.stored_text.specs.Outcome.{outcome, input_verdict, lots_of, write_outcome, moved_into, move_outcome}
 use Rattle.stored_text.specs.Laws.{bytes_of, accepts_parsed, accepts_text, ReadsBack, ReadAgain, OnlyText, ThereAndBack, MovedSame, AcceptedAlike, AcceptedMoves}
 use Rattle.stored_text.proofs.Written.{writes, was_written, bytes_written}
@@ -39,7 +37,7 @@ use Rattle.stored_text.proofs.Accepted.{accepted_fits, accepted_text}
 -- ---- a text that is accepted
 record Good (form : Form) (text : List ℕ) (c : Choices) (numbers : List ℤ) : Type 0 where
   parsed : parsed_in form text ≡ Drawn c numbers
-  accepted : input_verdict c numbers ≡ Accepted
+  accepted : input_verdict c numbers ≡ accepted
 
 module _ {form : Form} {text : List ℕ} {c : Choices} {numbers : List ℤ} (g : Good form text c numbers) where
   abbrev d : Drawing
@@ -88,14 +86,14 @@ record Moved (from to : Form) (text old : List ℕ) : Type 0 where
   choices : Choices
   numbers : List ℤ
   good : Good from text choices numbers
-  lots : lots_of to (segments numbers) ≡ Accepted
+  lots : lots_of to (segments numbers) ≡ accepted
   bytes : bytes_of (move_outcome from to text old) ≡ writing to choices (segments numbers)
 
-was_moved : (from to : Form) (text old : List ℕ) {n : ℕ} → (move_outcome from to text old).answer ≡ Done n → Moved from to text old
+was_moved : (from to : Form) (text old : List ℕ) {n : ℕ} → (move_outcome from to text old).answer ≡ Ok n → Moved from to text old
 unfolding move_outcome
 was_moved from to text old {n} e = go (parsed_in from text) refl e
   where
-    go : (p : Parsed) → parsed_in from text ≡ p → (moved_into to old p).answer ≡ Done n → Moved from to text old
+    go : (p : Parsed) → parsed_in from text ≡ p → (moved_into to old p).answer ≡ Ok n → Moved from to text old
     go (BadLine line) q a = let w = was_written _ _ old a in absurd (differ (cc))
     go (Drawn c numbers) q a =
         let w = was_written (input_verdict c numbers then lots_of to (segments numbers)) (writing to c (segments numbers)) old a in
@@ -108,14 +106,14 @@ was_moved from to text old {n} e = go (parsed_in from text) refl e
           bytes = ap (λ (p : Parsed). bytes_of (moved_into to old p)) q ∙ bytes_written w;
         }
 
-good_moves : (to : Form) (old : List ℕ) {from : Form} {text : List ℕ} {c : Choices} {numbers : List ℤ} → Good from text c numbers → lots_of to (segments numbers) ≡ Accepted
-    → length (writing to c (segments numbers)) ≤ length old → move_outcome from to text old ≡ outcome (Done (length (writing to c (segments numbers)))) (written (writing to c (segments numbers)) old)
+good_moves : (to : Form) (old : List ℕ) {from : Form} {text : List ℕ} {c : Choices} {numbers : List ℤ} → Good from text c numbers → lots_of to (segments numbers) ≡ accepted
+    → length (writing to c (segments numbers)) ≤ length old → move_outcome from to text old ≡ outcome (Ok (length (writing to c (segments numbers)))) (written (writing to c (segments numbers)) old)
 unfolding move_outcome
 good_moves to old {from} {text} {c} {numbers} g k h =
     ap (moved_into to old) g.parsed ∙ writes (writing to c (segments numbers)) old (ap₂ ◌then◌ g.accepted k) h
 
 -- ---- the laws
-whole-laid : (c : Choices) (numbers : List ℤ) → input_verdict c numbers ≡ Accepted → laid (segments numbers) ≡ numbers
+whole-laid : (c : Choices) (numbers : List ℤ) → input_verdict c numbers ≡ accepted → laid (segments numbers) ≡ numbers
 whole-laid c numbers e = laid-segments numbers (whole_entries width 1024 (length numbers) (passed _ e).asks.right_length)
 
 pub reads_back : ReadsBack
@@ -131,7 +129,7 @@ new_parsed : (p : Parsed) → with_all New p ≡ p
 new_parsed (BadLine line) = refl
 new_parsed (Drawn c numbers) = refl
 
-read_whole : (c : Choices) (numbers list : List ℤ) → length numbers ≤ length list → reading.read_into list (Drawn c numbers) ≡ reading.outcome (Read c (length numbers)) (written numbers list)
+read_whole : (c : Choices) (numbers list : List ℤ) → length numbers ≤ length list → reading.read_into list (Drawn c numbers) ≡ reading.outcome (Ok (reading.reading c (length numbers))) (written numbers list)
 unfolding reading.read_verdict too_short
 read_whole c numbers list h = rw (le-ltb (length list) (1 * length numbers) (omega (arith, h)))
 
@@ -156,7 +154,7 @@ module _ (from to : Form) where
       let kept = kept_lots from (segments m.numbers) (holds g).holds.kept in
       ap (λ (t : List ℕ). move_outcome to from t back) m.bytes
       ∙ good_moves from back there kept (omega (arith, ap length is, room))
-      ∙ ap (λ (t : List ℕ). outcome (Done (length t)) (written t back)) is
+      ∙ ap (λ (t : List ℕ). outcome (Ok (length t)) (written t back)) is
 
   pub moved_same : MovedSame from to
   moved_same text old n e =
@@ -171,7 +169,7 @@ module _ (from to : Form) where
       let is = ap (λ (p : Parsed). writing to (choices_in p) (segments (numbers_in p))) (sym g.parsed) in
       let lots = ap (λ (p : Parsed). lots_of to (segments (numbers_in p))) (sym g.parsed) ∙ k in (
         subst (λ (t : List ℕ). length t ≤ most_bytes) is (moved_fits g to),
-        subst (λ (t : List ℕ). length t ≤ length old → move_outcome from to text old ≡ outcome (Done (length t)) (written t old)) is (good_moves to old g lots),
+        subst (λ (t : List ℕ). length t ≤ length old → move_outcome from to text old ≡ outcome (Ok (length t)) (written t old)) is (good_moves to old g lots),
       )
 
   pub accepted_alike : AcceptedAlike from to

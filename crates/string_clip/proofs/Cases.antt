@@ -13,7 +13,7 @@ use Rattle.lists.specs.UpFrom.{up_from}
 use Rattle.segm.specs.CaseA.{segment, A}
 use Rattle.segm.specs.Segments.{front, segments_of, count, whole, segments, segment_at, total}
 use Rattle.meetings.specs.Meetings.{side, parts, in_interior, same_ends, meets_wrongly}
-use Rattle.refusal.specs.declared.Verdict.TheVariants.{Accepted}
+use Rattle.refusal.specs.Order.{accepted}
 use Rattle.balance.specs.Balance.{balance, balances}
 use Rattle.faults.specs.Faults.{ends_in_range, rises, winding_in_range, bits_in_range, lot_in_range, fault, fault_at, faults_of}
 use Rattle.drawing_check.specs.Drawing.{meeting_at, unbalanced_at, meetings_of, unbalanced_of, drawing_verdict}
@@ -26,8 +26,11 @@ use Rattle.strip.specs.Strip.{spans, above, clockwise}
 use Rattle.ray.specs.Ray.{met, bottom, top, fill}
 use Rattle.build.specs.Links.{sides_set, keeps_sides, keeps, filter_of, kept_links}
 use Rattle.graph.specs.Nodes.{node}
-use Rattle.string_clip.specs.declared.Clipped.{Clipped}
-use Rattle.string_clip.specs.declared.Clipped.TheVariants.{Done, Refused}
+use Rattle.clip_paths.specs.declared.Totals.{Totals}
+use Rattle.refusal.specs.declared.Refusal.{Refusal}
+use Rattle.std.specs.Prelude.{Result, Ok, Err}
+use Rattle.refusal.specs.Order.{refusal}
+use Rattle.refusal.specs.declared.Kind.TheVariants.{UnknownChoice, TooShort}
 use Rattle.moves.specs.Bits.{has, clear}
 use Rattle.moves.specs.Steps.{as_drawn, way, other, fitting}
 use Rattle.moves.specs.Moves.{remains, taken, taken_all, bits_remaining, over}
@@ -39,7 +42,7 @@ use Rattle.string_clip.specs.Run.{lists, Outcome, outcome, answered, clip_outcom
 
 -- under nonzero, with no check
 abbrev clip : (invert boundary : ℤ) → List ℤ → List ℤ → List ℕ → Outcome
-clip invert boundary numbers points lengths = answered Accepted (clip_paths (rule_of (pos 1)) (filter_of invert boundary) (segments numbers)) (lists points lengths)
+clip invert boundary numbers points lengths = answered accepted (clip_paths (rule_of (pos 1)) (filter_of invert boundary) (segments numbers)) (lists points lengths)
 
 -- inside, and outside, boundary included
 abbrev clip_inside : List ℤ → List ℤ → List ℕ → Outcome
@@ -52,11 +55,11 @@ clip_outside = clip (pos 1) (pos 1)
 abbrev run : List ℤ → (rule invert boundary : ℤ) → List ℤ → List ℕ → Outcome
 run numbers rule invert boundary points lengths = clip_outcome numbers rule invert boundary (lists points lengths)
 
-abbrev out : Clipped → List ℤ → List ℕ → Outcome
+abbrev out : Result Totals Refusal → List ℤ → List ℕ → Outcome
 out answer points lengths = outcome answer (lists points lengths)
 
-abbrev found : ℕ → ℕ → ℕ → ℕ → Clipped
-found paths points steps travel = Done (record { paths = paths; points = points; steps = steps; travel = travel })
+abbrev found : ℕ → ℕ → ℕ → ℕ → Result Totals Refusal
+found paths points steps travel = Ok (record { paths = paths; points = points; steps = steps; travel = travel })
 
 abbrev there_and_back : List ℤ
 there_and_back = segment (pos 0) (pos 0) (pos 1) (pos 0) (pos 0) (pos 3)
@@ -94,8 +97,8 @@ pub record Cases : Type 0 where
   -- whole runs: lists exactly long enough, one too short, an unknown choice
   pub done : run there_and_back (pos 1) (pos 1) (pos 1) (map pos (up_from 1 8)) (9 ∷ 9 ∷ [])
       ≡ out (found 1 3 2 2) (pos 0 ∷ pos 0 ∷ pos 1 ∷ pos 0 ∷ pos 0 ∷ pos 0 ∷ pos 7 ∷ pos 8 ∷ []) (3 ∷ 9 ∷ [])
-  pub short : run there_and_back (pos 1) (pos 1) (pos 1) (map pos (up_from 1 8)) (9 ∷ []) ≡ out (Refused 11 0) (map pos (up_from 1 8)) (9 ∷ [])
-  pub unknown : run there_and_back (pos 1) (pos 2) (pos 1) (map pos (up_from 1 8)) (9 ∷ 9 ∷ []) ≡ out (Refused 10 0) (map pos (up_from 1 8)) (9 ∷ 9 ∷ [])
+  pub short : run there_and_back (pos 1) (pos 1) (pos 1) (map pos (up_from 1 8)) (9 ∷ []) ≡ out (Err (refusal TooShort 0)) (map pos (up_from 1 8)) (9 ∷ [])
+  pub unknown : run there_and_back (pos 1) (pos 2) (pos 1) (map pos (up_from 1 8)) (9 ∷ 9 ∷ []) ≡ out (Err (refusal UnknownChoice 0)) (map pos (up_from 1 8)) (9 ∷ 9 ∷ [])
   -- the claim is of something
   pub accepted-A : accepts A (pos 1) (pos 0) (pos 1) ≡ true
 

@@ -1,3 +1,2 @@
 pub mod Cases
-pub mod Memory
 pub mod Run

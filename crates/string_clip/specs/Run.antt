@@ -1,19 +1,18 @@
 -- A clip run: what it answers, what it writes to its lent lists, and how its output is read from them. The contracts of `string_clip` cite these.
 use mathlib.Core.List.{List, map, flatten}
-use Rattle.std.specs.Prelude.{ℕ, ◌*◌, ◌≤◌, length, ℤ}
+use Rattle.std.specs.Prelude.{ℕ, ◌*◌, ◌≤◌, length, ℤ, Result, Ok, Err}
 use Rattle.geom.specs.declared.Point.{Point}
 use Rattle.lists.specs.Written.{written}
 use Rattle.segm.specs.Segments.{segments}
 use Rattle.contour.specs.Points.{coordinates, pair_up, cut}
-use Rattle.refusal.specs.declared.Verdict.{Verdict}
-use Rattle.refusal.specs.declared.Verdict.TheVariants as verdict-is
+use Rattle.refusal.specs.declared.Refusal.{Refusal}
+use Rattle.refusal.specs.Numbers.{number_of}
+use Rattle.refusal.specs.Order.{Verdict}
 use Rattle.checks.specs.Runs.{Run, verdict, clip_run}
 use Rattle.fill_rule.specs.FillRule.{rule_of}
 use Rattle.build.specs.Links.{filter_of}
 use Rattle.clip_paths.specs.declared.Totals.{Totals}
 use Rattle.clip_paths.specs.Paths.{clip_paths, totals}
-use Rattle.string_clip.specs.declared.Clipped.{Clipped}
-use Rattle.string_clip.specs.declared.Clipped.TheVariants.{Done, Refused}
 
 -- ---- the answer
 -- 01's number and place for what a run answers, with its four numbers: 0, 0 and the totals; of a refusal its own, and all totals 0
@@ -22,9 +21,9 @@ pub record Told : Type 0 where
   pub place : ℕ
   pub totals : Totals
 
-abbrev pub told : Clipped → Told
-told (Done t) = record { number = 0; place = 0; totals = t }
-told (Refused number place) = record { number = number; place = place; totals = record { paths = 0; points = 0; steps = 0; travel = 0 } }
+abbrev pub told : Result Totals Refusal → Told
+told (Ok t) = record { number = 0; place = 0; totals = t }
+told (Err r) = record { number = number_of r.kind; place = r.place; totals = record { paths = 0; points = 0; steps = 0; travel = 0 } }
 
 -- ---- the lent lists
 -- x, y pairs, and one length a path
@@ -52,17 +51,17 @@ written_to paths ls = lists (written (coordinates (flatten paths)) ls.points) (w
 -- ---- the outcome
 -- what a run answers, set out in numbers, and its lent lists when it returns
 pub record Outcome : Type 0 where
-  pub answer : Clipped
+  pub answer : Result Totals Refusal
   pub numbers : Told
   pub lists : Lists
 
-abbrev pub outcome : Clipped → Lists → Outcome
+abbrev pub outcome : Result Totals Refusal → Lists → Outcome
 outcome answer ls = record { answer = answer; numbers = told answer; lists = ls }
 
 -- an accepted run writes its paths and tells their totals; a refused one writes nothing
 abbrev pub answered : Verdict → List (List Point) → Lists → Outcome
-answered verdict-is.Accepted paths ls = outcome (Done (totals paths)) (written_to paths ls)
-answered (verdict-is.Refused number place) paths ls = outcome (Refused number place) ls
+answered (Ok _) paths ls = outcome (Ok (totals paths)) (written_to paths ls)
+answered (Err r) paths ls = outcome (Err r) ls
 
 -- the outcome of a clip run, for any numbers, choices and lent lists
 unfoldable pub clip_outcome : List ℤ → (rule invert boundary : ℤ) → Lists → Outcome

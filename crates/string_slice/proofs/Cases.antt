@@ -35,7 +35,9 @@ use Rattle.moves.specs.Begins.{first_remaining, both_moves, begins}
 use Rattle.bin_store.specs.Sightings.{is_sighted, number_of, sight}
 use Rattle.split_loops.specs.Loops.{closed, buffer_point, buffer_points, rest, all_loops, split_loops}
 use Rattle.slice_walk.specs.Walk.{rotated, is_wide, is_nearer, move_from, nearest, find_nearest, till, walk_from, walks_from, walks, direction_of, walk_points}
-use Rattle.string_slice.specs.declared.Sliced.TheVariants.{Done, Refused}
+use Rattle.std.specs.Prelude.{Ok, Err}
+use Rattle.refusal.specs.Order.{refusal}
+use Rattle.refusal.specs.declared.Kind.TheVariants.{TooShort}
 use Rattle.contour.specs.Contour.{contour, contour_of}
 use Rattle.slice_cut.specs.Cutting.{walk_contours}
 use Rattle.string_slice.specs.Contours.{side_bits, all_contours, slice_contours}
@@ -72,12 +74,12 @@ pub record Cases : Type 0 where
   pub case-A : (
       let points = map pos (up_from 101 37) in
       slice_outcome A (pos 1) (pos 0) 0 (lists points (up_from 201 18) (up_from 1 18))
-      ≡ outcome (Done (record { contours = 2; points = 8 }))
+      ≡ outcome (Ok (record { contours = 2; points = 8 }))
       (lists (coordinates (at 10 0 ∷ at 10 5 ∷ at 0 5 ∷ at 0 0 ∷ at 10 5 ∷ at 10 10 ∷ at 0 10 ∷ at 0 5 ∷ []) ++ drop 16 points) (4 ∷ 4 ∷ up_from 203 16) (0 ∷ 0 ∷ up_from 3 16))
       )
   pub roles_short : (
       let ls = lists (map pos (up_from 101 36)) (up_from 201 18) (up_from 1 17) in
-      slice_outcome A (pos 1) (pos 0) 0 ls ≡ outcome (Refused 11 0) ls
+      slice_outcome A (pos 1) (pos 0) 0 ls ≡ outcome (Err (refusal TooShort 0)) ls
       )
   -- counter-clockwise and clockwise; a hole goes the other way
   pub counter_clockwise : slice_contours NonZero false 0 (segments holed) ≡ some (contour outer_round 0 ∷ contour hole 1 ∷ [])

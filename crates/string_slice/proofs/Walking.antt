@@ -1,5 +1,4 @@
--- What the first stage takes from the check, what it answers and leaves, and how the second reads it back: the walks' points, their directions, and the
--- contours that are cut from them.
+-- What the first stage answers and leaves, and how the second reads it back: the walks' points, their directions, and the contours that are cut from them.
 use mathlib.Core.Path.{◌≡◌, refl, sym, ◌∙◌, ap, ap₂, subst}
 use mathlib.Core.List.{List, [], ◌∷◌, ◌++◌, map, flatten, append-nil}
 use mathlib.Core.Option.{Option, none, some}
@@ -19,29 +18,22 @@ use Rattle.contour.specs.Points.{coordinates, pair_up, AllInRange, cut}
 use Rattle.contour.proofs.Points.Coordinates.{pair_coordinates}
 use Rattle.contour.proofs.Area.{near_all}
 use Rattle.contour.proofs.Points.CutWritten.{cut_written, tally_lengths}
-use Rattle.refusal.specs.declared.Verdict.{Verdict}
-use Rattle.refusal.specs.declared.Verdict.TheVariants as verdict-is
-use Rattle.refusal.specs.Order.{◌then◌}
-use Rattle.refusal.proofs.Order.{accepted_then}
-use Rattle.drawing_check.specs.Drawing.{drawing_verdict}
-use Rattle.drawing_check.specs.Memory.{Prepared, Checked}
+use Rattle.std.specs.Prelude as code
+use Rattle.std.specs.Prelude.{Result, Ok, Err, ok_or}
+use Rattle.refusal.specs.declared.Refusal.{Refusal}
+use Rattle.refusal.specs.declared.Kind.TheVariants.{StuckWalk}
+use Rattle.refusal.specs.Order.{Verdict, accepted, refusal}
 use Rattle.checks.specs.Accepted.{Good}
-use Rattle.checks.proofs.Accepted.{drawing_good}
 use Rattle.fill_rule.specs.declared.Rule.{Rule}
 use Rattle.moves.specs.Moves.{Move, bits_remaining}
 use Rattle.moves.proofs.Moves.{bits_few}
-use Rattle.slice_walk.specs.declared.Walks.{Walks}
-use Rattle.slice_walk.specs.declared.Walks.TheVariants as walks-are
 use Rattle.slice_walk.specs.Walk.{walks, direction_of, walk_points}
 use Rattle.slice_walk.specs.Writing.{all_points, directions, WalksAre}
 use Rattle.slice_walk.proofs.Walk.AllWalks.{length_all, walk_near, walks_few}
 use Rattle.slice_cut.specs.declared.Contours.{Contours}
-use Rattle.string_slice.specs.declared.Sliced.TheVariants as sliced-is
-use Rattle.string_slice.specs.declared.walks.Walked.{Walked}
-use Rattle.string_slice.specs.declared.walks.Walked.TheVariants.{Done, Refused}
 use Rattle.slice_cut.specs.Cutting.{counts, walk_contours, Holds, paths_in, cut_walks, Stand}
 use Rattle.string_slice.specs.Run.{Lists, lists, outcome, handed_over, answered}
-use Rattle.string_slice.specs.Walking.{WalkedAre, WalkedOf}
+use Rattle.string_slice.specs.Walking.{WalkedAre}
 use Rattle.contour.specs.Contour.{Contour}
 use Rattle.string_slice.specs.Contours.{side_bits, all_contours, slice_contours, of_walks}
 use Rattle.string_slice.proofs.SliceContours.{length_sides}
@@ -63,31 +55,15 @@ cut_contours clockwise least links [] = refl
 cut_contours clockwise least links (w ∷ ws) =
     ap₂ (λ b (rest : List Contour). walk_contours clockwise least b (walk_points links w) ++ rest) (direction_back (direction_of w)) (cut_contours clockwise least links ws)
 
--- ---- the check before the walks
--- what it accepts is a good drawing, and its nodes and top counts are left
-pub checked_good : (before : Verdict) (d : Drawing) (v : Verdict) {flat starts nodes : List ℕ} {tops : List ℤ} → (before ≡ verdict-is.Accepted → length d ≤ 1024)
-    → Checked (before then drawing_verdict d) d v flat starts nodes tops → v ≡ verdict-is.Accepted → Good d × Prepared d flat starts nodes tops
-checked_good before d v few c e =
-    let both = accepted_then before (drawing_verdict d) (sym c.0 ∙ e) in
-    (drawing_good d (few both.0) both.1, c.1 e)
-
--- the first stage answers by the verdict, whichever way that was found
-pub walked_as : (numbers : List ℤ) (rule : ℤ) (r : Walked) (points : List ℤ) (lengths dirs : List ℕ) {u v : Verdict} → u ≡ v
-    → WalkedOf numbers u rule r points lengths dirs → WalkedOf numbers v rule r points lengths dirs
-walked_as numbers rule r points lengths dirs e w = subst (λ (v : Verdict). WalkedOf numbers v rule r points lengths dirs) e w
-
 -- ---- the answer of the first stage, where the drawing is accepted
-not_both : {X : Type 0} → ◌≡◌ {A = ℕ} 0 1 → X
-not_both z = let bad : ⊥ = omega arith in absurd bad
-
-module _ (links : Drawing) (points₀ : List ℤ) (lengths₀ directions₀ : List ℕ) (r : Walks) (points : List ℤ) (lengths dirs : List ℕ) where
-  pub walked_done : (o : Option (List (List Move))) {n : ℕ} → WalksAre links o points₀ lengths₀ directions₀ r points lengths dirs → r ≡ walks-are.Done n
-      → WalkedAre verdict-is.Accepted links o (Done n) points lengths dirs
-  walked_done none w e = not_both (cc)
-  walked_done (some ws) w e =
+module _ (links : Drawing) (points₀ : List ℤ) (lengths₀ directions₀ : List ℕ) (points : List ℤ) (lengths dirs : List ℕ) where
+  told : (o : Option (List (List Move))) (r : code.Option ℕ) → WalksAre links o points₀ lengths₀ directions₀ r points lengths dirs
+      → WalkedAre accepted links o (ok_or r (refusal StuckWalk 0)) points lengths dirs
+  told none r w = rw w
+  told (some ws) r w =
       let paths = all_points links ws in
       let l = ap (take (length ws)) w.1.lengths_are ∙ take_written (map length paths) lengths₀ (length ws) (omega (arith, length-map paths length, length-map ws (walk_points links))) in (
-        cc,
+        ap (λ (r : code.Option ℕ). ok_or r (refusal StuckWalk 0)) w.0,
         record {
           lengths_are = l;
           paths_are = ap₂ paths_in w.1.points_are l ∙ paths_written paths points₀;
@@ -95,42 +71,39 @@ module _ (links : Drawing) (points₀ : List ℤ) (lengths₀ directions₀ : Li
         },
       )
 
-  pub walked_stuck : (o : Option (List (List Move))) → WalksAre links o points₀ lengths₀ directions₀ r points lengths dirs → r ≡ walks-are.Stuck
-      → WalkedAre verdict-is.Accepted links o (Refused 12 0) points lengths dirs
-  walked_stuck none w e = refl
-  walked_stuck (some ws) w e = not_both (cc)
+  pub walked : (o : Option (List (List Move))) (r : code.Option ℕ) {v : Verdict} {q : Result ℕ Refusal} → WalksAre links o points₀ lengths₀ directions₀ r points lengths dirs → accepted ≡ v
+      → q ≡ ok_or r (refusal StuckWalk 0) → WalkedAre v links o q points lengths dirs
+  walked o r w e k = rw (← e, k) (told o r w)
 
 -- ---- what it tells the second stage
 -- n walks, as they are read
 pub record Made (links : Drawing) (o : Option (List (List Move))) (n : ℕ) (points : List ℤ) (lengths dirs : List ℕ) : Type 0 where
   pub found : List (List Move)
   pub are : o ≡ some found
-  pub number : n ≡ length found
   pub lengths_are : take n lengths ≡ map length (all_points links found)
   pub paths_are : paths_in points (take n lengths) ≡ all_points links found
   pub directions_are : take n dirs ≡ directions found
 
-module _ (links : Drawing) (r : Walked) (points : List ℤ) (lengths dirs : List ℕ) where
+module _ (links : Drawing) (r : Result ℕ Refusal) (points : List ℤ) (lengths dirs : List ℕ) where
   -- a refusal is the run's, and nothing is written
-  pub refused : (f : List (List Move) → List Contour) (v : Verdict) (o : Option (List (List Move))) {number place : ℕ} {ls : Lists} → WalkedAre v links o r points lengths dirs
-      → r ≡ Refused number place → outcome (sliced-is.Refused number place) ls ≡ answered v (of_walks f o) ls
-  refused f (verdict-is.Refused number place) o w e = cc
-  refused f verdict-is.Accepted none w e = cc
-  refused f verdict-is.Accepted (some ws) w e = not_both (cc)
+  pub refused : (f : List (List Move) → List Contour) (v : Verdict) (o : Option (List (List Move))) {why : Refusal} {ls : Lists} → WalkedAre v links o r points lengths dirs
+      → r ≡ Err why → outcome (Err why) ls ≡ answered v (of_walks f o) ls
+  refused f (Err why) o w e = cc
+  refused f (Ok _) none w e = cc
+  refused f (Ok _) (some ws) w e = cc
 
-  pub accepted : (v : Verdict) (o : Option (List (List Move))) {n : ℕ} → WalkedAre v links o r points lengths dirs → r ≡ Done n → v ≡ verdict-is.Accepted
-  accepted (verdict-is.Refused number place) o w e = not_both (cc)
-  accepted verdict-is.Accepted o w e = refl
+  pub is_accepted : (v : Verdict) (o : Option (List (List Move))) {n : ℕ} → WalkedAre v links o r points lengths dirs → r ≡ Ok n → v ≡ accepted
+  is_accepted (Err why) o w e = cc
+  is_accepted (Ok _) o w e = refl
 
-  pub made : (v : Verdict) (o : Option (List (List Move))) {n : ℕ} → WalkedAre v links o r points lengths dirs → r ≡ Done n → Made links o n points lengths dirs
-  made (verdict-is.Refused number place) o w e = not_both (cc)
-  made verdict-is.Accepted none w e = not_both (cc)
-  made verdict-is.Accepted (some ws) {n} w e =
+  pub made : (v : Verdict) (o : Option (List (List Move))) {n : ℕ} → WalkedAre v links o r points lengths dirs → r ≡ Ok n → Made links o n points lengths dirs
+  made (Err why) o w e = absurd (cc)
+  made (Ok _) none w e = absurd (cc)
+  made (Ok _) (some ws) {n} w e =
       let k : n ≡ length ws = cc in
       record {
         found = ws;
         are = refl;
-        number = k;
         lengths_are = ap (λ i. take i lengths) k ∙ w.1.lengths_are;
         paths_are = ap (λ i. paths_in points (take i lengths)) k ∙ w.1.paths_are;
         directions_are = ap (λ i. take i dirs) k ∙ w.1.directions_are;
@@ -141,8 +114,8 @@ module _ (rule : Rule) (d : Drawing) (good : Good d) {n : ℕ} {points : List �
   few_sides : bits_remaining (side_bits rule d) ≤ 2 * length d
   few_sides = omega (arith, bits_few (side_bits rule d), length_sides rule d)
 
-  pub few_found : n ≤ 2 * length d
-  few_found = omega (arith, m.number, walks_few d (side_bits rule d) m.found m.are, few_sides)
+  pub as_many : length (take n dirs) ≡ length (take n lengths)
+  as_many = omega (arith, ap length m.directions_are, length-map m.found (λ walk. one (direction_of walk)), ap length m.lengths_are, length-map (all_points d m.found) length, length-map m.found (walk_points d))
 
   pub few_points : length (flatten (paths_in points (take n lengths))) ≤ 2 * length d
   few_points = omega (arith, ap (λ (l : List (List Point)). length (flatten l)) m.paths_are, length_all d m.found, walks_few d (side_bits rule d) m.found m.are, few_sides)
@@ -166,6 +139,6 @@ module _ (rule : Rule) (d : Drawing) (good : Good d) {n : ℕ} {points : List �
 
 -- ---- the outcome
 pub handed : (o : Option (List Contour)) (contours : List Contour) {r : Contours} (ls : Lists) {points : List ℤ} {lengths roles : List ℕ} → some contours ≡ o → r ≡ counts contours
-    → Holds contours ls.points ls.lengths ls.roles points lengths roles → outcome (sliced-is.Done r) (lists points lengths roles) ≡ handed_over o ls
+    → Holds contours ls.points ls.lengths ls.roles points lengths roles → outcome (Ok r) (lists points lengths roles) ≡ handed_over o ls
 handed o contours ls e n h =
-    (λ i. outcome (sliced-is.Done (n i)) (lists (h.points_are i) (h.lengths_are i) (h.roles_are i))) ∙ ap (λ (q : Option (List Contour)). handed_over q ls) e
+    (λ i. outcome (Ok (n i)) (lists (h.points_are i) (h.lengths_are i) (h.roles_are i))) ∙ ap (λ (q : Option (List Contour)). handed_over q ls) e

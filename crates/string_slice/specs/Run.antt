@@ -1,19 +1,20 @@
 -- A slice run: what it answers, and what it writes to its lent lists. The contracts of `string_slice` cite these.
 use mathlib.Core.List.{List, map, flatten}
 use Rattle.std.proofs.Math.Option.{Option, none, some}
-use Rattle.std.specs.Prelude.{ℕ, length, ℤ, pos}
+use Rattle.std.specs.Prelude.{ℕ, length, ℤ, pos, Result, Ok, Err}
 use Rattle.geom.specs.Points.{eq_z}
 use Rattle.lists.specs.Written.{written}
 use Rattle.segm.specs.Segments.{segments}
 use Rattle.contour.specs.Points.{coordinates}
 use Rattle.contour.specs.Contour.{Contour}
-use Rattle.refusal.specs.declared.Verdict.{Verdict}
-use Rattle.refusal.specs.declared.Verdict.TheVariants as verdict-is
+use Rattle.refusal.specs.declared.Refusal.{Refusal}
+use Rattle.refusal.specs.declared.Kind.TheVariants.{StuckWalk}
+use Rattle.refusal.specs.Numbers.{number_of}
+use Rattle.refusal.specs.Order.{Verdict, refusal}
 use Rattle.checks.specs.Runs.{Run, slice_run, verdict}
 use Rattle.fill_rule.specs.FillRule.{rule_of}
+use Rattle.slice_cut.specs.declared.Contours.{Contours}
 use Rattle.slice_cut.specs.Cutting.{points_of, roles_of, counts}
-use Rattle.string_slice.specs.declared.Sliced.{Sliced}
-use Rattle.string_slice.specs.declared.Sliced.TheVariants.{Done, Refused}
 use Rattle.string_slice.specs.Contours.{slice_contours}
 
 -- ---- the answer
@@ -24,9 +25,9 @@ pub record Told : Type 0 where
   pub contours : ℕ
   pub points : ℕ
 
-abbrev pub told : Sliced → Told
-told (Done found) = record { number = 0; place = 0; contours = found.contours; points = found.points }
-told (Refused number place) = record { number = number; place = place; contours = 0; points = 0 }
+abbrev pub told : Result Contours Refusal → Told
+told (Ok found) = record { number = 0; place = 0; contours = found.contours; points = found.points }
+told (Err r) = record { number = number_of r.kind; place = r.place; contours = 0; points = 0 }
 
 -- ---- the lent lists
 -- x, y pairs, and one length and one role a contour
@@ -51,22 +52,22 @@ written_to contours ls =
 -- ---- the outcome
 -- what a run answers, set out in numbers, and its lent lists when it returns
 pub record Outcome : Type 0 where
-  pub answer : Sliced
+  pub answer : Result Contours Refusal
   pub numbers : Told
   pub lists : Lists
 
-abbrev pub outcome : Sliced → Lists → Outcome
+abbrev pub outcome : Result Contours Refusal → Lists → Outcome
 outcome answer ls = record { answer = answer; numbers = told answer; lists = ls }
 
--- contours are written to the fronts of the lists; 12, and nothing is written, where a walk finds no move
+-- contours are written to the fronts of the lists; refused, and nothing is written, where a walk finds no move
 abbrev pub handed_over : Option (List Contour) → Lists → Outcome
-handed_over none ls = outcome (Refused 12 0) ls
-handed_over (some contours) ls = outcome (Done (counts contours)) (written_to contours ls)
+handed_over none ls = outcome (Err (refusal StuckWalk 0)) ls
+handed_over (some contours) ls = outcome (Ok (counts contours)) (written_to contours ls)
 
 -- a run refused from the input writes nothing
 abbrev pub answered : Verdict → Option (List Contour) → Lists → Outcome
-answered verdict-is.Accepted contours ls = handed_over contours ls
-answered (verdict-is.Refused number place) contours ls = outcome (Refused number place) ls
+answered (Ok _) contours ls = handed_over contours ls
+answered (Err r) contours ls = outcome (Err r) ls
 
 -- the outcome of a slice run, for any numbers, choices, minimum area and lent lists. Output direction: 1 clockwise
 unfoldable pub slice_outcome : List ℤ → (rule direction : ℤ) → ℕ → Lists → Outcome

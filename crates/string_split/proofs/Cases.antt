@@ -12,7 +12,9 @@ use Rattle.contour.specs.Area.{cross_product, around, shoelace, is_clockwise, is
 use Rattle.refusal.specs.Order.{first_from, first}
 use Rattle.refusal.specs.Asked.{wrong_length, too_short}
 use Rattle.bin_store.specs.Sightings.{is_sighted, number_of, sight}
-use Rattle.string_split.specs.declared.Loops.TheVariants.{Done, Refused}
+use Rattle.refusal.specs.declared.Kind.TheVariants.{WrongLength, OutOfRange, TooShort}
+use Rattle.refusal.specs.Order.{refusal}
+use Rattle.std.specs.Prelude.{Ok, Err}
 use Rattle.split_loops.specs.Loops.{closed, buffer_point, buffer_points, rest, all_loops, split_loops}
 use Rattle.string_split.specs.Run.{out_of_range_at, split_verdict, lists, outcome, split_outcome}
 
@@ -50,12 +52,12 @@ pub record Cases : Type 0 where
   pub flat : is_clockwise (A ∷ B ∷ A ∷ []) ≡ false
   -- whole runs: what lists hold past the answer stays; 2 before 11 before 3
   pub done : split_outcome (coordinates (B ∷ C ∷ A ∷ [])) 0 (lists (pos 11 ∷ pos 12 ∷ pos 13 ∷ pos 14 ∷ pos 15 ∷ pos 16 ∷ pos 17 ∷ []) (21 ∷ 22 ∷ 23 ∷ []))
-      ≡ outcome (Done (record { loops = 1; points = 3 })) (lists (pos 4 ∷ pos 0 ∷ pos 4 ∷ pos 4 ∷ pos 0 ∷ pos 0 ∷ pos 17 ∷ []) (3 ∷ 22 ∷ 23 ∷ []))
-  pub nothing : split_outcome [] 5 (lists (pos 11 ∷ []) []) ≡ outcome (Done (record { loops = 0; points = 0 })) (lists (pos 11 ∷ []) [])
-  pub odd : split_outcome (pos 16777217 ∷ []) 0 (lists [] []) ≡ outcome (Refused 2 0) (lists [] [])
-  pub out_short : split_outcome (pos 16777217 ∷ pos 0 ∷ []) 0 (lists (pos 11 ∷ []) (21 ∷ [])) ≡ outcome (Refused 11 0) (lists (pos 11 ∷ []) (21 ∷ []))
-  pub lengths_short : split_outcome (pos 16777217 ∷ pos 0 ∷ []) 0 (lists (pos 11 ∷ pos 12 ∷ []) []) ≡ outcome (Refused 11 0) (lists (pos 11 ∷ pos 12 ∷ []) [])
-  pub out_of_range : split_outcome (pos 16777216 ∷ pos 0 ∷ pos 0 ∷ negsuc 16777216 ∷ []) 0 (lists (pos 11 ∷ pos 12 ∷ pos 13 ∷ pos 14 ∷ []) (21 ∷ 22 ∷ [])) ≡ outcome (Refused 3 1) (lists (pos 11 ∷ pos 12 ∷ pos 13 ∷ pos 14 ∷ []) (21 ∷ 22 ∷ []))
+      ≡ outcome (Ok (record { loops = 1; points = 3 })) (lists (pos 4 ∷ pos 0 ∷ pos 4 ∷ pos 4 ∷ pos 0 ∷ pos 0 ∷ pos 17 ∷ []) (3 ∷ 22 ∷ 23 ∷ []))
+  pub nothing : split_outcome [] 5 (lists (pos 11 ∷ []) []) ≡ outcome (Ok (record { loops = 0; points = 0 })) (lists (pos 11 ∷ []) [])
+  pub odd : split_outcome (pos 16777217 ∷ []) 0 (lists [] []) ≡ outcome (Err (refusal WrongLength 0)) (lists [] [])
+  pub out_short : split_outcome (pos 16777217 ∷ pos 0 ∷ []) 0 (lists (pos 11 ∷ []) (21 ∷ [])) ≡ outcome (Err (refusal TooShort 0)) (lists (pos 11 ∷ []) (21 ∷ []))
+  pub lengths_short : split_outcome (pos 16777217 ∷ pos 0 ∷ []) 0 (lists (pos 11 ∷ pos 12 ∷ []) []) ≡ outcome (Err (refusal TooShort 0)) (lists (pos 11 ∷ pos 12 ∷ []) [])
+  pub out_of_range : split_outcome (pos 16777216 ∷ pos 0 ∷ pos 0 ∷ negsuc 16777216 ∷ []) 0 (lists (pos 11 ∷ pos 12 ∷ pos 13 ∷ pos 14 ∷ []) (21 ∷ 22 ∷ [])) ≡ outcome (Err (refusal OutOfRange 1)) (lists (pos 11 ∷ pos 12 ∷ pos 13 ∷ pos 14 ∷ []) (21 ∷ 22 ∷ []))
 
 pub cases : Cases
 unfolding eq_z within eq_p coordinate in_range any keep written coordinates pair_up cross_product around shoelace is_clockwise is_large first_from first wrong_length too_short is_sighted number_of sight closed buffer_point buffer_points rest all_loops split_loops out_of_range_at split_verdict split_outcome flatten

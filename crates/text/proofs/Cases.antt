@@ -4,7 +4,7 @@ use mathlib.Core.List.{List, [], ◌∷◌, flatten}
 use Prim.Native.String.{String}
 use lib.IntN.{ℤ, pos, negsuc}
 use Rattle.segm.specs.Segments.{width}
-use Rattle.decimal.specs.Decimal.{is_digit, worth, positive, field_of}
+use Rattle.decimal.specs.Decimal.{worth, positive, field_of}
 use Rattle.text.specs.Grammar.{pieces, row, fields_in, rows_from, Parsed, BadLine, Drawn, choices_of, parsed}
 use Rattle.decimal.proofs.Spelled.{bytes}
 
@@ -30,5 +30,5 @@ pub record Cases : Type 0 where
   pub third_line : text "1,0,1\n0,0,2,0,0,3,0\n0,0,2,0,0,3,x\nx" ≡ BadLine 3
 
 pub cases : Cases
-unfolding is_digit worth positive field_of pieces row fields_in rows_from choices_of parsed flatten
+unfolding worth positive field_of pieces row fields_in rows_from choices_of parsed flatten
 cases = record { no_segments = refl; one-segment = refl; empty = refl; lone_end = refl; first_unended = refl; first_short = refl; last_unended = refl; six_fields = refl; eight_fields = refl; trailing_comma = refl; return = refl; blank_line = refl; third_line = refl }

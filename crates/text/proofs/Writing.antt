@@ -3,7 +3,7 @@ use mathlib.Core.Path.{◌≡◌, refl, sym, ◌∙◌, ap, ap₂, subst}
 use mathlib.Core.Bool.{Bool, true, false, cond}
 use mathlib.Core.List.{List, [], ◌∷◌, ◌++◌, map, flatten}
 use mathlib.Core.Logic.{◌⊎◌, inl, inr}
-use mathlib.Core.Option.{Option, none, some}
+use Rattle.std.specs.Prelude.{Option, None, Some}
 use Prim.Native.Nat.{ℕ, zero, suc, ◌<◌, ◌≤◌}
 use native.Mathlib.Omega.{arith}
 use borrow.Author.Tests.{le-ltb, ltb-false}
@@ -12,8 +12,6 @@ use lib.ListN.{length, length-map}
 use lib.IntN.{ℤ}
 use Rattle.lists.specs.Members.{◌∈◌}
 use Rattle.text.specs.declared.Choices.{Choices}
-use Rattle.decimal.specs.declared.Field.{Field}
-use Rattle.decimal.specs.declared.Field.TheVariants.{Number, Malformed}
 use Rattle.decimal.specs.Decimal.{NineDigits, field_of, signed}
 use Rattle.text.specs.Grammar.{pieces, and_rest, row, fields_in, RowsFound, Bad, Rows, and_lines, rows_from, BadLine, Drawn, choices_of, parsed_rows, most_bytes, parsed}
 use Rattle.writing.specs.Lines.{joined, text_of}
@@ -24,7 +22,7 @@ use Rattle.text.proofs.Grammar.Pieces.{pieces_few, joined-pieces, pieces-cut, pi
 use Rattle.text.proofs.Storing.StoredRows.{differ, row-length, lines_next, fields_later}
 
 -- ---- a line
-row_written : (r : List ℤ) → ((z : ℤ) → z ∈ r → NineDigits z) → row (length r) (map signed r) ≡ some r
+row_written : (r : List ℤ) → ((z : ℤ) → z ∈ r → NineDigits z) → row (length r) (map signed r) ≡ Some r
 unfolding row
 row_written [] h = refl
 row_written (z ∷ r) h = ap₂ and_rest (field_signed z (h z (inl refl))) (row_written r (λ y m. h y (inr m)))
@@ -41,20 +39,20 @@ line-cons {f} {fs} {z} {q} w l e = subst (λ (s : List ℤ). Line (f ∷ fs) s) 
     small y (inl i) = rw i w.small
     small y (inr m) = l.small y m
 
-row_read : (k : ℕ) (fs : List (List ℕ)) (r : List ℤ) → row k fs ≡ some r → Line fs r
+row_read : (k : ℕ) (fs : List (List ℕ)) (r : List ℤ) → row k fs ≡ Some r → Line fs r
 unfolding row
 row_read zero [] r e = let none_left : r ≡ [] = cc in rw none_left (record { is = refl; small = λ z m. absurd m })
 row_read zero (f ∷ fs) r e = absurd (differ (cc))
 row_read (suc k) [] r e = absurd (differ (cc))
 row_read (suc k) (f ∷ fs) r e = go (field_of f) (row k fs) refl e (row_read k fs)
   where
-    go : (a : Field) (o : Option (List ℤ)) → field_of f ≡ a → and_rest a o ≡ some r → ((q : List ℤ) → o ≡ some q → Line fs q) → Line (f ∷ fs) r
-    go Malformed o p t rest = absurd (differ (cc))
-    go (Number z) none p t rest = absurd (differ (cc))
-    go (Number z) (some q) p t rest = line-cons (signed_field f z p) (rest q refl) (cc)
+    go : (a : Option ℤ) (o : Option (List ℤ)) → field_of f ≡ a → and_rest a o ≡ Some r → ((q : List ℤ) → o ≡ Some q → Line fs q) → Line (f ∷ fs) r
+    go None o p t rest = absurd (differ (cc))
+    go (Some z) None p t rest = absurd (differ (cc))
+    go (Some z) (Some q) p t rest = line-cons (signed_field f z p) (rest q refl) (cc)
 
 -- a line of k numbers has at least k - 1 bytes
-pub row_narrow : (k : ℕ) (s : List ℕ) (r : List ℤ) → row k (pieces 44 s) ≡ some r → k ≤ suc (length s)
+pub row_narrow : (k : ℕ) (s : List ℕ) (r : List ℤ) → row k (pieces 44 s) ≡ Some r → k ≤ suc (length s)
 row_narrow k s r e =
     let fs = pieces 44 s in
     omega (arith, row-length k fs r e, ap length (row_read k fs r e).is, length-map r signed, pieces_few 44 s)
@@ -86,7 +84,7 @@ rows_of_text w line (r ∷ rows) h f n =
     ∙ lines_next w line (joined 44 (map signed r)) (text_of rows)
     ∙ ap₂ (and_lines line) here (rows_of_text w (suc line) rows h f.1 (λ q m. n q (inr m)))
   where
-    here : row (fields_in w line) (pieces 44 (joined 44 (map signed r))) ≡ some r
+    here : row (fields_in w line) (pieces 44 (joined 44 (map signed r))) ≡ Some r
     here =
         ap (row (fields_in w line)) (fields_line r (omega (arith, some_fields w line h)))
         ∙ ap (λ k. row k (map signed r)) (sym f.0) ∙ row_written r (n r (inl refl))
@@ -105,7 +103,7 @@ unfolding text_of flatten
 no_lines w line = record { is = refl; fitting = tt; small = λ r m. absurd m }
 
 -- one more before them
-lines_cons : (w line : ℕ) (s : List ℕ) {text : List ℕ} {r : List ℤ} {q : List (List ℤ)} → row (fields_in w line) (pieces 44 s) ≡ some r → Lines w (suc line) text q → Lines w line (s ++ 10 ∷ text) (r ∷ q)
+lines_cons : (w line : ℕ) (s : List ℕ) {text : List ℕ} {r : List ℤ} {q : List (List ℤ)} → row (fields_in w line) (pieces 44 s) ≡ Some r → Lines w (suc line) text q → Lines w line (s ++ 10 ∷ text) (r ∷ q)
 lines_cons w line s {text} {r} {q} p below = record { is = ap₂ (λ (x y : List ℕ). x ++ 10 ∷ y) here below.is ∙ sym (text_cons r q); fitting = (row-length (fields_in w line) (pieces 44 s) r p, below.fitting); small = small }
   where
     read : Line (pieces 44 s) r
@@ -127,9 +125,9 @@ lines_read w line (s ∷ t ∷ ps) rows e = go (row (fields_in w line) (pieces 4
   where
     go : (o : Option (List ℤ)) (f : RowsFound) → row (fields_in w line) (pieces 44 s) ≡ o → and_lines line o f ≡ Rows rows
         → ((q : List (List ℤ)) → f ≡ Rows q → Lines w (suc line) (joined 10 (t ∷ ps)) q) → Lines w line (s ++ 10 ∷ joined 10 (t ∷ ps)) rows
-    go none f p a rest = absurd (differ (cc))
-    go (some r) (Bad n) p a rest = absurd (differ (cc))
-    go (some r) (Rows q) p a rest = lines_of (lines_cons w line s p (rest q refl)) a
+    go None f p a rest = absurd (differ (cc))
+    go (Some r) (Bad n) p a rest = absurd (differ (cc))
+    go (Some r) (Rows q) p a rest = lines_of (lines_cons w line s p (rest q refl)) a
 
 pub text_of_rows : (w line : ℕ) (text : List ℕ) (rows : List (List ℤ)) → rows_from w line (pieces 10 text) ≡ Rows rows → Lines w line text rows
 text_of_rows w line text rows e = subst (λ (s : List ℕ). Lines w line s rows) (joined-pieces 10 text) (lines_read w line (pieces 10 text) rows e)

@@ -1,10 +1,7 @@
 -- The comma text: what a text holds, or its first bad line. 10 is LF, 44 the comma.
 use mathlib.Core.List.{List, [], ◌∷◌, flatten}
-use Rattle.std.proofs.Math.Option.{Option, none, some}
-use Rattle.std.specs.Prelude.{cond, ℕ, zero, suc, eqb, ltb, length, get_or, ℤ, pos}
+use Rattle.std.specs.Prelude.{Option, None, Some, cond, ℕ, zero, suc, eqb, ltb, length, get_or, ℤ, pos}
 use Rattle.text.specs.declared.Choices.{Choices}
-use Rattle.decimal.specs.declared.Field.{Field}
-use Rattle.decimal.specs.declared.Field.TheVariants.{Number, Malformed}
 use Rattle.decimal.specs.Decimal.{field_of}
 
 -- ---- cutting
@@ -20,16 +17,16 @@ pieces b (x ∷ s) = cond (eqb x b) ([] ∷ pieces b s) (onto x (pieces b s))
 
 -- ---- a line
 -- a number before those of the other fields
-abbrev pub and_rest : Field → Option (List ℤ) → Option (List ℤ)
-and_rest Malformed rest = none
-and_rest (Number z) none = none
-and_rest (Number z) (some row) = some (z ∷ row)
+abbrev pub and_rest : Option ℤ → Option (List ℤ) → Option (List ℤ)
+and_rest None rest = None
+and_rest (Some z) None = None
+and_rest (Some z) (Some row) = Some (z ∷ row)
 
 -- the numbers of exactly k fields, if each is a number
 unfoldable pub row : ℕ → List (List ℕ) → Option (List ℤ)
-row zero [] = some []
-row zero (f ∷ fields) = none
-row (suc k) [] = none
+row zero [] = Some []
+row zero (f ∷ fields) = None
+row (suc k) [] = None
 row (suc k) (f ∷ fields) = and_rest (field_of f) (row k fields)
 
 -- the first line is rule, invert, boundary, every other one a segment
@@ -49,9 +46,9 @@ after_last line (b ∷ s) = Bad line
 
 -- a line's numbers before those of the later lines; the first bad line decides
 abbrev pub and_lines : ℕ → Option (List ℤ) → RowsFound → RowsFound
-and_lines line none rest = Bad line
-and_lines line (some r) (Bad later) = Bad later
-and_lines line (some r) (Rows rows) = Rows (r ∷ rows)
+and_lines line None rest = Bad line
+and_lines line (Some r) (Bad later) = Bad later
+and_lines line (Some r) (Rows rows) = Rows (r ∷ rows)
 
 -- the lines of a text cut at LF, from this line on. (There is always a piece, what follows the last LF)
 unfoldable pub rows_from : (width line : ℕ) → List (List ℕ) → RowsFound

@@ -1,4 +1,3 @@
 pub mod Grammar
 pub mod Writing
 pub mod Storing
-pub mod Finding

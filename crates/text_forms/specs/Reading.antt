@@ -1,7 +1,9 @@
 -- What a text holds in each form, and how its numbers go into a list that holds the largest drawing. The contracts of `text_forms` cite these.
 use Rattle.std.specs.Prelude.{List, [], ◌∷◌, ℕ, zero, suc, ◌/◌, length, drop, ℤ, pos}
-use Rattle.refusal.specs.declared.Verdict.{Verdict}
-use Rattle.refusal.specs.Order.{refuse_if, ◌then◌}
+use Rattle.refusal.specs.declared.Kind.{Kind}
+use Rattle.refusal.specs.declared.Kind.TheVariants.{WrongLength, TooShort}
+use Rattle.refusal.specs.declared.Refusal.{Refusal}
+use Rattle.refusal.specs.Order.{Verdict, refusal, refuse_if, ◌then◌}
 use Rattle.refusal.specs.Asked.{wrong_length}
 use Rattle.segm.specs.Segments.{Drawing, width, front, with_lot, laid}
 use Rattle.text.specs.Grammar.{Parsed, BadLine, Drawn, parsed}
@@ -37,7 +39,15 @@ parsed_in form text = with_all form (parsed (fields_of form) text)
 -- ---- read into a list that holds the largest drawing
 -- 1, then 2: more segments than a drawing has
 unfoldable pub drawn_verdict : Parsed → Verdict
-drawn_verdict p = malformed p then refuse_if 2 (wrong_length width 1024 (length (numbers_in p)))
+drawn_verdict p = malformed p then refuse_if WrongLength (wrong_length width 1024 (length (numbers_in p)))
+
+-- what a refused reading tells: the list holds the largest drawing, and where it is too short there are too many segments
+abbrev pub refused_for : Kind → Refusal → Refusal
+refused_for TooShort r = refusal WrongLength 0
+refused_for _ r = r
+
+abbrev pub refused_reading : Refusal → Refusal
+refused_reading r = refused_for r.kind r
 
 -- its numbers are written to the front of the list
 abbrev pub drawn_into : List ℤ → Parsed → Outcome

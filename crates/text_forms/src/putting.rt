@@ -7,8 +7,10 @@ ghost use Rattle.text_forms.specs.Forms.{writing};
 
 use super::{Form, fields};
 use text::Choices;
+use writing::Writer;
 
 // The numbers of the first line.
+#[tactic(auto, unfolding(text::specs::Writing::choice_numbers))]
 fn first_row(c: Choices) -> [i32; 3]
     ensures { (result ≡ choice_numbers c) × (3 ≡ length result) }
 {
@@ -20,33 +22,26 @@ pub fn text_length(form: Form, c: Choices, numbers: &[i32]) -> usize
     requires { length (segments numbers.now) ≤ 1024 }
     ensures { result ≡ length (writing form c (segments numbers.now)) }
 {
-    let first = first_row(c);
     let k = fields(form);
-    let n = segm::count(numbers);
-    let mut total = writing::line_length(&first);
-    let mut i: usize = 0;
-    while i < n {
+    let mut total = writing::line_length(&first_row(c));
+    for i in 0..segm::count(numbers) {
         let from = i * segm::WIDTH;
         total += writing::line_length(&numbers[from..from + k]);
-        i += 1;
     }
     total
 }
 
-// The text of a drawing, at the front of a list that has room for it.
+// The text of a drawing, at the front of a list that has room for it; tells how many bytes it has.
 pub fn put_text(form: Form, c: Choices, numbers: &[i32], out: &mut [u8]) -> usize
     requires { length (writing form c (segments numbers.now)) ≤ length out.old }
     ensures { Put out.old 0 (writing form c (segments numbers.now)) result out.new }
 {
-    let first = first_row(c);
     let k = fields(form);
-    let n = segm::count(numbers);
-    let mut next = writing::put_line(&first, out, 0);
-    let mut i: usize = 0;
-    while i < n {
+    let mut text = Writer::new(out);
+    text.put_line(&first_row(c));
+    for i in 0..segm::count(numbers) {
         let from = i * segm::WIDTH;
-        next = writing::put_line(&numbers[from..from + k], out, next);
-        i += 1;
+        text.put_line(&numbers[from..from + k]);
     }
-    next
+    text.at
 }

@@ -14,17 +14,14 @@ pub const ROOM: usize = text::MOST_BYTES + 1;
 fn read_some<R: Read>(input: &mut R, list: &mut [u8]) -> usize
     ensures { result ≤ length list.new }
 {
-    match input.read(list) {
-        Ok(n) => n,
-        Err(_) => 0,
-    }
+    input.read(list).unwrap_or(0)
 }
 
 // Reads until the list is full, the input ends or a read fails, and tells how many bytes that put at its front.
 pub fn read_full<R: Read>(input: &mut R, list: &mut [u8]) -> usize
     ensures { IsPrefixLen result list.new }
 {
-    let mut done: usize = 0;
+    let mut done = 0;
     while done < list.len() {
         let n = read_some(input, &mut list[done..]);
         if n == 0 {
@@ -38,17 +35,14 @@ pub fn read_full<R: Read>(input: &mut R, list: &mut [u8]) -> usize
 // Says on standard error what a program could not do. Where that fails too there is nobody to tell.
 fn complain<E: Write>(name: &[u8], what: &[u8], errors: &mut E) {
     if errors.write_all(name).is_ok() {
-        errors.write_all(what).is_ok();
+        let _ = errors.write_all(what);
     }
 }
 
 // Whether there is nothing left to read. A read that fails is no end: half a text must not pass for a whole one.
 fn is_at_end<R: Read>(input: &mut R) -> bool {
-    let mut more = [0u8; 1];
-    match input.read(&mut more) {
-        Ok(n) => n == 0,
-        Err(_) => false,
-    }
+    let mut more = [0; 1];
+    input.read(&mut more).is_ok_and(|n| n == 0)
 }
 
 // Whether the n bytes that were read into `ROOM` are a whole text, or too many for one.

@@ -31,10 +31,7 @@ pub fn write_fills(s: &[i32], rule: Rule, tops: &[i32], out: &mut [u8])
         × (length (segments s.now) ≤ length out.old) }
     ensures { out.new ≡ written (fills rule (segments s.now)) out.old }
 {
-    let n = segm::count(s);
-    let mut i: usize = 0;
-    while i < n {
+    for i in 0..segm::count(s) {
         out[i] = fill_at(s, rule, tops, i);
-        i += 1;
     }
 }

@@ -37,7 +37,7 @@ use Rattle.contour.specs.Contour.{contour_of}
 use Rattle.slice_cut.specs.Cutting.{walk_contours}
 use Rattle.string_slice.specs.Contours.{side_bits, all_contours, slice_contours}
 use Rattle.string_slice.specs.Run.{slice_outcome}
-use Rattle.decimal.specs.Decimal.{is_digit, worth, positive, field_of, digits, decimal, signed}
+use Rattle.decimal.specs.Decimal.{worth, positive, field_of, digits, decimal, signed}
 use Rattle.writing.specs.Lines.{joined, line_of, text_of}
 use Rattle.text.specs.Grammar.{pieces, row, fields_in, rows_from, choices_of, parsed}
 use Rattle.text.specs.Storing as text
@@ -49,7 +49,7 @@ use Rattle.overlay.specs.Numbers.{fills_numbers, clip_numbers, slice_numbers, sp
 use Rattle.trials.specs.Exported.{Exported}
 
 pub exported : Exported
-unfolding eq_z within lt_p eq_p coordinate in_range cross between any sum tally keep written up_from front segments_of count whole segments segment_at total coordinates pair_up cross_product around shoelace is_large side parts in_interior same_ends meets_wrongly ends_in_range rises winding_in_range bits_in_range lot_in_range fault fault_at meeting_at balance balances unbalanced_at wrong_length unknown_choice too_short first_from first asked asked_first drawing_verdict faults_of meetings_of unbalanced_of verdict fills_run clip_run spans above clockwise met bottom top filled rule_of fill_of fill fills fills_outcome sides_set keeps_sides keeps filter_of kept_links node has clear as_drawn remains taken taken_all bits_remaining first_remaining both_moves begins way over other fitting goes_on follow path_from paths_from walk through finished path_points clip_paths steps_from steps_of_path steps_of travel_of travel totals clip_outcome flatten is_sighted number_of sight closed buffer_point buffer_points rest all_loops split_loops split.out_of_range_at split.split_verdict split.split_outcome slice_run is_clockwise rotated is_wide is_nearer move_from nearest find_nearest till walk_from walks_from walks direction_of walk_points side_bits contour_of walk_contours all_contours slice_contours slice_outcome is_digit worth positive field_of pieces row fields_in rows_from choices_of parsed text.read_verdict text.read_outcome fills_numbers clip_numbers slice_numbers split_numbers read_numbers numbers_of laid digits decimal signed joined line_of text_of choice_numbers row_of writing old_segments_of old_segments parsed_in lot_at lots_of written_unless write_outcome move_outcome write_numbers move_numbers
+unfolding eq_z within lt_p eq_p coordinate in_range cross between any sum tally keep written up_from front segments_of count whole segments segment_at total coordinates pair_up cross_product around shoelace is_large side parts in_interior same_ends meets_wrongly ends_in_range rises winding_in_range bits_in_range lot_in_range fault fault_at meeting_at balance balances unbalanced_at wrong_length unknown_choice too_short first_from first asked asked_first drawing_verdict faults_of meetings_of unbalanced_of verdict fills_run clip_run spans above clockwise met bottom top filled rule_of fill_of fill fills fills_outcome sides_set keeps_sides keeps filter_of kept_links node has clear as_drawn remains taken taken_all bits_remaining first_remaining both_moves begins way over other fitting goes_on follow path_from paths_from walk through finished path_points clip_paths steps_from steps_of_path steps_of travel_of travel totals clip_outcome flatten is_sighted number_of sight closed buffer_point buffer_points rest all_loops split_loops split.out_of_range_at split.split_verdict split.split_outcome slice_run is_clockwise rotated is_wide is_nearer move_from nearest find_nearest till walk_from walks_from walks direction_of walk_points side_bits contour_of walk_contours all_contours slice_contours slice_outcome worth positive field_of pieces row fields_in rows_from choices_of parsed text.read_verdict text.read_outcome fills_numbers clip_numbers slice_numbers split_numbers read_numbers numbers_of laid digits decimal signed joined line_of text_of choice_numbers row_of writing old_segments_of old_segments parsed_in lot_at lots_of written_unless write_outcome move_outcome write_numbers move_numbers
 exported = record {
   fills_refused = refl;
   fills_done = refl;

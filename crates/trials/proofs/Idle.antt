@@ -19,8 +19,11 @@ use Rattle.contour.specs.Points.{coordinates}
 use Rattle.meetings.specs.Meetings.{side, parts, in_interior, same_ends, meets_wrongly}
 use Rattle.balance.specs.Balance.{balance, balances}
 use Rattle.faults.specs.Faults.{ends_in_range, rises, winding_in_range, bits_in_range, lot_in_range, fault, fault_at, faults_of}
-use Rattle.refusal.specs.declared.Verdict.{Verdict}
-use Rattle.refusal.specs.declared.Verdict.TheVariants as verdict-is
+use Rattle.std.specs.Prelude.{Ok, Err}
+use Rattle.refusal.specs.declared.Kind.{Kind}
+use Rattle.refusal.specs.declared.Kind.TheVariants.{StuckWalk}
+use Rattle.refusal.specs.declared.Refusal.{Refusal}
+use Rattle.refusal.specs.Order.{Verdict, refusal}
 use Rattle.refusal.specs.Asked.{wrong_length, unknown_choice, too_short, asked_first}
 use Rattle.refusal.specs.Order.{first_from, first}
 use Rattle.drawing_check.specs.Drawing.{meeting_at, unbalanced_at, meetings_of, unbalanced_of, drawing_verdict}
@@ -42,7 +45,6 @@ use Rattle.string_clip.specs.Run.{lists, Room, Outcome, output, clip_outcome}
 use Rattle.clip_claim.specs.Claim.{Direction, along, drawn, travelled, own_steps, own_travel, times, enough, ray_keeps, InsideAndOutside}
 use Rattle.clip_claim.proofs.Claim.Together.{count-some, inside_and_outside}
 use Rattle.slice_walk.specs.Walk.{walks}
-use Rattle.string_slice.specs.declared.Sliced.TheVariants as slice_is
 use Rattle.string_slice.specs.Contours.{side_bits, slice_contours}
 use Rattle.string_slice.specs.Run as slice
 use Rattle.trials.specs.Trials.{held, held_numbers}
@@ -147,35 +149,35 @@ other-line inside outside h g = go (h.once the_line is_drawn)
 
 -- ---- 12
 -- no refusal from the input is 12
-not_twelve : (r : Run) (number place : ℕ) → Fits r number place → number ≢ 12
-not_twelve r number place f e = go f e
+not_stuck : (r : Run) (kind : Kind) (place : ℕ) → Fits r kind place → kind ≢ StuckWalk
+not_stuck r kind place f e = go f e
   where
-    go : {number place : ℕ} → Fits r number place → number ≡ 12 → ⊥
-    go (wrong_length_lem h) e = omega arith
-    go (coordinate_out i m h) e = omega arith
-    go (not_rising i m h) e = omega arith
-    go (winding_out i m h) e = omega arith
-    go (bits_out i m h) e = omega arith
-    go (lot_out i m h) e = omega arith
-    go (start_falls i m h) e = omega arith
-    go (wrong_meeting i j m n h) e = omega arith
-    go (a_unbalanced i m h) e = omega arith
-    go (b_unbalanced i m h) e = omega arith
-    go (unknown_choice_lem c m h) e = omega arith
-    go (too_short_lem l m h) e = omega arith
+    go : {kind : Kind} {place : ℕ} → Fits r kind place → kind ≡ StuckWalk → ⊥
+    go (wrong_length_lem h) e = cc
+    go (coordinate_out i m h) e = cc
+    go (not_rising i m h) e = cc
+    go (winding_out i m h) e = cc
+    go (bits_out i m h) e = cc
+    go (lot_out i m h) e = cc
+    go (start_falls i m h) e = cc
+    go (wrong_meeting i j m n h) e = cc
+    go (a_unbalanced i m h) e = cc
+    go (b_unbalanced i m h) e = cc
+    go (unknown_choice_lem c m h) e = cc
+    go (too_short_lem l m h) e = cc
 
 moves_found : (numbers : List ℤ) (rule direction : ℤ) (least : ℕ) (ls : slice.Lists) (found : List (List Move))
     → walks (segments numbers) (side_bits (rule_of rule) (segments numbers)) ≡ some found → (place : ℕ)
-    → (slice.slice_outcome numbers rule direction least ls).answer ≢ slice_is.Refused 12 place
+    → (slice.slice_outcome numbers rule direction least ls).answer ≢ Err (refusal StuckWalk place)
 unfolding slice.slice_outcome slice_contours
 moves_found numbers rule direction least ls found e place f = go (verdict r) refl f
   where
     r : Run
     r = slice.run_of numbers rule direction ls
 
-    go : (v : Verdict) → verdict r ≡ v → (slice.answered v (slice_contours (rule_of rule) (eq_z direction (pos 1)) least (segments numbers)) ls).answer ≡ slice_is.Refused 12 place → ⊥
-    go verdict-is.Accepted v f = let g = rw e at f in let z : ◌≡◌ {A = ℕ} 0 1 = cc in omega arith
-    go (verdict-is.Refused number at) v f = not_twelve r number at (refused_fits r number at v) (cc)
+    go : (v : Verdict) → verdict r ≡ v → (slice.answered v (slice_contours (rule_of rule) (eq_z direction (pos 1)) least (segments numbers)) ls).answer ≡ Err (refusal StuckWalk place) → ⊥
+    go (Ok _) v f = let g = rw e at f in cc
+    go (Err x) v f = not_stuck r x.kind x.place (refused_fits r x.kind x.place v) (cc)
 
 -- ---- the list
 pub idle : Idle
@@ -189,7 +191,7 @@ idle = record {
   canned_outside = canned;
   each_alone = λ e. omega (arith, ap (λ o. o.numbers.totals.paths) e);
   all_inside = none_outside;
-  all_refused = λ number place e. let z : ◌≡◌ {A = ℕ} 0 1 = cc in omega arith;
+  all_refused = λ r e. cc;
   steps_altered = λ inside outside n h. n h.all_steps;
   travel_altered = λ inside outside n h. n h.all_travel;
   no_move = moves_found;

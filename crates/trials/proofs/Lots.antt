@@ -10,8 +10,8 @@ use Rattle.lists.specs.Members.{any}
 use Rattle.geom.specs.declared.Point.{Point}
 use Rattle.geom.specs.Points.{eq_z}
 use Rattle.contour.specs.Contour.{Contour}
-use Rattle.refusal.specs.declared.Verdict.{Verdict}
-use Rattle.refusal.specs.declared.Verdict.TheVariants.{Accepted}
+use Rattle.refusal.specs.Order.{Verdict}
+use Rattle.refusal.specs.Order.{accepted}
 use Rattle.refusal.specs.Order.{◌then◌}
 use Rattle.refusal.specs.Asked.{wrong_length, Choice, unknown_choice, Lent, too_short, asked_first}
 use Rattle.refusal.proofs.Order.{not_both, accepted_then}
@@ -41,11 +41,11 @@ module _ (l m : List ℤ) (n : length l ≡ length m) (q : SameButLots (segments
   unfolding asked count
   asked-same = ap (λ k. asked_first (wrong_length width 1024 k) (any unknown_choice choices) (any (too_short (k / width)) lists)) (sym n)
 
-  acceptance : verdict (run_with l choices lists) ≡ Accepted → (verdict (run_with m choices lists) ≡ Accepted) ⊎ LotOut (segments m) (verdict (run_with m choices lists))
+  acceptance : verdict (run_with l choices lists) ≡ accepted → (verdict (run_with m choices lists) ≡ accepted) ⊎ LotOut (segments m) (verdict (run_with m choices lists))
   unfolding verdict
   acceptance e = go (verdict_lots (segments l)) (verdict_lots (segments m))
     where
-      passed : (asked (run_with l choices lists) ≡ Accepted) × (drawing_verdict (segments l) ≡ Accepted)
+      passed : (asked (run_with l choices lists) ≡ accepted) × (drawing_verdict (segments l) ≡ accepted)
       passed = accepted_then (asked (run_with l choices lists)) _ e
 
       -- the other run's verdict is that on its drawing
@@ -54,7 +54,7 @@ module _ (l m : List ℤ) (n : length l ≡ length m) (q : SameButLots (segments
 
       go : (drawing_verdict (segments l) ≡ drawing_verdict (map unlotted (segments l))) ⊎ LotOut (segments l) (drawing_verdict (segments l))
           → (drawing_verdict (segments m) ≡ drawing_verdict (map unlotted (segments m))) ⊎ LotOut (segments m) (drawing_verdict (segments m))
-          → (verdict (run_with m choices lists) ≡ Accepted) ⊎ LotOut (segments m) (verdict (run_with m choices lists))
+          → (verdict (run_with m choices lists) ≡ accepted) ⊎ LotOut (segments m) (verdict (run_with m choices lists))
       go (inl a) (inl b) = inl (decides ∙ b ∙ ap drawing_verdict (sym q) ∙ sym a ∙ passed.1)
       go (inr o) b = absurd (not_both (sym o.thirteen ∙ passed.1))
       go (inl a) (inr o) = inr (subst (LotOut (segments m)) (sym decides) o)

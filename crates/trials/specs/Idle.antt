@@ -1,17 +1,18 @@
 -- Idle programs, shut out: document 01, "How each operation is bound", c. Each line of that list is the negation of a claim, or of an outcome, as they are stated
 -- of all runs. An outcome here is any at all: whatever a program told and left in its lists.
-use Rattle.std.specs.Prelude.{◌≡◌, List, [], ◌∷◌, ◌++◌, true, ◌≢◌, ℕ, ◌+◌, ℤ, pos}
+use Rattle.std.specs.Prelude.{◌≡◌, List, [], ◌∷◌, ◌++◌, true, ◌≢◌, ℕ, ◌+◌, ℤ, pos, Err}
 use Rattle.std.proofs.Math.Option.{some}
 use Rattle.geom.specs.declared.Point.{Point}
 use Rattle.segm.specs.Segments.{segments}
-use Rattle.refusal.specs.declared.Verdict.TheVariants as verdict-is
+use Rattle.refusal.specs.declared.Kind.TheVariants.{StuckWalk}
+use Rattle.refusal.specs.declared.Refusal.{Refusal}
+use Rattle.refusal.specs.Order.{refusal}
 use Rattle.checks.specs.Accepted.{accepts}
 use Rattle.fill_rule.specs.FillRule.{rule_of}
 use Rattle.moves.specs.Moves.{Move}
 use Rattle.string_clip.specs.Run.{Outcome, output}
 use Rattle.clip_claim.specs.Claim.{InsideAndOutside}
 use Rattle.slice_walk.specs.Walk.{walks}
-use Rattle.string_slice.specs.declared.Sliced.TheVariants as slice_is
 use Rattle.string_slice.specs.Contours.{side_bits}
 use Rattle.string_slice.specs.Run as slice
 use Rattle.trials.specs.Trials.{line, clip_of, finds, verdict_on}
@@ -53,11 +54,11 @@ pub record Idle : Type 0 where
   -- an inside run holding all lines and an empty outside one: the ray fills neither side of the line
   pub all_inside : (inside outside : Outcome) → output outside ≡ [] → ¬ Holds inside outside
   -- everything refused
-  pub all_refused : (number place : ℕ) → verdict_on 1 bare ≢ verdict-is.Refused number place
+  pub all_refused : (r : Refusal) → verdict_on 1 bare ≢ Err r
   -- invented steps or travel
   pub steps_altered : (inside outside : Outcome) → inside.numbers.totals.steps + outside.numbers.totals.steps ≢ 1 → ¬ Holds inside outside
   pub travel_altered : (inside outside : Outcome) → inside.numbers.totals.travel + outside.numbers.totals.travel ≢ 2 → ¬ Holds inside outside
   -- "no move" before looking: 12 is not the outcome where every walk finds its moves
   pub no_move : (numbers : List ℤ) (rule direction : ℤ) (least : ℕ) (ls : slice.Lists) (found : List (List Move))
       → walks (segments numbers) (side_bits (rule_of rule) (segments numbers)) ≡ some found → (place : ℕ)
-      → (slice.slice_outcome numbers rule direction least ls).answer ≢ slice_is.Refused 12 place
+      → (slice.slice_outcome numbers rule direction least ls).answer ≢ Err (refusal StuckWalk place)

@@ -9,7 +9,7 @@
 // an end.
 #![tactic(auto)]
 
-ghost use Rattle.std.specs.Prelude.{◌≡◌, ◌↔◌, true, false, ℕ, ◌+◌, ◌-◌, ◌*◌, ◌≤◌, ◌<◌, length, take, set, ◌+ℤ◌, ◌<ℤ◌};
+ghost use Rattle.std.specs.Prelude.{◌≡◌, ◌↔◌, true, ℕ, ◌+◌, ◌-◌, ◌*◌, ◌≤◌, ◌<◌, length, take, set, ◌+ℤ◌, ◌<ℤ◌, IfSome, IsSome, MatchOption};
 ghost use Rattle.geom.specs.Points.{in_range};
 ghost use Rattle.segm.specs.Segments.{segments, segment_at};
 ghost use Rattle.ends.specs.Ends.{end_point};
@@ -29,10 +29,8 @@ fn lies_under(s: &[i32], i: u16, p: Point) -> bool
     ensures { result ≡ lies_under p (segment_at (segments s.now) i) }
 {
     let t = segm::segment_in(s, i as usize);
-    if 0 < geom::cross(t.a, t.b, p) {
-        return true;
-    }
-    geom::same(t.a, p)
+    let under = 0 < geom::cross(t.a, t.b, p);
+    under || geom::same(t.a, p)
 }
 
 // The same, above.
@@ -41,10 +39,8 @@ fn lies_above(s: &[i32], i: u16, p: Point) -> bool
     ensures { result ≡ lies_above p (segment_at (segments s.now) i) }
 {
     let t = segm::segment_in(s, i as usize);
-    if geom::cross(t.a, t.b, p) < 0 {
-        return true;
-    }
-    geom::same(t.a, p)
+    let above = geom::cross(t.a, t.b, p) < 0;
+    above || geom::same(t.a, p)
 }
 
 // Whether the one before place k of the list lies under v, and the one at place k above it.
@@ -65,37 +61,33 @@ fn is_in_gap(s: &[i32], v: Segment, list: &[u16], k: usize) -> bool
     true
 }
 
-// A place in the list, and whether a vertical segment stands in the gap there.
-#[derive(Clone, Copy)]
-struct Gap {
-    place: usize,
-    clear: bool,
-}
-
 // Where the vertical segment v stands in a gap of the list, if it does: at the guess, else by search.
-fn gap_of(s: &[i32], v: Segment, list: &[u16], guess: usize) -> Gap
+fn gap_of(s: &[i32], v: Segment, list: &[u16], guess: usize) -> Option<usize>
     requires { Faultless (segments s.now) × Proper v × PlacesOf (segments s.now) list.now }
-    ensures { (result.clear ≡ true → InGapAt (segments s.now) v result.place list.now)
-        × (ClearIn (segments s.now) v list.now → result.clear ≡ true) }
+    ensures gap { IfSome result (λ k. InGapAt (segments s.now) v k list.now) }
+    ensures can { ClearIn (segments s.now) v list.now → IsSome result }
 {
-    if guess <= list.len() {
-        if is_in_gap(s, v, list, guess) {
-            return Gap {
-                place: guess,
-                clear: true,
-            };
-        }
+    if guess <= list.len() && is_in_gap(s, v, list, guess) {
+        return Some(guess);
     }
     let b = v.b;
     let k = scan::place_of(s, list, Sought::At(b));
-    Gap {
-        place: k,
-        clear: is_in_gap(s, v, list, k),
+    if is_in_gap(s, v, list, k) {
+        return Some(k);
     }
+    None
 }
 
-// The vertical segment v, at place i of the drawing, stands in a gap of the list, if it does; its top count is that of the one below the gap, and its own winding.
-fn stand_one(s: &[i32], v: Segment, i: usize, list: &[u16], guess: usize, tops: &mut [i32]) -> Gap
+// The vertical segment v, at place i of the drawing, stands in a gap of the list, if it does; its top count is that of the one below the gap, and its own
+// winding.
+fn stand_one(
+    s: &[i32],
+    v: Segment,
+    i: usize,
+    list: &[u16],
+    guess: usize,
+    tops: &mut [i32],
+) -> Option<usize>
     requires { let d = segments s.now in
         Faultless d
         × (v ≡ segment_at d i)
@@ -103,17 +95,13 @@ fn stand_one(s: &[i32], v: Segment, i: usize, list: &[u16], guess: usize, tops: 
         × PlacesOf d list.now
         × (length d ≤ length tops.old)
         × BoundedBy 2110000000 tops.old }
-    ensures { let d = segments s.now in let l = list.now in let tops₀ = tops.old in
-        (result.clear ≡ true → (InGapAt d v result.place l × (tops.new ≡ set tops₀ i (last_in tops₀ (take result.place l) +ℤ v.winding))))
-        × (result.clear ≡ false → tops.new ≡ tops₀)
-        × (ClearIn d v l → result.clear ≡ true) }
+    ensures stands { let d = segments s.now in let l = list.now in let tops₀ = tops.old in
+        MatchOption result (tops.new ≡ tops₀) (λ k. InGapAt d v k l × (tops.new ≡ set tops₀ i (last_in tops₀ (take k l) +ℤ v.winding))) }
+    ensures can { ClearIn (segments s.now) v list.now → IsSome result }
 {
-    let gap = gap_of(s, v, list, guess);
-    if gap.clear {
-        let k = gap.place;
-        tops[i] = count_up::count_below(&list[..k], tops) + v.winding;
-    }
-    gap
+    let k = gap_of(s, v, list, guess)?;
+    tops[i] = count_up::count_below(&list[..k], tops) + v.winding;
+    Some(k)
 }
 
 // Whether every vertical segment from one place up to another stands in a gap of the list, the first one's sought near a guess. Their top counts are written.
@@ -137,61 +125,50 @@ pub fn stand_all(
         × (Clears d from to l → result ≡ true) }
 {
     let mut near = guess;
-    let mut i = from;
-    while i < to {
+    for i in from..to {
         let v = segm::segment_in(s, i);
         if scan::is_vertical(v) {
-            let gap = stand_one(s, v, i, list, near, tops);
-            if !gap.clear {
+            let Some(place) = stand_one(s, v, i, list, near, tops) else {
                 return false;
-            }
-            near = gap.place;
+            };
+            near = place;
         }
-        i += 1;
     }
     true
 }
 
-// The last vertical segment of a column of ends, by the heights of its foot and head, and whether all tests were passed so far.
+// The last vertical segment of a column of ends so far, by the heights of its foot and head.
 #[derive(Clone, Copy)]
 struct Last {
     foot: i32,
     top: i32,
-    clear: bool,
 }
 
 // End e is passed: it does not lie strictly between foot and top, and if a vertical segment starts there it is not below the top.
-fn pass_end(s: &[i32], e: usize, foot: i32, top: i32) -> Last
+fn pass_end(s: &[i32], e: usize, last: Last) -> Option<Last>
     requires { e < 2 * length (segments s.now) }
-    ensures { let d = segments s.now in let y = (end_point d e).y in
-        (result.clear ≡ true → Beyond d e foot top result.foot result.top)
-        × ((foot <ℤ y → y <ℤ top → ⊥) → (VerticalStart d e → y <ℤ top → ⊥) → result.clear ≡ true) }
+    ensures beyond { IfSome result (λ next. Beyond (segments s.now) e last.foot last.top next.foot next.top) }
+    ensures can { let d = segments s.now in let y = (end_point d e).y in
+        (last.foot <ℤ y → y <ℤ last.top → ⊥) → (VerticalStart d e → y <ℤ last.top → ⊥) → IsSome result }
 {
     let p = ends::end_point(s, e);
     let y = p.y;
-    if (foot < y) & (y < top) {
-        return Last {
-            foot: foot,
-            top: top,
-            clear: false,
-        };
+    if (last.foot < y) & (y < last.top) {
+        return None;
     }
     if e < segm::count(s) {
         let t = segm::segment_in(s, e);
         if scan::is_vertical(t) {
-            let b = t.b;
-            return Last {
+            if y < last.top {
+                return None;
+            }
+            return Some(Last {
                 foot: y,
-                top: b.y,
-                clear: !(y < top),
-            };
+                top: t.b.y,
+            });
         }
     }
-    Last {
-        foot: foot,
-        top: top,
-        clear: true,
-    }
+    Some(last)
 }
 
 // Whether no end of a column lies within a vertical segment that starts in it, and these do not overlap.
@@ -199,17 +176,15 @@ pub fn are_unbroken(s: &[i32], ends: &[u16]) -> bool
     requires { Faultless (segments s.now) × Column (segments s.now) ends.now }
     ensures { (result ≡ true) ↔ Unbroken (segments s.now) ends.now }
 {
-    let mut foot: i32 = -2147483648;
-    let mut top: i32 = -2147483648;
-    let mut k: usize = 0;
-    while k < ends.len() {
-        let last = pass_end(s, ends[k] as usize, foot, top);
-        if !last.clear {
+    let mut last = Last {
+        foot: i32::MIN,
+        top: i32::MIN,
+    };
+    for e in ends {
+        let Some(next) = pass_end(s, *e as usize, last) else {
             return false;
-        }
-        foot = last.foot;
-        top = last.top;
-        k += 1;
+        };
+        last = next;
     }
     true
 }

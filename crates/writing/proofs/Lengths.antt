@@ -2,13 +2,15 @@
 use mathlib.Core.Path.{◌≡◌, refl, ap, ◌∙◌}
 use mathlib.Core.Bool.{Bool, true, false, cond}
 use mathlib.Core.List.{List, [], ◌∷◌, map, flatten}
-use Prim.Native.Nat.{ℕ, zero, suc, ◌+◌, ◌/◌, ◌%◌, ◌^◌, ◌<◌, ◌≤◌}
+use Prim.Native.Nat.{ℕ, zero, suc, ◌+◌, ◌/◌, ◌%◌, ◌^◌, ◌<◌, ◌≤◌, ◌*◌, max}
+use native.Mathlib.Nat.{pow-suc}
 use native.Mathlib.Omega.{arith}
 use borrow.Author.Tests.{lt-ltb, le-ltb}
 use lib.Dec.{ltb}
 use lib.ListN.{length, length-append}
 use lib.IntN.{ℤ, pos, negsuc, nat_abs}
-use lib.Signed.{◌≤ℤ◌}
+use lib.Signed.{◌≤ℤ◌, lt_z}
+use mir.Val.{bool_byte}
 use Rattle.lists.specs.Sums.{tally}
 use Rattle.lists.proofs.Sums.{tally_map}
 use Rattle.decimal.specs.Decimal.{digits, decimal, signed}
@@ -44,10 +46,24 @@ pub count_more : (k n : ℕ) → 10 ≤ n → digits_up_to (suc k) n ≡ suc (di
 unfolding digits_up_to
 count_more k n h = rw (le-ltb n 10 h)
 
--- a number of two digits or more, without its last
-pub one_less : (left n : ℕ) → 10 ≤ n → n < 10 ^ suc left → (k : ℕ) × (left ≡ suc k) × (n / 10 < 10 ^ suc k)
-one_less zero n h small = absurd (omega arith)
-one_less (suc k) n h small = (k, refl, omega arith)
+-- one more than the exponent of the largest power of ten that is not above n (of n = 0 the power is 1)
+pub digits_by_power : (j k n : ℕ) → k ≤ j → 10 ^ k ≤ max n 1 → max n 1 < 10 * 10 ^ k → digits_up_to (suc j) n ≡ suc k
+digits_by_power j zero n h lo hi = count-one j n (omega arith)
+digits_by_power zero (suc k) n h lo hi = absurd (omega arith)
+digits_by_power (suc j) (suc k) n h lo hi =
+    let p : 0 < 10 ^ k = pow-pos k in
+    let e : 10 ^ suc k ≡ 10 ^ k * 10 = pow-suc 10 k in
+    count_more (suc j) n (omega arith) ∙ ap suc (digits_by_power j k (n / 10) (omega arith) (omega arith) (omega arith))
+  where
+    pow-pos : (k : ℕ) → 0 < 10 ^ k
+    pow-pos zero = omega arith
+    pow-pos (suc k) = let e : 10 ^ suc k ≡ 10 ^ k * 10 = pow-suc 10 k in omega (arith, pow-pos k)
+
+-- one for the minus
+pub sign_and_digits : (z : ℤ) → digits_in (nat_abs z) + bool_byte (lt_z z (pos 0)) ≡ signed_length z
+unfolding signed_length
+sign_and_digits (pos n) = rw (le-ltb n 0 (omega arith)) (omega arith)
+sign_and_digits (negsuc n) = omega arith
 
 -- ---- lines
 length-joined : (b : ℕ) (f : List ℕ) (fields : List (List ℕ)) → suc (length (joined b (f ∷ fields))) ≡ tally suc (map length (f ∷ fields))
@@ -67,6 +83,11 @@ lengths_signed (z ∷ row) = rw (length-signed z, lengths_signed row)
 pub length-row : (row : List ℤ) → length (line_of (map signed row)) ≡ row_length row
 unfolding row_length
 length-row row = length-line (map signed row) ∙ ap line_length (lengths_signed row)
+
+pub no_numbers : (row : List ℤ) → length row ≡ 0 → 1 ≡ row_length row
+unfolding row_length line_length
+no_numbers [] h = refl
+no_numbers (z ∷ row) h = absurd (omega arith)
 
 -- each number with the byte after it
 pub row_tally : (row : List ℤ) → 0 < length row → row_length row ≡ tally (λ z. suc (signed_length z)) row

@@ -1,5 +1,4 @@
 pub mod Lines
 pub mod Lengths
 pub mod Puts
-pub mod Signs
 pub mod Cases

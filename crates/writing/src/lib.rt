@@ -1,98 +1,98 @@
-// Digits, commas, LF and other bytes, put into a lent list from a place on, and how many bytes numbers and lines have: who writes can see first that there is
-// room for all of it.
+// Numbers, commas, LF and other bytes, put into a lent list one after another, and how many bytes numbers and lines have: who writes can see first that there
+// is room for all of it.
 #![tactic(auto)]
 
-ghost use Rattle.std.specs.Prelude.{◌≡◌, [], ◌∷◌, map, ◌+◌, ◌^◌, ◌≤◌, ◌<◌, length};
-ghost use Rattle.decimal.specs.Decimal.{decimal, signed};
+ghost use Rattle.std.specs.Prelude.{◌≡◌, [], ◌∷◌, map, ◌^◌, ◌≤◌, ◌<◌, length};
+ghost use Rattle.decimal.specs.Decimal.{signed};
+ghost use Rattle.refusal.specs.Numbers.{number_of};
 ghost use Rattle.writing.specs.Lines.{line_of, refused_line};
 ghost use Rattle.writing.specs.Lengths.{digits_in, signed_length, row_length};
-ghost use Rattle.writing.specs.Puts.{Put};
+ghost use Rattle.writing.specs.Puts.{Put, Room, Appended};
 
-pub fn put_byte(b: u8, out: &mut [u8], at: usize) -> usize
-    requires { at + 1 ≤ length out.old }
-    ensures { Put out.old at (b ∷ []) result out.new }
-{
-    out[at] = b;
-    at + 1
+use itoa::{Buffer, Integer};
+use refusal::Refusal;
+
+// A lent list, and the place that the next byte goes to.
+#[derive(Drop)]
+pub struct Writer<'a> {
+    pub out: &'a mut [u8],
+    pub at: usize,
 }
 
-pub fn put_bytes(s: &[u8], out: &mut [u8], at: usize) -> usize
-    requires { at + length s.now ≤ length out.old }
-    ensures { Put out.old at s.now result out.new }
-{
-    let mut i: usize = 0;
-    while i < s.len() {
-        out[at + i] = s[i];
-        i += 1;
+impl<'a> Writer<'a> {
+    // Writes to the front of a list.
+    pub fn new(out: &'a mut [u8]) -> Writer<'a>
+        ensures same { result.out.ghost_name ≡ out.entry.ghost_name }
+        ensures list { result.out.now ≡ out.old }
+        ensures front { result.at ≡ 0 }
+    {
+        Writer { out, at: 0 }
     }
-    at + s.len()
+
+    pub fn put_byte(&mut self, b: u8)
+        requires { Room self.old (b ∷ []) }
+        ensures { Appended self.old (b ∷ []) self.new }
+    {
+        self.out[self.at] = b;
+        self.at += 1;
+    }
+
+    pub fn put_bytes(&mut self, s: &[u8])
+        requires { Room self.old s.now }
+        ensures { Appended self.old s.now self.new }
+    {
+        let end = self.at + s.len();
+        self.out[self.at..end].copy_from_slice(s);
+        self.at = end;
+    }
+
+    // What is printed of a number.
+    pub fn put_number<N: Integer>(&mut self, n: N)
+        requires { Room self.old (N.text n) }
+        ensures { Appended self.old (N.text n) self.new }
+    {
+        let mut buffer = Buffer::new();
+        self.put_bytes(buffer.format(n).as_bytes());
+    }
+
+    // A comma and a number.
+    pub fn put_next<N: Integer>(&mut self, n: N)
+        requires { Room self.old (44 ∷ N.text n) }
+        ensures { Appended self.old (44 ∷ N.text n) self.new }
+    {
+        self.put_byte(b',');
+        self.put_number(n);
+    }
+
+    // A row of numbers: commas between, LF at the end.
+    pub fn put_line(&mut self, row: &[i32])
+        requires { Room self.old (line_of (map signed row.now)) }
+        ensures { Appended self.old (line_of (map signed row.now)) self.new }
+    {
+        let [first, rest @ ..] = row else {
+            self.put_byte(b'\n');
+            return;
+        };
+        self.put_number(*first);
+        for z in rest {
+            self.put_next(*z);
+        }
+        self.put_byte(b'\n');
+    }
 }
 
 // How many digits n has.
 pub fn decimal_length(n: u64) -> usize
     ensures { result ≡ digits_in n }
 {
-    let mut k: usize = 1;
-    let mut rest = n;
-    while 10 <= rest {
-        rest /= 10;
-        k += 1;
-    }
-    k
-}
-
-// The digits of n, from the last to the first.
-pub fn put_decimal(n: u64, out: &mut [u8], at: usize) -> usize
-    requires { at + length (decimal n) ≤ length out.old }
-    ensures { Put out.old at (decimal n) result out.new }
-{
-    let end = at + decimal_length(n);
-    let mut i = end;
-    let mut rest = n;
-    while 10 <= rest {
-        i -= 1;
-        out[i] = b'0' + (rest % 10) as u8;
-        rest /= 10;
-    }
-    out[at] = b'0' + rest as u8;
-    end
+    n.max(1).ilog10() as usize + 1
 }
 
 // How many bytes z has, the minus too.
 pub fn signed_length(z: i32) -> usize
     ensures { result ≡ signed_length z }
 {
-    let n = decimal_length(geom::distance(z, 0));
-    if z < 0 { n + 1 } else { n }
-}
-
-pub fn put_signed(z: i32, out: &mut [u8], at: usize) -> usize
-    requires { at + length (signed z) ≤ length out.old }
-    ensures { Put out.old at (signed z) result out.new }
-{
-    let size = geom::distance(z, 0);
-    if z < 0 {
-        let next = put_byte(b'-', out, at);
-        return put_decimal(size, out, next);
-    }
-    put_decimal(size, out, at)
-}
-
-// A comma and a number.
-pub fn put_next(n: u64, out: &mut [u8], at: usize) -> usize
-    requires { at + length (44 ∷ decimal n) ≤ length out.old }
-    ensures { Put out.old at (44 ∷ decimal n) result out.new }
-{
-    let next = put_byte(b',', out, at);
-    put_decimal(n, out, next)
-}
-
-pub fn put_next_signed(z: i32, out: &mut [u8], at: usize) -> usize
-    requires { at + length (44 ∷ signed z) ≤ length out.old }
-    ensures { Put out.old at (44 ∷ signed z) result out.new }
-{
-    let next = put_byte(b',', out, at);
-    put_signed(z, out, next)
+    decimal_length(u64::from(z.unsigned_abs())) + usize::from(z < 0)
 }
 
 // How many bytes the line of a row of numbers has.
@@ -100,42 +100,25 @@ pub fn line_length(row: &[i32]) -> usize
     requires { row_length row.now < 2 ^ 64 }
     ensures { result ≡ row_length row.now }
 {
-    if row.len() == 0 {
+    if row.is_empty() {
         return 1;
     }
-    let mut n: usize = 0;
-    let mut i: usize = 0;
-    while i < row.len() {
-        n += signed_length(row[i]) + 1;
-        i += 1;
+    let mut n = 0;
+    for z in row {
+        n += signed_length(*z) + 1;
     }
     n
 }
 
-// A row of numbers: commas between, LF at the end.
-pub fn put_line(row: &[i32], out: &mut [u8], at: usize) -> usize
-    requires { at + length (line_of (map signed row.now)) ≤ length out.old }
-    ensures { Put out.old at (line_of (map signed row.now)) result out.new }
+// The one line of a refusal, at the front of a list; tells how many bytes it has.
+pub fn put_refused(refusal: Refusal, out: &mut [u8]) -> usize
+    requires { length (refused_line (number_of refusal.kind) refusal.place) ≤ length out.old }
+    ensures { Put out.old 0 (refused_line (number_of refusal.kind) refusal.place) result out.new }
 {
-    if row.len() == 0 {
-        return put_byte(b'\n', out, at);
-    }
-    let mut next = put_signed(row[0], out, at);
-    let mut i: usize = 1;
-    while i < row.len() {
-        next = put_next_signed(row[i], out, next);
-        i += 1;
-    }
-    put_byte(b'\n', out, next)
-}
-
-// The one line of a refusal.
-pub fn put_refused(number: u32, place: usize, out: &mut [u8]) -> usize
-    requires { length (refused_line number place) ≤ length out.old }
-    ensures { Put out.old 0 (refused_line number place) result out.new }
-{
-    let a = put_bytes(b"refused", out, 0);
-    let b = put_next(number as u64, out, a);
-    let c = put_next(place as u64, out, b);
-    put_byte(b'\n', out, c)
+    let mut line = Writer::new(out);
+    line.put_bytes(b"refused");
+    line.put_next(refusal.kind.number());
+    line.put_next(refusal.place);
+    line.put_byte(b'\n');
+    line.at
 }

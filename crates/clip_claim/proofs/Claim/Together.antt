@@ -15,7 +15,7 @@ use Rattle.segm.specs.Segments.{Drawing, segments}
 use Rattle.lists.proofs.Written.{length_written, written_past}
 use Rattle.lists.proofs.Members.{cases}
 use Rattle.lists.proofs.Sums.{tally_cong, tally-+, tally_one, tally_in, tally_some}
-use Rattle.refusal.specs.declared.Verdict.TheVariants.{Accepted}
+use Rattle.refusal.specs.Order.{accepted}
 use Rattle.refusal.specs.Asked.{unknown_choice}
 use Rattle.checks.specs.Runs.{verdict, rule_choice, flag_choice, clip_run}
 use Rattle.checks.specs.Accepted.{Good, accepts}
@@ -40,11 +40,11 @@ use Rattle.clip_paths.proofs.Writing.Found.{travel_either, clip_fits}
 
 -- ---- one run
 run_tells : (d : Drawing) → Good d → (rule : Rule) (filter : Filter) (ls : Lists) → 8 * length d ≤ length ls.points → 2 * length d ≤ length ls.lengths
-    → Tells d ls (answered Accepted (clip_paths rule filter d) ls)
+    → Tells d ls (answered accepted (clip_paths rule filter d) ls)
 unfolding totals
 run_tells d g rule filter ls h k =
     let paths = clip_paths rule filter d in
-    let back : paths ≡ output (answered Accepted paths ls) = sym (read_back paths ls) in
+    let back : paths ≡ output (answered accepted paths ls) = sym (read_back paths ls) in
     let fits = clip_fits d g rule filter in
     let f = length-coordinates (flatten paths) in
     let m : length (map length paths) ≡ length paths = length-map paths length in
@@ -126,7 +126,7 @@ module _ (d : Drawing) (g : Good d) (rule : Rule) (boundary : ℤ) where
   sum-travel = both_tally travel_of ∙ tally_cong (drawn d) (λ δ m. travel_either δ.forth δ.segment)
 
   module _ (ls₀ ls₁ : Lists) where
-    both_good : InsideAndOutside d rule boundary (answered Accepted (clip_paths rule (filter_of (pos 0) boundary) d) ls₀) (answered Accepted (clip_paths rule (filter_of (pos 1) boundary) d) ls₁)
+    both_good : InsideAndOutside d rule boundary (answered accepted (clip_paths rule (filter_of (pos 0) boundary) d) ls₀) (answered accepted (clip_paths rule (filter_of (pos 1) boundary) d) ls₁)
     unfolding totals
     both_good =
         let back₀ = read_back (clip_paths rule (filter_of (pos 0) boundary) d) ls₀ in
@@ -140,7 +140,7 @@ module _ (d : Drawing) (g : Good d) (rule : Rule) (boundary : ℤ) where
         }
 
 -- ---- by verdicts
-module _ (numbers : List ℤ) (rule invert boundary : ℤ) (ls : Lists) (e : verdict (run_of numbers rule invert boundary ls) ≡ Accepted) where
+module _ (numbers : List ℤ) (rule invert boundary : ℤ) (ls : Lists) (e : verdict (run_of numbers rule invert boundary ls) ≡ accepted) where
   pub accepted_tells : Tells (segments numbers) ls (clip_outcome numbers rule invert boundary ls)
   accepted_tells =
       let room = accepted_room numbers rule invert boundary ls e in
@@ -154,7 +154,7 @@ module _ (numbers : List ℤ) (rule boundary : ℤ) (ls₀ ls₁ : Lists) where
   abbrev outside : Outcome
   outside = clip_outcome numbers rule (pos 1) boundary ls₁
 
-  pub both_accepted : verdict (run_of numbers rule (pos 0) boundary ls₀) ≡ Accepted → verdict (run_of numbers rule (pos 1) boundary ls₁) ≡ Accepted
+  pub both_accepted : verdict (run_of numbers rule (pos 0) boundary ls₀) ≡ accepted → verdict (run_of numbers rule (pos 1) boundary ls₁) ≡ accepted
       → InsideAndOutside (segments numbers) (rule_of rule) boundary inside outside × Tells (segments numbers) ls₀ inside × Tells (segments numbers) ls₁ outside
   both_accepted e₀ e₁ = (
     rw (accepted_outcome numbers rule (pos 0) boundary ls₀ e₀, accepted_outcome numbers rule (pos 1) boundary ls₁ e₁)
@@ -172,7 +172,7 @@ module _ (numbers : List ℤ) (rule boundary : ℤ) (e : accepts numbers rule (p
       let known = (passed _ (accepted_input numbers rule (pos 0) boundary e)).asks.known in
       neither (nor_l (unknown_choice (rule_choice rule)) _ known) (neither h (nor_r (unknown_choice (flag_choice (pos 0))) _ (nor_r (unknown_choice (rule_choice rule)) _ known)))
 
-  room_accepted : (invert : ℤ) → unknown_choice (flag_choice invert) ≡ false → (ls : Lists) → Room numbers ls → verdict (run_of numbers rule invert boundary ls) ≡ Accepted
+  room_accepted : (invert : ℤ) → unknown_choice (flag_choice invert) ≡ false → (ls : Lists) → Room numbers ls → verdict (run_of numbers rule invert boundary ls) ≡ accepted
   unfolding clip_run
   room_accepted invert h ls r = accepted_run numbers rule (pos 0) boundary e _ _ (choices_known invert h) (room_long numbers ls r)
 

@@ -1,13 +1,19 @@
 -- The points of a path, by place.
-use mathlib.Core.Path.{◌≡◌, refl, sym, ◌∙◌, ap}
+use mathlib.Core.Path.{◌≡◌, refl, sym, ◌∙◌, ap, ap₂}
 use mathlib.Core.List.{List, [], ◌∷◌, reverse_aux}
 use mathlib.Core.Bool.{Bool, true, false}
-use Prim.Native.Nat.{ℕ, zero, suc, ◌+◌, ◌-◌, ◌<◌, ◌≤◌}
+use Prim.Native.Nat.{ℕ, zero, suc, ◌+◌, ◌*◌, ◌-◌, ◌<◌, ◌≤◌}
 use native.Mathlib.Omega.{arith}
-use lib.ListN.{length, get_or, length-map, length-reverse}
+use lib.ListN.{length, get_or, take, set, length-set, length-map, length-reverse}
+use lib.Seq.{take_all}
+use lib.IntN.{ℤ}
+use Rattle.geom.specs.declared.Point.{Point}
+use Rattle.lists.specs.Written.{written}
 use Rattle.segm.specs.Segments.{Drawing}
+use Rattle.segm.proofs.Segments.{length-segments}
 use Rattle.lists.proofs.Entries.{get_d_map}
-use Rattle.contour.specs.Points.{origin}
+use Rattle.contour.specs.Points.{coordinates, origin}
+use Rattle.contour.proofs.Points.Coordinates.{written_point}
 use Rattle.ends.specs.Ends.{end_point}
 use Rattle.graph.specs.Nodes.{other_end}
 use Rattle.clip_paths.specs.Paths.{finished}
@@ -39,10 +45,13 @@ module _ (links : Drawing) where
   through-first [] h = absurd (omega arith)
   through-first (e ∷ es) h = refl
 
-  pub through_next : (es : List ℕ) (i : ℕ) → i < length es → get_or (through_ends links es) (suc i) origin ≡ end_point links (other_end (length links) (get_or es i 0))
+  through_next : (es : List ℕ) (i : ℕ) → i < length es → get_or (through_ends links es) (suc i) origin ≡ end_point links (other_end (length links) (get_or es i 0))
   unfolding through_ends
   through_next [] i h = absurd (omega arith)
   through_next (e ∷ es) i h = get_d_map (λ f. end_point links (other_end (length links) f)) (e ∷ es) i 0 origin h
+
+  pub through_after : (es : List ℕ) (i : ℕ) → 0 < i → i ≤ length es → get_or (through_ends links es) i origin ≡ end_point links (other_end (length links) (get_or es (i - 1) 0))
+  through_after es i p h = let e : i ≡ suc (i - 1) = omega arith in ap (λ j. get_or (through_ends links es) j origin) e ∙ through_next es (i - 1) (omega arith)
 
   length-through : (es : List ℕ) → 0 < length es → length (through_ends links es) ≡ suc (length es)
   unfolding through_ends
@@ -63,3 +72,30 @@ module _ (links : Drawing) where
   backward_at es q h k =
       let e : length (through_ends links es) - suc q ≡ length es - q = omega (arith, length-through es h) in
       get_d_back origin (through_ends links es) [] q (omega (arith, length-through es h)) ∙ ap (λ n. get_or (through_ends links es) n origin) e
+
+-- the points that a walk comes through, and the path's, by place
+pub ruleset places_through = (through-first, through_after, length-segments)
+
+pub ruleset places = (outward_at, backward_at)
+
+-- the loop of a path: the points passed are written
+module _ (ps : List Point) (old : List ℤ) where
+  pub record Passed (points : List ℤ) (q : ℕ) : Type 0 where
+    pub room : length points ≡ length old
+    pub list : points ≡ written (coordinates (take q ps)) old
+
+  pub none_passed : Passed old 0
+  unfolding written coordinates
+  none_passed = record { room = refl; list = refl }
+
+  -- one point more
+  pub pass : {points points₁ : List ℤ} {q : ℕ} {p : Point} → Passed points q → p ≡ get_or ps q origin → points₁ ≡ set (set points (2 * q) p.x) (2 * q + 1) p.y → q < length ps → 2 * length ps ≤ length old
+      → Passed points₁ (q + 1)
+  pass {points} {points₁} {q} {p} w e r inside room = record {
+    room = omega (arith, ap length r, length-set (set points (2 * q) p.x) (2 * q + 1) p.y, length-set points (2 * q) p.x, w.room);
+    list = r ∙ ap₂ (λ (t : List ℤ) (z : Point). set (set t (2 * q) z.x) (2 * q + 1) z.y) w.list e ∙ written_point ps old q inside (omega (arith, inside, room));
+  }
+
+  -- after the last all are
+  pub all_passed : {points : List ℤ} {q : ℕ} → Passed points q → length ps ≤ q → points ≡ written (coordinates ps) old
+  all_passed {points} {q} w h = w.list ∙ ap (λ (t : List Point). written (coordinates t) old) (take_all q ps h)

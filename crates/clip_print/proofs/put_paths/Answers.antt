@@ -21,7 +21,7 @@ path_fits points lengths k from h place few = omega (arith, tally_take (λ n. n)
 pub loop-k-init : goal.loop-k-init
 unfolding tally
 loop-k-init c =
-    record { put = left_all (lines_from 0 0 c.args.points.now c.args.lengths.now) c.args.out.now 0; place = refl }
+    record { put = left_all (lines_from 0 0 c.args.points.now c.args.lengths.now) c.args.lines.now; place = refl }
 
 pub overflow_mul-to : goal.overflow_mul-to
 overflow_mul-to c = omega (arith, path_fits c.args.points.now c.args.lengths.now c.loop-k.k c.loop-k.from (omega arith) c.loop-k.invariant.place c.requires.lengths_in_bounds)
@@ -35,14 +35,14 @@ offset_bounds-points-from c = omega (arith, path_fits c.args.points.now c.args.l
 pub slice_bounds-put_path-end : goal.slice_bounds-put_path-end
 slice_bounds-put_path-end c = path_fits c.args.points.now c.args.lengths.now c.loop-k.k c.loop-k.from (omega arith) c.loop-k.invariant.place c.requires.lengths_in_bounds
 
-pub put_path-next-requires : goal.put_path-next-requires
-put_path-next-requires c =
+pub put_path-requires : goal.put_path-requires
+put_path-requires c =
     let k = c.loop-k.k in
     let from = c.loop-k.from in
     let points = c.args.points.now in
     let lengths = c.args.lengths.now in
     let to = from + 2 * get_or lengths k 0 in
-    left_fits c.loop-k.invariant.put (path_lines k 0 (pair_up (take (to - from) (drop from points)))) (lines_from (k + 1) to points lengths) (paths_more k from points lengths (omega arith)) (omega (arith, c.requires.points_in_bounds))
+    left_fits c.loop-k.invariant.put (path_lines k 0 (pair_up (take (to - from) (drop from points)))) (lines_from (k + 1) to points lengths) (paths_more k from points lengths (omega arith)) c.requires.room
 
 pub loop-k-preserved : goal.loop-k-preserved
 loop-k-preserved c =
@@ -50,7 +50,7 @@ loop-k-preserved c =
     let k = c.loop-k.k in
     let lengths = c.args.lengths.now in
     record {
-      put = left_less v.put (paths_more k c.loop-k.from c.args.points.now lengths (omega arith)) c.put_path-next.ensures;
+      put = left_less v.put (paths_more k c.loop-k.from c.args.points.now lengths (omega arith)) c.put_path.ensures;
       place = omega (arith, v.place, tally_take (λ n. n) lengths 0 k (omega arith));
     }
 

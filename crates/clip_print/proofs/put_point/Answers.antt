@@ -3,49 +3,56 @@ use mathlib.Core.Path.{◌≡◌, refl, ap}
 use mathlib.Core.List.{List, [], ◌∷◌}
 use Prim.Native.Nat.{ℕ, ◌+◌}
 use native.Mathlib.Omega.{arith}
+use borrow.Author.Rules.{rules}
 use lib.ListN.{length}
-use lib.IntN.{ℤ}
 use mir.Syntax.{w32}
-use mir.Val.{SFits, to_z, of_z}
-use mir.Facts.{to_z-of_z}
+use mir.Val.{SFits}
 use Rattle.lists.specs.Sums.{tally}
+use Rattle.geom.specs.declared.Point.{Point}
 use Rattle.decimal.specs.Decimal.{decimal, signed}
+use Rattle.decimal.proofs.Printed.{printed}
 use Rattle.writing.specs.Lengths.{line_length}
 use Rattle.writing.proofs.Lengths.{length-line}
-use Rattle.writing.proofs.Puts.{put_same, left_less, left_none, line_rest, first_field}
+use Rattle.writing.proofs.Puts.{next_printed, next_signed_printed, as_well, left_all, left_less, left_none, line_rest, line_first}
 use Rattle.clip_print.specs.Printed.{point_line}
 use Rattle.clip_print.proofs.put_point.Goals as goal
 
--- a coordinate as it was given
-given : {z : ℤ} → SFits w32 z → 44 ∷ signed (to_z w32 (of_z w32 z)) ≡ 44 ∷ signed z
-given f = ap (λ (z : ℤ). 44 ∷ signed z) (to_z-of_z f)
-
 -- the fields, three commas and LF
-sizes : (path point : ℕ) (x y : ℤ) → SFits w32 x → SFits w32 y
-    → length (point_line path point (record { x = x; y = y })) ≡ 4 + length (decimal path) + length (decimal point) + length (signed (to_z w32 (of_z w32 x))) + length (signed (to_z w32 (of_z w32 y)))
+sizes : (path point : ℕ) (p : Point) → length (point_line path point p) ≡ 4 + length (decimal path) + length (decimal point) + length (signed p.x) + length (signed p.y)
 unfolding point_line line_length tally
-sizes path point x y f g = omega (arith, length-line (decimal path ∷ decimal point ∷ signed x ∷ signed y ∷ []), ap length (given f), ap length (given g))
+sizes path point p = omega (arith, length-line (decimal path ∷ decimal point ∷ signed p.x ∷ signed p.y ∷ []))
 
-pub put_decimal-a-requires : goal.put_decimal-a-requires
-put_decimal-a-requires c = omega (arith, sizes c.args.path c.args.point c.args.x c.args.y c.ranges.x c.ranges.y)
+pub put_number-requires : goal.put_number-requires
+put_number-requires c = omega (arith, sizes c.args.path c.args.point c.args.p, ap length (printed c.args.path (omega arith)))
 
-pub put_next-b-requires : goal.put_next-b-requires
-put_next-b-requires c = omega (arith, sizes c.args.path c.args.point c.args.x c.args.y c.ranges.x c.ranges.y)
+pub put_next-requires : goal.put_next-requires
+put_next-requires c = omega (arith, sizes c.args.path c.args.point c.args.p, ap length (printed c.args.path (omega arith)), ap length (next_printed c.args.point (omega arith)))
 
-pub put_next_signed-c-requires : goal.put_next_signed-c-requires
-put_next_signed-c-requires c = omega (arith, sizes c.args.path c.args.point c.args.x c.args.y c.ranges.x c.ranges.y)
+pub put_next-requires-2 : goal.put_next-requires-2
+put_next-requires-2 c =
+    let x : SFits w32 c.args.p.x = search rules in
+    omega (arith, sizes c.args.path c.args.point c.args.p, ap length (printed c.args.path (omega arith)), ap length (next_printed c.args.point (omega arith)), ap length (next_signed_printed c.args.p.x x))
 
-pub put_next_signed-d-requires : goal.put_next_signed-d-requires
-put_next_signed-d-requires c = omega (arith, sizes c.args.path c.args.point c.args.x c.args.y c.ranges.x c.ranges.y)
+pub put_next-requires-3 : goal.put_next-requires-3
+put_next-requires-3 c =
+    let x : SFits w32 c.args.p.x = search rules in
+    let y : SFits w32 c.args.p.y = search rules in
+    omega (arith, sizes c.args.path c.args.point c.args.p, ap length (printed c.args.path (omega arith)), ap length (next_printed c.args.point (omega arith)), ap length (next_signed_printed c.args.p.x x), ap length (next_signed_printed c.args.p.y y))
 
 pub put_byte-requires : goal.put_byte-requires
-put_byte-requires c = omega (arith, sizes c.args.path c.args.point c.args.x c.args.y c.ranges.x c.ranges.y)
+put_byte-requires c =
+    let x : SFits w32 c.args.p.x = search rules in
+    let y : SFits w32 c.args.p.y = search rules in
+    omega (arith, sizes c.args.path c.args.point c.args.p, ap length (printed c.args.path (omega arith)), ap length (next_printed c.args.point (omega arith)), ap length (next_signed_printed c.args.p.x x), ap length (next_signed_printed c.args.p.y y))
 
 pub returns : goal.returns
 unfolding point_line line_rest
 returns c =
-    let others : List (List ℕ) = decimal c.args.point ∷ signed c.args.x ∷ signed c.args.y ∷ [] in
-    let number = left_less (first_field others c.put_decimal-a.ensures) refl c.put_next-b.ensures in
-    let x = left_less number refl (put_same c.put_next_signed-c.ensures (given c.ranges.x)) in
-    let y = left_less x refl (put_same c.put_next_signed-d.ensures (given c.ranges.y)) in
-    left_none (left_less y refl c.put_byte.ensures) refl
+    let p = c.args.p in
+    let x : SFits w32 c.args.p.x = search rules in
+    let y : SFits w32 c.args.p.y = search rules in
+    let others : List (List ℕ) = decimal c.args.point ∷ signed p.x ∷ signed p.y ∷ [] in
+    let path = left_less (left_all (point_line c.args.path c.args.point p) c.args.lines.now) (line_first (decimal c.args.path) others) (as_well c.put_number.ensures (printed c.args.path (omega arith))) in
+    let point = left_less path refl (as_well c.put_next.ensures (next_printed c.args.point (omega arith))) in
+    let both = left_less (left_less point refl (as_well c.put_next-2.ensures (next_signed_printed p.x x))) refl (as_well c.put_next-3.ensures (next_signed_printed p.y y)) in
+    left_none (left_less both refl c.put_byte.ensures) refl

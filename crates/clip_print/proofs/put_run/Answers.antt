@@ -7,9 +7,11 @@ use Prim.Native.Nat.{ℕ, ◌+◌, ◌≤◌}
 use native.Mathlib.Omega.{arith}
 use lib.ListN.{length, take, length-append}
 use lib.Seq.{length-take-le}
+use borrow.Author.Rules.{rules}
+use Rattle.writing.specs.Puts.{Put}
 use Rattle.contour.specs.Points.{pair_up, cut}
 use Rattle.clip_print.specs.Printed.{paths_lines, total_line}
-use Rattle.writing.proofs.Puts.{put_then, put_same}
+use Rattle.writing.proofs.Puts.{then, as_well}
 use Rattle.clip_print.proofs.Printed.{cut-first}
 use Rattle.clip_print.proofs.put_run.Goals as goal
 
@@ -27,14 +29,18 @@ module _ (n : ℕ) (lengths : List ℕ) (points : List ℤ) where
 pub slice_bounds-put_paths-end : goal.slice_bounds-put_paths-end
 slice_bounds-put_paths-end c = sym (length-take-le c.args.t.paths c.args.lengths.now c.requires.held.few_paths)
 
-pub put_paths-next-requires : goal.put_paths-next-requires
-put_paths-next-requires c = record {
+pub put_paths-requires : goal.put_paths-requires
+put_paths-requires c = record {
   lengths_in_bounds = c.requires.held.few_points;
-  points_in_bounds = omega (arith, room c.args.t.paths c.args.lengths.now c.args.points.now c.args.t _ c.requires.points_in_bounds);
+  room = omega (arith, room c.args.t.paths c.args.lengths.now c.args.points.now c.args.t _ c.requires.points_in_bounds, ap length c.new-lines.ensures.list, c.new-lines.ensures.front);
 }
 
 pub put_total-requires : goal.put_total-requires
-put_total-requires c = omega (arith, room c.args.t.paths c.args.lengths.now c.args.points.now c.args.t _ c.requires.points_in_bounds)
+put_total-requires c = omega (arith, room c.args.t.paths c.args.lengths.now c.args.points.now c.args.t _ c.requires.points_in_bounds, ap length c.new-lines.ensures.list, c.new-lines.ensures.front, c.put_paths.ensures.put.place, c.put_paths.ensures.room)
 
 pub returns : goal.returns
-returns c = put_then (put_same c.put_paths-next.ensures (first c.args.t.paths c.args.lengths.now c.args.points.now)) c.put_total.ensures
+returns c =
+    let t = c.args.t in
+    let paths = as_well c.put_paths.ensures (first t.paths c.args.lengths.now c.args.points.now) in
+    let all : Put c.args.out.now 0 (paths_lines 0 (cut t.paths c.args.lengths.now (pair_up c.args.points.now)) ++ total_line t) c.put_total.new.lines.at c.put_total.new.lines.out.now = rw (c.new-lines.ensures.list, c.new-lines.ensures.front) at (then paths c.put_total.ensures).put in
+    record { list = search (rules, all.list); place = all.place }

@@ -6,7 +6,9 @@ use native.Mathlib.Omega.{arith}
 use lib.ListN.{length}
 use lib.IntN.{ℤ}
 use Rattle.lists.specs.Written.{written}
-use Rattle.string_clip.specs.declared.Clipped.{Clipped}
+use Rattle.std.specs.Prelude.{Result}
+use Rattle.refusal.specs.declared.Refusal.{Refusal}
+use Rattle.clip_paths.specs.declared.Totals.{Totals}
 use Rattle.contour.specs.Points.{pair_up, cut}
 use Rattle.string_clip.specs.Run.{told, Lists, lists, Outcome, outcome, output}
 use Rattle.writing.specs.Puts.{Put}
@@ -19,20 +21,20 @@ use Rattle.writing.proofs.Puts.{put_whole}
 use Rattle.clip_text.proofs.answer_with.Goals as goal
 
 -- what the run told
-module _ (text : List ℕ) (ls : Lists) (points : List ℤ) (lengths : List ℕ) {a : Clipped} (q : outcome a (lists points lengths) ≡ text_outcome text ls) where
-  is : {r : Clipped} → a ≡ r → outcome r (lists points lengths) ≡ text_outcome text ls
-  is e = ap (λ (r : Clipped). outcome r (lists points lengths)) (sym e) ∙ q
+module _ (text : List ℕ) (ls : Lists) (points : List ℤ) (lengths : List ℕ) {a : Result Totals Refusal} (q : outcome a (lists points lengths) ≡ text_outcome text ls) where
+  is : {r : Result Totals Refusal} → a ≡ r → outcome r (lists points lengths) ≡ text_outcome text ls
+  is e = ap (λ (r : Result Totals Refusal). outcome r (lists points lengths)) (sym e) ∙ q
 
-  held : {r : Clipped} → a ≡ r → Held (told r).totals.paths points lengths
+  held : {r : Result Totals Refusal} → a ≡ r → Held (told r).totals.paths points lengths
   held e = subst (λ (o : Outcome). Held o.numbers.totals.paths o.lists.points o.lists.lengths) (sym (is e)) (text_held ls text)
 
   -- there is room for its lines
-  room : (out : List ℕ) → longest (length points) ≤ length out → {r : Clipped} → a ≡ r → length (lines_of r (cut (told r).totals.paths lengths (pair_up points))) ≤ length out
+  room : (out : List ℕ) → longest (length points) ≤ length out → {r : Result Totals Refusal} → a ≡ r → length (lines_of r (cut (told r).totals.paths lengths (pair_up points))) ≤ length out
   unfolding printed output
   room out h {r} e = let o = outcome r (lists points lengths) in omega (arith, length-printed o, printed_short o, h)
 
   -- and they stand at the front
-  whole : (out : List ℕ) → longest (length points) ≤ length out → {r : Clipped} {k : ℕ} {new : List ℕ} → a ≡ r → Put out 0 (lines_of r (cut (told r).totals.paths lengths (pair_up points))) k new
+  whole : (out : List ℕ) → longest (length points) ≤ length out → {r : Result Totals Refusal} {k : ℕ} {new : List ℕ} → a ≡ r → Put out 0 (lines_of r (cut (told r).totals.paths lengths (pair_up points))) k new
       → (k ≤ length out) × ((k ≡ length (printed (text_outcome text ls))) × (new ≡ written (printed (text_outcome text ls)) out))
   unfolding printed output
   whole out h {r = r} {k = k} {new = new} e p =
@@ -47,24 +49,24 @@ pub put_run-requires : goal.put_run-requires
 put_run-requires c =
     let ls = lists c.args.points.now c.args.lengths.now in
     let h = fits c.args.points.now c.clip_text.new.points c.args.out.now c.clip_text.auto.points c.requires in
-    record { held = held c.args.text.now ls c.clip_text.new.points c.clip_text.new.lengths c.clip_text.ensures c.in-Done.is; points_in_bounds = room c.args.text.now ls c.clip_text.new.points c.clip_text.new.lengths c.clip_text.ensures c.args.out.now h c.in-Done.is }
+    record { held = held c.args.text.now ls c.clip_text.new.points c.clip_text.new.lengths c.clip_text.ensures c.in-Ok.is; points_in_bounds = room c.args.text.now ls c.clip_text.new.points c.clip_text.new.lengths c.clip_text.ensures c.args.out.now h c.in-Ok.is }
 
 pub put_refused-requires : goal.put_refused-requires
 put_refused-requires c =
     let ls = lists c.args.points.now c.args.lengths.now in
     let h = fits c.args.points.now c.clip_text.new.points c.args.out.now c.clip_text.auto.points c.requires in
-    room c.args.text.now ls c.clip_text.new.points c.clip_text.new.lengths c.clip_text.ensures c.args.out.now h c.in-Refused.is
+    room c.args.text.now ls c.clip_text.new.points c.clip_text.new.lengths c.clip_text.ensures c.args.out.now h c.in-Err.is
 
-pub returns-in-Done : goal.returns-in-Done
-returns-in-Done c =
+pub returns-in-Ok : goal.returns-in-Ok
+returns-in-Ok c =
     let ls = lists c.args.points.now c.args.lengths.now in
     let h = fits c.args.points.now c.clip_text.new.points c.args.out.now c.clip_text.auto.points c.requires in
-    let w = whole c.args.text.now ls c.clip_text.new.points c.clip_text.new.lengths c.clip_text.ensures c.args.out.now h c.in-Done.is c.put_run.ensures in
+    let w = whole c.args.text.now ls c.clip_text.new.points c.clip_text.new.lengths c.clip_text.ensures c.args.out.now h c.in-Ok.is c.put_run.ensures in
     record { upper_bound = w.0; value = w.1 }
 
-pub returns-in-Refused : goal.returns-in-Refused
-returns-in-Refused c =
+pub returns-in-Err : goal.returns-in-Err
+returns-in-Err c =
     let ls = lists c.args.points.now c.args.lengths.now in
     let h = fits c.args.points.now c.clip_text.new.points c.args.out.now c.clip_text.auto.points c.requires in
-    let w = whole c.args.text.now ls c.clip_text.new.points c.clip_text.new.lengths c.clip_text.ensures c.args.out.now h c.in-Refused.is c.put_refused.ensures in
+    let w = whole c.args.text.now ls c.clip_text.new.points c.clip_text.new.lengths c.clip_text.ensures c.args.out.now h c.in-Err.is c.put_refused.ensures in
     record { upper_bound = w.0; value = w.1 }

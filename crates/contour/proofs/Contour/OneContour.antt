@@ -5,6 +5,7 @@ use mathlib.Core.Bool.{Bool, true, false, cond, beq}
 use Prim.Native.Nat.{◌%◌}
 use lib.ListN.{length, length-reverse}
 use lib.IntN.{ℤ}
+use mir.Val.{bool_byte}
 use Rattle.geom.specs.declared.Point.{Point}
 use Rattle.contour.specs.Points.{coordinates, pair_up, turned_round}
 use Rattle.contour.specs.Area.{is_clockwise}
@@ -23,9 +24,13 @@ module _ (clockwise direction : Bool) where
 
   -- by the loop's list of numbers
   module _ {order : Bool} (l : List ℤ) (is : order ≡ is_clockwise (pair_up l)) where
-    pub role_is : (b : Bool) → beq order direction ≡ b → cond b 1 0 ≡ (contour_of clockwise direction (pair_up l)).role
+    pub role_is : bool_byte (beq order direction) ≡ (contour_of clockwise direction (pair_up l)).role
     unfolding contour_of
-    role_is b e = ap (λ c. cond c 1 0) (sym e ∙ ap (λ o. beq o direction) is)
+    role_is = byte (beq order direction) ∙ ap (λ o. cond (beq o direction) 1 0) is
+      where
+        byte : (b : Bool) → bool_byte b ≡ cond b 1 0
+        byte true = refl
+        byte false = refl
 
     points_are : (b : Bool) → beq (beq order direction) (beq clockwise order) ≡ b
         → coordinates (cond b (reverse (pair_up l)) (pair_up l)) ≡ coordinates (contour_of clockwise direction (pair_up l)).points

@@ -18,14 +18,6 @@ loop-i-init c = (turned_start (pair_up c.args.points.now), refl)
 stored : (l : List ℤ) (q : ℕ) (p : Point) → length (set (set l (2 * q) p.x) (2 * q + 1) p.y) ≡ length l
 stored l q p = length-set (set l (2 * q) p.x) (2 * q + 1) p.y ∙ length-set l (2 * q) p.x
 
-pub put_point-requires : goal.put_point-requires
-put_point-requires c =
-    omega (arith, c.loop-i.invariant.1, c.loop-i-test.true)
-
-pub put_point-requires-in-loop-i : goal.put_point-requires-in-loop-i
-put_point-requires-in-loop-i c =
-    omega (arith, ap length c.put_point.ensures, stored c.loop-i.points c.loop-i.i c.point_at-q.result, c.loop-i.invariant.1, c.loop-i-test.true)
-
 pub loop-i-preserved : goal.loop-i-preserved
 loop-i-preserved c =
     let l = c.loop-i.points in

@@ -1,7 +1,6 @@
 -- The points are turned round but for a middle, which each step takes the two ends off.
 use mathlib.Core.Path.{◌≡◌}
 use mathlib.Core.List.{reverse}
-use Prim.Native.Nat.{◌-◌}
 use lib.ListN.{length}
 use Rattle.contour.specs.Points.{pair_up}
 use Rattle.contour.proofs.Contour.Reversal.{Turned}
@@ -9,6 +8,3 @@ use Rattle.contour.proofs.reverse.Given as goal
 
 abbrev pub invariant-loop-i : goal.invariant-loop-i
 invariant-loop-i l = Turned (pair_up l.points) (reverse (pair_up l.initial.points)) l.i × (length l.points ≡ length l.initial.points)
-
-abbrev pub decreases-loop-i : goal.decreases-loop-i
-decreases-loop-i l = l.n - l.i

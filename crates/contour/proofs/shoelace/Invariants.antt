@@ -11,6 +11,3 @@ use Rattle.contour.proofs.shoelace.Given as goal
 abbrev pub invariant-loop-i : goal.invariant-loop-i
 invariant-loop-i l =
     (0 < l.i) × (l.sum +ℤ along (get_or (pair_up l.points) (l.i - 1) origin) (drop l.i (pair_up l.points)) ≡ shoelace (pair_up l.points)) × (nat_abs l.sum ≤ l.i * most)
-
-abbrev pub decreases-loop-i : goal.decreases-loop-i
-decreases-loop-i l = l.n - l.i

@@ -1,51 +1,36 @@
--- The first byte decides.
+-- After a minus.
 use mathlib.Core.Path.{◌≡◌, refl, sym, ap, ◌∙◌}
-use mathlib.Core.List.{List, [], ◌∷◌}
-use mathlib.Core.Bool.{true, false, cond}
-use Prim.Native.Nat.{ℕ, ◌-◌}
+use mathlib.Core.List.{List}
+use Prim.Native.Nat.{ℕ, ◌-◌, ◌^◌, ◌<◌}
 use native.Mathlib.Omega.{arith}
-use borrow.Author.Tests.{eq-eqb, ne_eqb}
-use lib.Dec.{eqb, eqb-suc-suc}
-use lib.ListN.{length, get_or, drop, length-drop}
-use lib.Seq.{take_all}
-use lib.IntN.{pos}
-use Rattle.decimal.specs.declared.Field.TheVariants.{Number, Malformed}
-use Rattle.decimal.specs.Decimal.{positive, unless_zero, field_of}
+use lib.IntN.{ℤ, pos, neg_ℤ, ◌-ℤ◌}
+use lib.ListN.{length, get_or, drop, take}
+use mir.Syntax.{w32}
+use mir.Val.{to_z, of_z}
+use Rattle.std.specs.Prelude.{Option, Some, None}
+use Rattle.std.specs.Option.{option_map}
+use Rattle.std.proofs.lemmas.Int.{ints}
+use Rattle.std.proofs.lemmas.Option.{none-some}
+use Rattle.decimal.specs.Decimal.{positive, field_of}
+use Rattle.decimal.proofs.Decimal.{nine_positive}
+use Rattle.decimal.proofs.Reading.{field_minus}
 use Rattle.decimal.proofs.number.Goals as goal
 
-none_is : (s : List ℕ) → length s ≡ 0 → field_of s ≡ Malformed
-unfolding field_of
-none_is [] e = refl
-none_is (b ∷ s) e = absurd (omega arith)
+-- none, or a number of nine digits, whose negative fits
+none_after : (s : List ℕ) → get_or s 0 0 ≡ 45 → (o : Option ℕ) → positive (take (length s - 1) (drop 1 s)) ≡ o → None ≡ option_map pos o → field_of s ≡ None
+none_after s m None p e = field_minus s m ∙ ap (option_map (λ n. neg_ℤ (pos n))) p
+none_after s m (Some n) p e = absurd (none-some (pos n) e)
 
-some_is : (s : List ℕ) → (length s ≡ 0 → ⊥) → field_of s ≡ cond (eqb (get_or s 0 0) 45) (unless_zero true (positive (drop 1 s))) (cond (eqb (get_or s 0 0) 48) (cond (eqb (length s) 1) (Number (pos 0)) Malformed) (unless_zero false (positive s)))
-unfolding field_of
-some_is [] n = absurd (n refl)
-some_is (b ∷ s) n = rw (eqb-suc-suc (length s) 0)
+some_after : (s : List ℕ) → get_or s 0 0 ≡ 45 → (o : Option ℕ) → positive (take (length s - 1) (drop 1 s)) ≡ o → (z : ℤ) → Some z ≡ option_map pos o
+    → Some (to_z w32 (of_z w32 (pos 0 -ℤ to_z w32 (of_z w32 z)))) ≡ field_of s
+some_after s m None p z e = absurd (none-some z (sym e))
+some_after s m (Some n) p z e =
+    let q : z ≡ pos n = cc in
+    let small : n < 10 ^ 9 = (nine_positive _ n p).small in
+    ap (λ (z : ℤ). Some z) (omega (arith, ints, q, small)) ∙ sym (field_minus s m ∙ ap (option_map (λ n. neg_ℤ (pos n))) p)
 
-pub returns-then-field-eq0 : goal.returns-then-field-eq0
-returns-then-field-eq0 c = sym (none_is c.args.field.now c.if-field-eq0.true)
+pub returns-in_err-positive-in-45 : goal.returns-in_err-positive-in-45
+returns-in_err-positive-in-45 c = c.from_residual.ensures ∙ sym (none_after c.args.field.now (grind arith) _ refl c.in_err-positive-in-45.ensures)
 
-pub returns-then-b-eq45 : goal.returns-then-b-eq45
-returns-then-b-eq45 c =
-    let s = c.args.field.now in
-    c.unless_zero.ensures
-    ∙ ap (unless_zero true) (c.positive.ensures.0 ∙ ap positive (take_all (length s - 1) (drop 1 s) (omega (arith, length-drop 1 s))))
-    ∙ sym (some_is s c.if-field-eq0.false ∙ rw (eq-eqb (get_or s 0 0) 45 c.if-b-eq45.true))
-
-pub returns-then-field-eq1 : goal.returns-then-field-eq1
-returns-then-field-eq1 c =
-    let s = c.args.field.now in
-    sym (some_is s c.if-field-eq0.false ∙ rw (ne_eqb (get_or s 0 0) 45 c.if-b-eq45.false, eq-eqb (get_or s 0 0) 48 c.if-b-eq48.true, eq-eqb (length s) 1 (omega (arith, c.if-field-eq1.true))))
-
-pub returns-then-b-eq48 : goal.returns-then-b-eq48
-returns-then-b-eq48 c =
-    let s = c.args.field.now in
-    sym (some_is s c.if-field-eq0.false ∙ rw (ne_eqb (get_or s 0 0) 45 c.if-b-eq45.false, eq-eqb (get_or s 0 0) 48 c.if-b-eq48.true, ne_eqb (length s) 1 (omega (arith, c.if-field-eq1.false))))
-
-pub returns : goal.returns
-returns c =
-    let s = c.args.field.now in
-    c.unless_zero-2.ensures
-    ∙ ap (unless_zero false) c.positive-2.ensures.0
-    ∙ sym (some_is s c.if-field-eq0.false ∙ rw (ne_eqb (get_or s 0 0) 45 c.if-b-eq45.false, ne_eqb (get_or s 0 0) 48 c.if-b-eq48.false))
+pub returns-in_ok-positive-in-45 : goal.returns-in_ok-positive-in-45
+returns-in_ok-positive-in-45 c = some_after c.args.field.now (grind arith) _ refl _ c.in_ok-positive-in-45.ensures

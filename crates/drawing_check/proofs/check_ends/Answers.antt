@@ -26,7 +26,7 @@ write_nodes-requires c =
     let few = s.requires.0.few in
     let room = s.requires.1 in
     let memory = s.requires.2 in
-    (s.requires.0, room.flat_room few, room.starts_room few, room.nodes_room few, memory.keys_room, memory.scratch_room)
+    (s.requires.0, room.flat_room, room.starts_room, room.nodes_room, memory.keys_room, memory.scratch_room)
 
 -- the nodes were written
 module _ (w : After-write_nodes) where
@@ -43,10 +43,10 @@ module _ (w : After-write_nodes) where
   written = w.write_nodes.ensures
 
   ordered : OrderedIn d w.write_nodes.new.flat
-  ordered = record { all_ends = omega (arith, s.requires.1.flat_room few, w.write_nodes.auto.flat); order = written.order }
+  ordered = record { all_ends = omega (arith, s.requires.1.flat_room, w.write_nodes.auto.flat); order = written.order }
 
   each_end : 2 * length d ≤ length w.write_nodes.new.nodes
-  each_end = omega (arith, s.requires.1.nodes_room few, w.write_nodes.auto.nodes)
+  each_end = omega (arith, s.requires.1.nodes_room, w.write_nodes.auto.nodes)
 
   numbers : NumberedIn d w.write_nodes.new.nodes
   numbers = record { each_end = each_end; numbered = nodes_by_point written (length-take-le _ _ each_end) }
@@ -55,7 +55,7 @@ pub find_by_ends-requires : goal.find_by_ends-requires
 find_by_ends-requires c =
     let w = c in
     let p = (s w.before.before.before.before.before.before.before.before.before.before.before.before.before).requires in
-    (p.0, ordered w.before.before.before.before.before.before.before.before.before.before.before.before.before, numbers w.before.before.before.before.before.before.before.before.before.before.before.before.before, p.2.sums_room, p.2.sums_blank, p.1.tops_room (few w.before.before.before.before.before.before.before.before.before.before.before.before.before), λ i. omega (arith, ap nat_abs (p.1.blank i)))
+    (p.0, ordered w.before.before.before.before.before.before.before.before.before.before.before.before.before, numbers w.before.before.before.before.before.before.before.before.before.before.before.before.before, p.2.sums_room, p.2.sums_blank, p.1.tops_room, λ i. omega (arith, ap nat_abs (p.1.blank i)))
 
 pub returns : goal.returns
 returns c =

@@ -1,89 +1,45 @@
 -- The parts of the lists that the ends need are looked at.
-use mathlib.Core.Path.{◌≡◌, sym, ap, subst, ◌∙◌}
-use mathlib.Core.List.{List}
-use native.Mathlib.Omega.{arith}
-use Prim.Native.Nat.{ℕ, ◌*◌, ◌≤◌}
-use lib.ListN.{length, take}
+use Rattle.std.proofs.Common.{◌≡◌, refl, sym, ap, subst, ◌∙◌, List, ℕ, ◌*◌, ◌≤◌, length, take, ℤ, Err, arith}
+use Rattle.std.proofs.lemmas.Result.{err_from_is_err_and}
 use lib.Seq.{length-take-le}
-use Rattle.segm.specs.Segments.{Drawing, segments}
+use Rattle.refusal.specs.Order.{Verdict, ◌then◌}
+use Rattle.refusal.proofs.Order.{not_both, passed_on}
+use Rattle.segm.specs.Segments.{count, segments}
 use Rattle.segm.proofs.Segments.{length-segments}
 use Rattle.balance.specs.Balance.{NodesByPoint}
-use Rattle.refusal.specs.declared.Verdict.{Verdict}
 use Rattle.drawing_check.specs.Drawing.{meetings_of, unbalanced_of}
-use Rattle.refusal.specs.Order.{◌then◌}
-use Rattle.refusal.proofs.Order.{not_both, refused_then}
 use Rattle.drawing_check.proofs.find_by_ends.Goals as goal
-use Rattle.drawing_check.proofs.find_by_ends.Lts
-use Rattle.drawing_check.proofs.find_by_ends.Reads
-use Rattle.drawing_check.proofs.find_by_ends.Tie
 
-abbrev After-count-e : Type 0
-After-count-e = Lts.After-count Tie.the-claims Reads.Pre Reads.Post
+-- the front of a list, by how many segments there are
+front : (numbers : List ℤ) {n : ℕ} (l : List ℕ) → n ≡ count numbers → take (2 * length (segments numbers)) l ≡ take (2 * n) l
+front numbers l e = ap (λ m. take (2 * m) l) (length-segments numbers ∙ sym e)
 
-abbrev Start : Type 0
-Start = Lts.Start Tie.the-claims Reads.Pre Reads.Post
-
-abbrev After-find_meeting-meetings : Type 0
-After-find_meeting-meetings = Lts.After-find_meeting Tie.the-claims Reads.Pre Reads.Post
-
-module _ (k : After-count-e) where
-  abbrev s : Start
-  s = k.before.before.before
-
-  abbrev d : Drawing
-  d = segments s.args.s.now
-
-  abbrev n : ℕ
-  n = k.count-e.result
-
-  n-is : n ≡ length d
-  n-is = k.count-e.ensures ∙ sym (length-segments s.args.s.now)
-
-  -- the front of a list
-  front : (l : List ℕ) → take (2 * length d) l ≡ take (2 * n) l
-  front l = ap (λ m. take (2 * m) l) (sym n-is)
-
-  front_length : (l : List ℕ) → 2 * length d ≤ length l → 2 * n ≡ length (take (2 * n) l)
-  front_length l room = sym (length-take-le (2 * n) l (omega (arith, n-is)))
-
-  -- what 8 and 9 find
-  abbrev eight : Verdict
-  eight = meetings_of d
-
-  abbrev nine : Verdict
-  nine = unbalanced_of d
+front_length : (numbers : List ℤ) {n : ℕ} (l : List ℕ) → n ≡ count numbers → 2 * length (segments numbers) ≤ length l → 2 * n ≡ length (take (2 * n) l)
+front_length numbers {n} l e room = sym (length-take-le (2 * n) l (omega (arith, e, length-segments numbers)))
 
 pub overflow_mul-e : goal.overflow_mul-e
-overflow_mul-e c = record { fits = omega (arith, n-is c.before, (s c.before).requires.0.few) }
+overflow_mul-e c = record { fits = omega (arith, c.count-e.ensures, length-segments c.args.s.now, c.requires.0.few) }
 
 pub slice_bounds-find_meeting-end : goal.slice_bounds-find_meeting-end
-slice_bounds-find_meeting-end c = let k = c in front_length k.before (s k.before).args.flat.now (s k.before).requires.1.all_ends
+slice_bounds-find_meeting-end c = front_length c.args.s.now c.args.flat.now c.count-e.ensures c.requires.1.all_ends
 
-pub find_meeting-meetings-requires : goal.find_meeting-meetings-requires
-find_meeting-meetings-requires c = let k = c in ((s k.before.before).requires.0, sym (front k.before.before (s k.before.before).args.flat.now) ∙ (s k.before.before).requires.1.order, (s k.before.before).requires.5, (s k.before.before).requires.6)
+pub find_meeting-requires : goal.find_meeting-requires
+find_meeting-requires c = (c.requires.0, sym (front c.args.s.now c.args.flat.now c.count-e.ensures) ∙ c.requires.1.order, c.requires.5, c.requires.6)
 
--- the search for 8 was made
-module _ (m : After-find_meeting-meetings) where
-  abbrev counted : After-count-e
-  counted = m.before.before
-
-  found : {v : Verdict} → m.find_meeting-meetings.result ≡ v → eight counted ≡ v
-  found e = sym m.find_meeting-meetings.ensures.0 ∙ e
-
-pub returns-in_default : goal.returns-in_default
-returns-in_default c =
-    let m = c in
-    (m.find_meeting-meetings.ensures.0 ∙ sym (refused_then (eight (counted m.before.before.before)) (nine (counted m.before.before.before)) (found m.before.before.before c.in_default.is)), λ t. not_both (sym c.in_default.is ∙ t))
+pub returns-in_err-find_meeting : goal.returns-in_err-find_meeting
+returns-in_err-find_meeting c =
+    let d = segments c.args.s.now in
+    let p = err_from_is_err_and c.from_residual.result c.from_residual.ensures.1 in
+    let e = p.1 ∙ ap Err p.2 in
+    (passed_on (meetings_of d) (unbalanced_of d) e (sym c.in_err-find_meeting.ensures.0), λ t. not_both (sym e ∙ t))
 
 pub slice_bounds-find_unbalanced-end : goal.slice_bounds-find_unbalanced-end
-slice_bounds-find_unbalanced-end c = let k = c in front_length k.before.before.before.before.before (s k.before.before.before.before.before).args.nodes.now (s k.before.before.before.before.before).requires.2.each_end
+slice_bounds-find_unbalanced-end c = front_length c.args.s.now c.args.nodes.now c.count-e.ensures c.requires.2.each_end
 
 pub find_unbalanced-requires : goal.find_unbalanced-requires
-find_unbalanced-requires c = let k = c in ((s k.before.before.before.before.before.before).requires.0, subst (NodesByPoint (d k.before.before.before.before.before.before)) (front k.before.before.before.before.before.before (s k.before.before.before.before.before.before).args.nodes.now) (s k.before.before.before.before.before.before).requires.2.numbered, (s k.before.before.before.before.before.before).requires.3, (s k.before.before.before.before.before.before).requires.4)
+find_unbalanced-requires c =
+    (c.requires.0, subst (NodesByPoint (segments c.args.s.now)) (front c.args.s.now c.args.nodes.now c.count-e.ensures) c.requires.2.numbered, c.requires.3, c.requires.4)
 
 pub returns : goal.returns
 returns c =
-    let u = c in
-    let t = u in
-    let m = t in
-    (u.find_unbalanced.ensures ∙ sym (ap (λ (v : Verdict). v then nine (counted m.before.before.before.before.before.before)) (found m.before.before.before.before.before.before t.in-Accepted.is)), λ _. m.find_meeting-meetings.ensures.1 t.in-Accepted.is)
+    (c.find_unbalanced.ensures ∙ ap (λ (v : Verdict). v then unbalanced_of (segments c.args.s.now)) c.in_ok-find_meeting.ensures.0, λ _. c.in_ok-find_meeting.ensures.1 refl)

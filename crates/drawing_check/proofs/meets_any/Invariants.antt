@@ -1,7 +1,5 @@
 -- No segment passed meets t wrongly: what is left decides.
-use mathlib.Core.Path.{◌≡◌}
-use Prim.Native.Nat.{◌-◌}
-use lib.ListN.{drop}
+use Rattle.std.proofs.Common.{◌≡◌, drop}
 use Rattle.lists.specs.Members.{any}
 use Rattle.segm.specs.Segments.{segments}
 use Rattle.meetings.specs.Meetings.{meets_wrongly}
@@ -9,6 +7,3 @@ use Rattle.drawing_check.proofs.meets_any.Given as goal
 
 abbrev pub invariant-loop-k : goal.invariant-loop-k
 invariant-loop-k l = any (meets_wrongly l.t) (drop l.j (segments l.s)) ≡ any (meets_wrongly l.t) (drop l.k (segments l.s))
-
-abbrev pub decreases-loop-k : goal.decreases-loop-k
-decreases-loop-k l = l.n - l.k

@@ -1,5 +1,4 @@
 -- Each difference is within ±33,554,432, so the products and their difference fit.
-use borrow.Author.Rules.{rules}
 use mathlib.Core.Path.{◌≡◌}
 use native.Mathlib.Omega.{arith}
 use Prim.Native.Nat.{◌≤◌, ◌<◌, ◌^◌}

@@ -1,20 +1,21 @@
--- Equal bits are equal coordinates.
-use mathlib.Core.Path.{sym, ap, ◌∙◌}
-use native.Mathlib.Omega.{arith}
-use mir.Syntax.{w32}
-use mir.Val.{of_z}
-use Rattle.integers.proofs.Machine.{bits_eq}
-use Rattle.geom.proofs.Points.{eq_p_apart, eq_p_level, bits_eq_z}
+-- The derived equality looks at both.
+use Rattle.std.proofs.Common.{◌≡◌, sym, ◌∙◌, ap₂, ◌&&◌, ℤ, Ordering, Less, Equal, Greater, int_eq}
+use Rattle.std.specs.Prelude.{◌<ℤ◌}
+use Rattle.std.specs.Ordering.{MatchOrdering, is_eq, int_cmp}
+use Rattle.std.specs.Cmp.{int_ranks}
+use Rattle.integers.proofs.Linear.{ints}
+use Rattle.geom.specs.Points.{eq_p, eq_z}
+use Rattle.geom.proofs.Points.{eq_eq_z, ne_eq_z}
 use Rattle.geom.proofs.same.Goals as goal
 
-pub returns-then-p-q : goal.returns-then-p-q
-returns-then-p-q c =
-    let a = c.before.before.before.before.before.args in
-    sym (eq_p_apart a.p a.q (λ e. c.if-p-q.true (ap (of_z w32) e)))
+on_a_line : (x y : ℤ) → int_eq x y ≡ eq_z x y
+on_a_line x y = go (int_cmp x y) (int_ranks x y)
+  where
+    go : (o : Ordering) → MatchOrdering o (x <ℤ y) (x ≡ y) (y <ℤ x) → is_eq o ≡ eq_z x y
+    go Less h = sym (ne_eq_z (λ e. omega (ints, e, h)))
+    go Equal h = sym (eq_eq_z h)
+    go Greater h = sym (ne_eq_z (λ e. omega (ints, e, h)))
 
 pub returns : goal.returns
-returns c =
-    let d = c.before.before.before.before in
-    let a = d.before.before.before.before.before.args in
-    let level = bits_eq {w = w32} {a = a.p.x} {b = a.q.x} (record { sfits = omega arith }) (record { sfits = omega arith }) d.if-p-q.false in
-    bits_eq_z w32 a.p.y a.q.y (omega arith) (omega arith) ∙ sym (eq_p_level a.p a.q level)
+unfolding eq_p
+returns c = c.eq.ensures ∙ ap₂ ◌&&◌ (on_a_line c.args.p.x c.args.q.x) (on_a_line c.args.p.y c.args.q.y)

@@ -1,6 +1,4 @@
 -- The definition's three tests, the cheap ones first.
-use borrow.Author.Rules.{rules}
-use borrow.Author.Tests.{not-true, not-false}
 use mathlib.Core.Path.{sym, ap, ◌∙◌}
 use lib.Dec.{lit<}
 use lib.IntN.{pos}

@@ -1,5 +1,6 @@
 -- The ordered ends stand at the front of their list.
-use mathlib.Core.Path.{◌≡◌, sym, ap, ◌∙◌}
+use mathlib.Core.Path.{◌≡◌, refl, sym, ap, ◌∙◌}
+use lib.Dec.{lit≤}
 use mathlib.Core.List.{List}
 use native.Mathlib.Omega.{arith}
 use Prim.Native.Nat.{ℕ, ◌*◌, ◌≤◌}
@@ -9,7 +10,7 @@ use lib.IntN.{nat_abs}
 use Rattle.segm.specs.Segments.{Drawing, segments}
 use Rattle.segm.proofs.Segments.{length-segments}
 use Rattle.graph.proofs.Fronts.{front_nodes, ends_room}
-use Rattle.drawing_check.proofs.Memory.{any_memory}
+use Rattle.drawing_check.proofs.Memory.{fresh_run}
 use Rattle.measure.proofs.is_swept.Goals as goal
 
 pub write_nodes-requires : goal.write_nodes-requires
@@ -68,7 +69,7 @@ is_clear-requires c =
       c.requires.faultless,
       (front_nodes d flat c.write_nodes.new.starts c.write_nodes.new.nodes c.write_nodes.ensures n n-is).order,
       c.requires.faultless.few,
-      λ i. omega (arith, ap nat_abs ((any_memory c.args.s.now).blank i)),
+      λ i. omega (arith, ap nat_abs ((fresh_run d 1024 2048 2049 ((lit≤ tt, refl), refl) c.requires.faultless.few).blank i)),
     )
 
 pub returns : goal.returns

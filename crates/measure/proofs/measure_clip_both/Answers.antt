@@ -24,5 +24,5 @@ returns c =
     ap₂ of_both
     (c.clip_both-both.ensures.inside_is ∙ (λ i. clip_outcome c.args.numbers.now (to_z-of_z c.ranges.rule i) (pos 0) (to_z-of_z c.ranges.boundary i) inside))
     (c.clip_both-both.ensures.outside_is ∙ (λ i. clip_outcome c.args.numbers.now (to_z-of_z c.ranges.rule i) (pos 1) (to_z-of_z c.ranges.boundary i) outside)) in
-    (λ i. returned_both (record { inside = c.clip_of-inside.ensures i; outside = c.clip_of-outside.ensures i }) inside-after outside-after)
+    (λ i. returned_both (record { inside = c.from.ensures i; outside = c.from-2.ensures i }) inside-after outside-after)
     ∙ are

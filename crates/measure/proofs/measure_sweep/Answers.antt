@@ -3,7 +3,7 @@ use mathlib.Core.Path.{◌≡◌, sym, ap, ◌∙◌}
 use mathlib.Core.List.{List}
 use lib.IntN.{ℤ}
 use mir.Val.{bool_byte}
-use Rattle.refusal.specs.declared.Verdict.{Verdict}
+use Rattle.refusal.specs.Order.{Verdict}
 use Rattle.checks.specs.Runs.{clip_run}
 use Rattle.checks.proofs.Accepted.{verdict_good}
 use Rattle.measure.specs.Numbers.{verdict_of, sweep_number}
@@ -18,10 +18,10 @@ number_is numbers k e = ap sweep_number (sym (verdict_is numbers k e))
 
 pub is_swept-requires : goal.is_swept-requires
 unfolding clip_run
-is_swept-requires c = verdict_good _ (verdict_is c.args.numbers.now c.verdict_of.ensures c.in-Accepted.is)
+is_swept-requires c = verdict_good _ (verdict_is c.args.numbers.now c.verdict_of.ensures c.in-Ok.is)
 
-pub returns-in-Accepted : goal.returns-in-Accepted
-returns-in-Accepted c = ap bool_byte c.is_swept.ensures ∙ number_is c.args.numbers.now c.verdict_of.ensures c.in-Accepted.is
+pub returns-in-Ok : goal.returns-in-Ok
+returns-in-Ok c = ap bool_byte c.is_swept.ensures ∙ number_is c.args.numbers.now c.verdict_of.ensures c.in-Ok.is
 
-pub returns-in-Refused : goal.returns-in-Refused
-returns-in-Refused c = number_is c.args.numbers.now c.verdict_of.ensures c.in-Refused.is
+pub returns-in-Err : goal.returns-in-Err
+returns-in-Err c = number_is c.args.numbers.now c.verdict_of.ensures c.in-Err.is

@@ -1,5 +1,5 @@
 -- A run of numbers that are all x, up to j.
-use mathlib.Core.Path.{◌≡◌, ap, ◌∙◌}
+use mathlib.Core.Path.{◌≡◌, ap, subst, ◌∙◌}
 use native.Mathlib.Omega.{arith}
 use native.Mathlib.Decide.{dec_lt}
 use Prim.Native.Nat.{ℕ, ◌+◌, ◌<◌, ◌≤◌}
@@ -23,6 +23,9 @@ runs_on {f} {k} {x = x} j r h e = record { from = omega (arith, r.from); till = 
 
 pub runs_out : {f : ℕ → ℤ} {k many : ℕ} {x : ℤ} {j : ℕ} → Runs f k many x j → (j < many → f j ≡ x → ⊥) → Past f k many x j
 runs_out r p = record { from = r.from; till = r.till; here = r.here; past = p }
+
+pub runs_end : {f : ℕ → ℤ} {k many : ℕ} {x : ℤ} {j r : ℕ} → Runs f k many x j → j ≡ r → r ≡ many → Past f k many x r
+runs_end {f} {k} {many} {x} {j} n e h = subst (Past f k many x) e (runs_out n (λ l. absurd (omega arith)))
 
 -- where the number at k is x, what is past lies further
 pub past_further : {f : ℕ → ℤ} {k many : ℕ} {x : ℤ} {r : ℕ} → Past f k many x r → k < many → f k ≡ x → k < r

@@ -1,10 +1,10 @@
 -- The ends from k up to j lie at one x.
-use mathlib.Core.Path.{sym, ◌∙◌}
+use mathlib.Core.Path.{refl, sym, ◌∙◌}
 use native.Mathlib.Omega.{arith}
 use lib.ListN.{length}
 use Rattle.integers.proofs.Booleans.{clash}
 use Rattle.geom.proofs.Points.{eq_z-true, eq_eq_z}
-use Rattle.meeting_sweep.proofs.Events.Runs.{runs_none, runs_on, runs_out}
+use Rattle.meeting_sweep.proofs.Events.Runs.{runs_none, runs_on, runs_out, runs_end}
 use Rattle.meeting_sweep.proofs.ends_past.Goals as goal
 
 pub loop-j-init : goal.loop-j-init
@@ -21,4 +21,4 @@ loop-j-preserved c =
     runs_on l.j l.invariant (omega arith) (eq_z-true (sym c.at_one_x.ensures ∙ c.if-not-at_one_x.false))
 
 pub returns : goal.returns
-returns c = runs_out c.loop-j.invariant (λ h e. absurd (omega arith))
+returns c = runs_end c.loop-j.invariant (omega arith) refl

@@ -1,5 +1,4 @@
 -- The ends from k up to j lie at one x.
-use Prim.Native.Nat.{◌-◌}
 use lib.ListN.{length, get_or}
 use Rattle.segm.specs.Segments.{segments}
 use Rattle.ends.specs.Ends.{end_point}
@@ -8,6 +7,3 @@ use Rattle.meeting_sweep.proofs.ends_past.Given as goal
 
 abbrev pub invariant-loop-j : goal.invariant-loop-j
 invariant-loop-j l = Runs (λ i. (end_point (segments l.s) (get_or l.flat i 0)).x) l.k (length l.flat) (end_point (segments l.s) l.e).x l.j
-
-abbrev pub decreases-loop-j : goal.decreases-loop-j
-decreases-loop-j l = length l.flat - l.j

@@ -1,5 +1,4 @@
 -- From event to event.
-use borrow.Author.Tests.{not-false, not-true}
 use mathlib.Core.Path.{refl}
 use native.Mathlib.Omega.{arith}
 use Rattle.integers.proofs.Booleans.{clash}
@@ -12,7 +11,7 @@ use Rattle.meeting_sweep.proofs.sweep_events.Goals as goal
 
 pub loop-passed-init : goal.loop-passed-init
 loop-passed-init c =
-    record { room = refl; room-tops = refl; within = omega arith; few = omega arith; progress = progress_first (segments c.args.s.now) c.args.flat.now c.requires.0 (ordered (segments c.args.s.now) c.requires.1); small = c.requires.4; counted = λ counts k i u. absurd (omega arith) }
+    record { within = omega arith; few = omega arith; progress = progress_first (segments c.args.s.now) c.args.flat.now c.requires.0 (ordered (segments c.args.s.now) c.requires.1); small = c.requires.4; counted = λ counts k i u. absurd (omega arith) }
 
 pub starts_past-starts-requires : goal.starts_past-starts-requires
 starts_past-starts-requires c = c.loop-passed.invariant.within
@@ -20,8 +19,8 @@ starts_past-starts-requires c = c.loop-passed.invariant.within
 pub slice_bounds-event-count : goal.slice_bounds-event-count
 slice_bounds-event-count c = c.ends_past-ends.ensures.from
 
-pub event-held-requires : goal.event-held-requires
-event-held-requires c =
+pub event-event-requires : goal.event-event-requires
+event-event-requires c =
     let l = c.loop-passed in
     let d = segments c.args.s.now in
     let flat = c.args.flat.now in
@@ -33,8 +32,8 @@ event-held-requires c =
       starts.from,
       starts.till,
       l.invariant.few,
-      omega (arith, l.invariant.room, c.requires.2),
-      omega (arith, l.invariant.room-tops, c.requires.3),
+      omega (arith, c.requires.2),
+      omega (arith, c.requires.3),
       progress_places d flat c.requires.0 (ordered (segments c.args.s.now) c.requires.1) l.invariant.progress,
       l.invariant.progress.swept.list.chain,
       progress_distinct d flat c.requires.0 (ordered (segments c.args.s.now) c.requires.1) l.invariant.progress,
@@ -43,12 +42,12 @@ event-held-requires c =
       l.invariant.small,
     )
 
-pub returns-then-not-held : goal.returns-then-not-held
-returns-then-not-held c =
+pub returns-in_default : goal.returns-in_default
+returns-in_default c =
     let l = c.loop-passed in
     let past = c.ends_past-ends.ensures in
     let starts = c.starts_past-starts.ensures in
-    ((λ t. absurd (clash t refl), λ apart. absurd (clash (c.event-held.ensures.1 (clear_event (segments c.args.s.now) c.args.flat.now c.requires.0 (ordered (segments c.args.s.now) c.requires.1) apart l.invariant.progress c.loop-passed-test.true past starts)) (not-true _ c.if-not-held.true))), λ t. absurd (clash t refl))
+    ((λ t. absurd (clash t refl), λ apart. c.in_default.ensures.can (clear_event (segments c.args.s.now) c.args.flat.now c.requires.0 (ordered (segments c.args.s.now) c.requires.1) apart l.invariant.progress c.loop-passed-test.true past starts)), λ t. absurd (clash t refl))
 
 pub loop-passed-smaller : goal.loop-passed-smaller
 loop-passed-smaller c =
@@ -63,12 +62,9 @@ loop-passed-preserved c =
     let more = c.loop-passed-test.true in
     let past = c.ends_past-ends.ensures in
     let starts = c.starts_past-starts.ensures in
-    let one = c.event-held in
-    let happened = one.ensures.0 (not-false _ c.if-not-held.false) in
+    let happened = c.in-Some.ensures.passed in
     let between = left_open d flat c.requires.0 (ordered (segments c.args.s.now) c.requires.1) l.invariant.progress more past starts happened.1.left in
     record {
-      room = omega (arith, one.auto, l.invariant.room);
-      room-tops = omega (arith, one.auto, l.invariant.room-tops);
       within = starts.till;
       few = happened.0;
       progress = progress_next d flat c.requires.0 (ordered (segments c.args.s.now) c.requires.1) l.invariant.progress more past starts happened.1;

@@ -1,5 +1,4 @@
 -- From event to event.
-use mathlib.Core.Path.{◌≡◌}
 use mathlib.Core.List.{List}
 use Prim.Native.Nat.{ℕ, ◌-◌, ◌*◌, ◌≤◌}
 use lib.ListN.{length, take}
@@ -9,9 +8,7 @@ use Rattle.count_up.specs.CountUp.{Counts, Tops, BoundedBy}
 use Rattle.meeting_sweep.proofs.Events.Sweeping.{Progress}
 use Rattle.meeting_sweep.proofs.sweep_events.Given as goal
 
-pub record SweepInv (d : Drawing) (flat old list : List ℕ) (oldTops tops : List ℤ) (passed started used : ℕ) : Type 0 where
-  pub room : length list ≡ length old
-  pub room-tops : length tops ≡ length oldTops
+pub record SweepInv (d : Drawing) (flat list : List ℕ) (tops : List ℤ) (passed started used : ℕ) : Type 0 where
   pub within : started ≤ length d
   pub few : used ≤ started
   pub progress : Progress d flat passed started (take used list)
@@ -19,7 +16,7 @@ pub record SweepInv (d : Drawing) (flat old list : List ℕ) (oldTops tops : Lis
   pub counted : (counts : ℕ → ℤ) → Counts d counts → Tops counts started tops
 
 abbrev pub invariant-loop-passed : goal.invariant-loop-passed
-invariant-loop-passed l = SweepInv (segments l.s) l.flat l.initial.list l.list l.initial.tops l.tops l.passed l.started l.used
+invariant-loop-passed l = SweepInv (segments l.s) l.flat l.list l.tops l.passed l.started l.status.used
 
 abbrev pub decreases-loop-passed : goal.decreases-loop-passed
 decreases-loop-passed l = length l.flat - l.passed

@@ -1,15 +1,8 @@
 -- Nothing is asked at the back; before it, the test of neighbours.
-use mathlib.Core.Path.{refl}
 use native.Mathlib.Omega.{arith}
 use Rattle.scan.proofs.Scan.{proper_place, proper_entry}
 use Rattle.open_list.proofs.stands_under.Goals as goal
 
-pub returns-then-list-k : goal.returns-then-list-k
-returns-then-list-k c = (λ t h. absurd (omega arith), λ f. refl)
-
 pub is_lower_neighbour-requires : goal.is_lower_neighbour-requires
 is_lower_neighbour-requires c =
     (proper_place c.requires.0 c.args.i c.requires.2, proper_entry c.requires.0 c.args.list.now c.requires.1 c.args.k (omega arith))
-
-pub returns : goal.returns
-returns c = (λ t h. c.is_lower_neighbour.ensures.0 t, λ f. c.is_lower_neighbour.ensures.1 (f (omega arith)))

@@ -11,6 +11,6 @@ use Rattle.overlay.proofs.overlay_fills.Goals as goal
 pub returns : goal.returns
 unfolding fills_numbers
 returns c =
-    ap (λ (a : Fills). returned a c.fills-answer.new.fills) c.fills_of.ensures
+    ap (λ (a : Fills). returned a c.fills-answer.new.fills) c.from.ensures
     ∙ ap (λ (o : Outcome). returned (fills_struct o.numbers) o.list)
     (c.fills-answer.ensures ∙ ap (λ (z : ℤ). fills_outcome c.args.numbers.now z c.args.fills.now) (to_z-of_z c.ranges.rule))

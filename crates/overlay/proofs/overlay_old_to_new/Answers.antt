@@ -7,4 +7,4 @@ use Rattle.overlay.proofs.overlay_old_to_new.Goals as goal
 pub returns : goal.returns
 unfolding move_numbers
 returns c =
-    ap (λ (a : Write). returned_write a c.move_text-answer.new.out) c.write_of.ensures ∙ ap write_returned c.move_text-answer.ensures
+    ap (λ (a : Write). returned_write a c.move_text-answer.new.out) c.from.ensures ∙ ap write_returned c.move_text-answer.ensures

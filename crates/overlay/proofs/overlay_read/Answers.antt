@@ -9,6 +9,6 @@ use Rattle.overlay.proofs.overlay_read.Goals as goal
 pub returns : goal.returns
 unfolding read_numbers
 returns c =
-    ap (λ (a : Read). returned_read a c.read-answer.new.numbers) c.read_of.ensures
+    ap (λ (a : Read). returned_read a c.read-answer.new.numbers) c.from.ensures
     ∙ ap (λ (o : Outcome). returned_read (read_struct o.numbers) o.list)
     c.read-answer.ensures

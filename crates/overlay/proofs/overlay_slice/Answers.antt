@@ -10,6 +10,6 @@ use Rattle.overlay.proofs.overlay_slice.Goals as goal
 pub returns : goal.returns
 unfolding slice_numbers
 returns c =
-    ap (λ (a : Slice). returned_slice a (lists c.slice-answer.new.points c.slice-answer.new.lengths c.slice-answer.new.roles)) c.slice_of.ensures
+    ap (λ (a : Slice). returned_slice a (lists c.slice-answer.new.points c.slice-answer.new.lengths c.slice-answer.new.roles)) c.from.ensures
     ∙ ap (λ (o : Outcome). returned_slice (slice_struct o.numbers) o.lists)
     (c.slice-answer.ensures ∙ (λ i. slice_outcome c.args.numbers.now (to_z-of_z c.ranges.rule i) (to_z-of_z c.ranges.direction i) c.args.min_area (lists c.args.points.now c.args.lengths.now c.args.roles.now)))

@@ -9,6 +9,6 @@ use Rattle.overlay.proofs.overlay_split.Goals as goal
 pub returns : goal.returns
 unfolding split_numbers
 returns c =
-    ap (λ (a : Split). returned_split a (lists c.split-answer.new.out c.split-answer.new.lengths)) c.split_of.ensures
+    ap (λ (a : Split). returned_split a (lists c.split-answer.new.out c.split-answer.new.lengths)) c.from.ensures
     ∙ ap (λ (o : Outcome). returned_split (split_struct o.numbers) o.lists)
     c.split-answer.ensures

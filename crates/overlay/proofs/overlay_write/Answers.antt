@@ -11,4 +11,4 @@ pub returns : goal.returns
 unfolding write_numbers
 returns c =
     let chosen : ◌≡◌ {A = Choices} _ _ = λ i. record { rule = to_z-of_z c.ranges.rule i; invert = to_z-of_z c.ranges.invert i; boundary = to_z-of_z c.ranges.boundary i } in
-    ap (λ (a : Write). returned_write a c.write-answer.new.out) c.write_of.ensures ∙ ap write_returned (c.write-answer.ensures ∙ (λ i. write_outcome c.args.numbers.now (chosen i) c.args.text.now))
+    ap (λ (a : Write). returned_write a c.write-answer.new.out) c.from.ensures ∙ ap write_returned (c.write-answer.ensures ∙ (λ i. write_outcome c.args.numbers.now (chosen i) c.args.text.now))

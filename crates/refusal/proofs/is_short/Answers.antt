@@ -5,7 +5,6 @@ use Prim.Native.Nat.{◌*◌, ◌/◌}
 use lib.Dec.{ltb}
 use Rattle.integers.proofs.Booleans.{same_test}
 use Rattle.refusal.specs.Asked.{too_short}
-use borrow.Author.Rules.{rules}
 use Rattle.refusal.proofs.is_short.Goals as goal
 
 pub returns : goal.returns

@@ -5,7 +5,6 @@ use lib.IntN.{pos}
 use mir.Facts.{to_z-of_z}
 use Rattle.geom.specs.Points.{within}
 use Rattle.refusal.specs.Asked.{unknown_choice}
-use borrow.Author.Rules.{rules}
 use Rattle.refusal.proofs.is_unknown.Goals as goal
 
 pub returns : goal.returns

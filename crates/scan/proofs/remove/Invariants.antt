@@ -1,20 +1,11 @@
 -- Up to place j the entries have moved down, in whole blocks, and from j on they are as they were.
-use mathlib.Core.Path.{◌≡◌}
-use mathlib.Core.List.{List}
-use Prim.Native.Nat.{ℕ, suc, ◌+◌, ◌-◌, ◌≤◌, ◌<◌}
-use lib.ListN.{length, take}
-use Rattle.lists.specs.Written.{written}
-use Rattle.scan.specs.Scan.{remove_at}
+use Rattle.std.proofs.Common.{◌≡◌, ℕ, ◌+◌, ◌*◌, ◌<◌, ◌≤◌, List, get_or}
 use Rattle.scan.proofs.remove.Given as goal
 
-pub record Moved (old : List ℕ) (used k : ℕ) (list : List ℕ) (j : ℕ) : Type 0 where
-  pub from : k ≤ j
-  pub till : j < used + 15
-  pub room : length list ≡ length old
-  pub is : list ≡ written (remove_at k (take (suc j) old)) old
+pub record MovedDown (old list : List ℕ) (k j : ℕ) : Type 0 where
+  pub below : (m : ℕ) → m < k → get_or list m 0 ≡ get_or old m 0
+  pub moved : (m : ℕ) → k ≤ m → m < j → get_or list m 0 ≡ get_or old (m + 1) 0
+  pub rest : (m : ℕ) → j ≤ m → get_or list m 0 ≡ get_or old m 0
 
-abbrev pub invariant-loop-j : goal.invariant-loop-j
-invariant-loop-j l = Moved l.initial.list l.used l.k l.list l.j
-
-abbrev pub decreases-loop-j : goal.decreases-loop-j
-decreases-loop-j l = l.used - l.j
+abbrev pub invariant-loop-block : goal.invariant-loop-block
+invariant-loop-block l = MovedDown l.initial.list l.list l.k (l.k + l.block * 16)

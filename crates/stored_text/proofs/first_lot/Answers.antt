@@ -15,13 +15,11 @@ pub loop-i-init : goal.loop-i-init
 unfolding lots_of first
 loop-i-init c =
     let l = c.args.numbers.now in
-    let all : length (segments l) ≡ c.count-n.result - 0 = omega (arith, c.count-n.ensures, length-segments l) in
-    (omega arith, ap (λ n. first_from (lot_at Old (segments l)) n 0) all)
+    let all : length (segments l) ≡ c.count-i-end.result - 0 = omega (arith, c.count-i-end.ensures, length-segments l) in
+    ap (λ n. first_from (lot_at Old (segments l)) n 0) all
 
 pub segment_in-t-requires : goal.segment_in-t-requires
-segment_in-t-requires c =
-    count_inside c.args.numbers.now c.count-n.ensures c.loop-i-test.true
+segment_in-t-requires c = count_inside c.args.numbers.now c.count-i-end.ensures c.loop-i-test.true
 
 pub returns : goal.returns
-returns c =
-    sym (c.loop-i.invariant.1 ∙ step_end (lot_at Old (segments c.args.numbers.now)) c.count-n.result c.loop-i.i (omega arith))
+returns c = sym (c.loop-i.invariant ∙ step_end (lot_at Old (segments c.args.numbers.now)) c.count-i-end.result c.loop-i.i c.loop-i-test.false)

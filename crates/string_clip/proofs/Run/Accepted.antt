@@ -12,7 +12,7 @@ use Rattle.integers.proofs.Booleans.{neither}
 use Rattle.lists.specs.Members.{any}
 use Rattle.segm.specs.Segments.{count, segments}
 use Rattle.segm.proofs.Segments.{length-segments}
-use Rattle.refusal.specs.declared.Verdict.TheVariants.{Accepted}
+use Rattle.refusal.specs.Order.{accepted}
 use Rattle.refusal.specs.Asked.{too_short, lent}
 use Rattle.checks.specs.Runs.{verdict, clip_run}
 use Rattle.checks.specs.Accepted.{Good}
@@ -23,12 +23,12 @@ use Rattle.build.specs.Links.{filter_of}
 use Rattle.clip_paths.specs.Paths.{clip_paths}
 use Rattle.string_clip.specs.Run.{Lists, run_of, Room, answered, clip_outcome}
 
-module _ (numbers : List ℤ) (rule invert boundary : ℤ) (ls : Lists) (e : verdict (run_of numbers rule invert boundary ls) ≡ Accepted) where
+module _ (numbers : List ℤ) (rule invert boundary : ℤ) (ls : Lists) (e : verdict (run_of numbers rule invert boundary ls) ≡ accepted) where
   pub accepted_drawing : Good (segments numbers)
   unfolding clip_run
   accepted_drawing = verdict_good _ e
 
-  pub accepted_outcome : clip_outcome numbers rule invert boundary ls ≡ answered Accepted (clip_paths (rule_of rule) (filter_of invert boundary) (segments numbers)) ls
+  pub accepted_outcome : clip_outcome numbers rule invert boundary ls ≡ answered accepted (clip_paths (rule_of rule) (filter_of invert boundary) (segments numbers)) ls
   unfolding clip_outcome
   accepted_outcome = rw e
 

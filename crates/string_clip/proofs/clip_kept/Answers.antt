@@ -25,8 +25,8 @@ overflow_mul-e c =
     c.count-m.ensures ∙ sym (length-segments c.args.s.now) in
     record { fits = omega (arith, m-is, c.requires.0.faultless.few) }
 
-pub slice_bounds-clip_links-end : goal.slice_bounds-clip_links-end
-slice_bounds-clip_links-end c =
+pub slice_bounds-g-end : goal.slice_bounds-g-end
+slice_bounds-g-end c =
     let d : Drawing =
     segments c.args.s.now in
     let m : ℕ =
@@ -37,8 +37,8 @@ slice_bounds-clip_links-end c =
     ends_room d c.args.flat.now c.args.starts.now c.args.nodes.now c.requires.1 m m-is in
     sym (length-take-le _ _ flat_room)
 
-pub slice_bounds-clip_links-end-2 : goal.slice_bounds-clip_links-end-2
-slice_bounds-clip_links-end-2 c =
+pub slice_bounds-g-end-2 : goal.slice_bounds-g-end-2
+slice_bounds-g-end-2 c =
     let d : Drawing =
     segments c.args.s.now in
     let m : ℕ =
@@ -49,8 +49,8 @@ slice_bounds-clip_links-end-2 c =
     numbers_room d c.args.flat.now c.args.starts.now c.args.nodes.now c.requires.1 m m-is in
     sym (length-take-le _ _ nodes_room)
 
-pub slice_bounds-clip_links-end-3 : goal.slice_bounds-clip_links-end-3
-slice_bounds-clip_links-end-3 c =
+pub slice_bounds-clip_links-end : goal.slice_bounds-clip_links-end
+slice_bounds-clip_links-end c =
     let d : Drawing =
     segments c.args.s.now in
     let m : ℕ =
@@ -61,8 +61,8 @@ slice_bounds-clip_links-end-3 c =
     omega (arith, m-is, c.requires.2) in
     bits_room
 
-pub slice_bounds-clip_links-end-4 : goal.slice_bounds-clip_links-end-4
-slice_bounds-clip_links-end-4 c =
+pub slice_bounds-clip_links-end-2 : goal.slice_bounds-clip_links-end-2
+slice_bounds-clip_links-end-2 c =
     let d : Drawing =
     segments c.args.s.now in
     let m : ℕ =

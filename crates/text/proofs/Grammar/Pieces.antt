@@ -13,11 +13,11 @@ use Rattle.text.specs.Grammar.{onto, pieces}
 use Rattle.writing.specs.Lines.{joined}
 
 -- not empty
-abbrev pub Some : {A : Type 0} → List A → Type 0
-Some [] = ⊥
-Some (x ∷ l) = Unit {0}
+abbrev pub NonEmpty : {A : Type 0} → List A → Type 0
+NonEmpty [] = ⊥
+NonEmpty (x ∷ l) = Unit {0}
 
-onto-some : (x : ℕ) (ps : List (List ℕ)) → Some (onto x ps)
+onto-some : (x : ℕ) (ps : List (List ℕ)) → NonEmpty (onto x ps)
 onto-some x [] = tt
 onto-some x (p ∷ ps) = tt
 
@@ -26,12 +26,12 @@ onto_few x [] = omega arith
 onto_few x (p ∷ ps) = omega arith
 
 module _ (b : ℕ) where
-  pub pieces-some : (s : List ℕ) → Some (pieces b s)
+  pub pieces-some : (s : List ℕ) → NonEmpty (pieces b s)
   unfolding pieces
   pieces-some [] = tt
   pieces-some (x ∷ s) = go (eqb x b)
     where
-      go : (t : Bool) → Some (cond t ([] ∷ pieces b s) (onto x (pieces b s)))
+      go : (t : Bool) → NonEmpty (cond t ([] ∷ pieces b s) (onto x (pieces b s)))
       go true = tt
       go false = onto-some x (pieces b s)
 
@@ -52,7 +52,7 @@ module _ (b : ℕ) where
   joined-onto x (p ∷ []) = refl
   joined-onto x (p ∷ q ∷ ps) = refl
 
-  joined-cut : (p : List ℕ) (ps : List (List ℕ)) → Some ps → joined b (p ∷ ps) ≡ p ++ b ∷ joined b ps
+  joined-cut : (p : List ℕ) (ps : List (List ℕ)) → NonEmpty ps → joined b (p ∷ ps) ≡ p ++ b ∷ joined b ps
   unfolding joined
   joined-cut p [] h = absurd h
   joined-cut p (q ∷ ps) h = refl
@@ -84,7 +84,7 @@ module _ (b : ℕ) where
   pieces_whole [] h = refl
   pieces_whole (x ∷ p) h = pieces-other x p (λ e. h (inl e)) ∙ ap (onto x) (pieces_whole p (λ m. h (inr m)))
 
-  pub pieces-joined : (ps : List (List ℕ)) → Some ps → ((p : List ℕ) → p ∈ ps → Lacks p) → pieces b (joined b ps) ≡ ps
+  pub pieces-joined : (ps : List (List ℕ)) → NonEmpty ps → ((p : List ℕ) → p ∈ ps → Lacks p) → pieces b (joined b ps) ≡ ps
   unfolding joined
   pieces-joined [] n h = absurd n
   pieces-joined (p ∷ []) n h = pieces_whole p (h p (inl refl))

@@ -1,7 +1,7 @@
 -- What storing a line's numbers, and then those of the lines after it, leaves in the list.
 use mathlib.Core.Path.{◌≡◌, refl, sym, ap, ap₂, ◌∙◌}
 use mathlib.Core.List.{List, [], ◌∷◌, flatten}
-use mathlib.Core.Option.{Option, none, some}
+use Rattle.std.specs.Prelude.{Option, None, Some}
 use Prim.Native.Nat.{ℕ, zero, suc, ◌+◌, ◌-◌, ◌<◌, ◌≤◌}
 use native.Mathlib.Omega.{arith}
 use borrow.Author.Tests.{eq-eqb, ne_eqb, eqb-true}
@@ -11,12 +11,10 @@ use lib.Seq.{sets}
 use lib.IntN.{ℤ}
 use Rattle.integers.proofs.Booleans.{same_test}
 use Rattle.lists.proofs.Written.{sets_append, sets_all}
-use Rattle.decimal.specs.declared.Field.{Field}
-use Rattle.decimal.specs.declared.Field.TheVariants.{Number, Malformed}
 use Rattle.decimal.specs.Decimal.{field_of}
 use Rattle.text.specs.Grammar.{pieces, and_rest, row, fields_in, RowsFound, Bad, Rows, after_last, and_lines, rows_from}
 use Rattle.text.specs.Storing.{row_stored, list_if, Numbers, rows_stored}
-use Rattle.text.proofs.Grammar.Pieces.{Some, pieces-some}
+use Rattle.text.proofs.Grammar.Pieces.{NonEmpty, pieces-some}
 
 -- two constructors that would be equal
 pub differ : ◌≡◌ {A = ℕ} 0 1 → ⊥
@@ -24,7 +22,7 @@ differ e = omega arith
 
 -- ---- a line
 -- one field more
-pub field_stored : (k i at : ℕ) (l : List ℤ) (f : List ℕ) (fields : List (List ℕ)) (z : ℤ) → i < k → field_of f ≡ Number z
+pub field_stored : (k i at : ℕ) (l : List ℤ) (f : List ℕ) (fields : List (List ℕ)) (z : ℤ) → i < k → field_of f ≡ Some z
     → row_stored (at + i) l (row (k - i) (f ∷ fields)) ≡ row_stored (at + (i + 1)) (set l (at + i) z) (row (k - (i + 1)) fields)
 unfolding row
 field_stored k i at l f fields z h e =
@@ -32,11 +30,11 @@ field_stored k i at l f fields z h e =
     let m : at + (i + 1) ≡ suc (at + i) = omega arith in
     rw (n, e, m) (more (row (k - (i + 1)) fields))
   where
-    more : (o : Option (List ℤ)) → row_stored (at + i) l (and_rest (Number z) o) ≡ row_stored (suc (at + i)) (set l (at + i) z) o
-    more none = refl
-    more (some r) = refl
+    more : (o : Option (List ℤ)) → row_stored (at + i) l (and_rest (Some z) o) ≡ row_stored (suc (at + i)) (set l (at + i) z) o
+    more None = refl
+    more (Some r) = refl
 
-pub field_bad : (k i : ℕ) (f : List ℕ) (fields : List (List ℕ)) → i < k → field_of f ≡ Malformed → row (k - i) (f ∷ fields) ≡ none
+pub field_bad : (k i : ℕ) (f : List ℕ) (fields : List (List ℕ)) → i < k → field_of f ≡ None → row (k - i) (f ∷ fields) ≡ None
 unfolding row
 field_bad k i f fields h e = let n : k - i ≡ suc (k - (i + 1)) = omega arith in rw (n, e)
 
@@ -50,33 +48,33 @@ all_stored k i at l h = ap (λ t. list_if t l) (same_test (eqb i k) (eqb (k - i)
     none_left (suc n) = rw eqb-suc-zero
 
 -- a field past the k-th
-pub row_full : (s : List ℕ) → row 0 (pieces 44 s) ≡ none
+pub row_full : (s : List ℕ) → row 0 (pieces 44 s) ≡ None
 unfolding row
 row_full s = go (pieces 44 s) (pieces-some 44 s)
   where
-    go : (fields : List (List ℕ)) → Some fields → row 0 fields ≡ none
+    go : (fields : List (List ℕ)) → NonEmpty fields → row 0 fields ≡ None
     go [] h = absurd h
     go (f ∷ fields) h = refl
 
 -- the numbers of k fields
-pub row-length : (k : ℕ) (fields : List (List ℕ)) (zs : List ℤ) → row k fields ≡ some zs → length zs ≡ k
+pub row-length : (k : ℕ) (fields : List (List ℕ)) (zs : List ℤ) → row k fields ≡ Some zs → length zs ≡ k
 unfolding row
 row-length zero [] zs e = let q : zs ≡ [] = cc in rw q
 row-length zero (f ∷ fields) zs e = absurd (differ (cc))
 row-length (suc k) [] zs e = absurd (differ (cc))
 row-length (suc k) (f ∷ fields) zs e = go (field_of f) (row k fields) (row-length k fields) e
   where
-    go : (x : Field) (o : Option (List ℤ)) → ((ys : List ℤ) → o ≡ some ys → length ys ≡ k) → and_rest x o ≡ some zs → length zs ≡ suc k
-    go Malformed o rest e = absurd (differ (cc))
-    go (Number y) none rest e = absurd (differ (cc))
-    go (Number y) (some ys) rest e = let q : zs ≡ y ∷ ys = cc in rw q (ap suc (rest ys refl))
+    go : (x : Option ℤ) (o : Option (List ℤ)) → ((ys : List ℤ) → o ≡ Some ys → length ys ≡ k) → and_rest x o ≡ Some zs → length zs ≡ suc k
+    go None o rest e = absurd (differ (cc))
+    go (Some y) None rest e = absurd (differ (cc))
+    go (Some y) (Some ys) rest e = let q : zs ≡ y ∷ ys = cc in rw q (ap suc (rest ys refl))
 
 -- ---- the lines
 pub lines_next : (width line : ℕ) (s t : List ℕ) → rows_from width line (s ∷ pieces 10 t) ≡ and_lines line (row (fields_in width line) (pieces 44 s)) (rows_from width (suc line) (pieces 10 t))
 unfolding rows_from
 lines_next width line s t = go (pieces 10 t) (pieces-some 10 t)
   where
-    go : (l : List (List ℕ)) → Some l → rows_from width line (s ∷ l) ≡ and_lines line (row (fields_in width line) (pieces 44 s)) (rows_from width (suc line) l)
+    go : (l : List (List ℕ)) → NonEmpty l → rows_from width line (s ∷ l) ≡ and_lines line (row (fields_in width line) (pieces 44 s)) (rows_from width (suc line) l)
     go [] h = absurd h
     go (p ∷ l) h = refl
 
@@ -90,27 +88,27 @@ pub last_bad : (line : ℕ) (s : List ℕ) → 0 < length s → after_last line 
 last_bad line [] h = absurd (omega arith)
 last_bad line (b ∷ s) h = refl
 
-pub line_bad : (line at : ℕ) (l : List ℤ) (o : Option (List ℤ)) (rest : RowsFound) → none ≡ row_stored at l o → and_lines line o rest ≡ Bad line
-line_bad line at l none rest e = refl
-line_bad line at l (some r) rest e = absurd (differ (cc))
+pub line_bad : (line at : ℕ) (l : List ℤ) (o : Option (List ℤ)) (rest : RowsFound) → None ≡ row_stored at l o → and_lines line o rest ≡ Bad line
+line_bad line at l None rest e = refl
+line_bad line at l (Some r) rest e = absurd (differ (cc))
 
 -- a line that was stored has numbers
-pub row_stored_lem : {X : Type 0} (at : ℕ) (l m : List ℤ) (o : Option (List ℤ)) → some m ≡ row_stored at l o → ((zs : List ℤ) → o ≡ some zs → X) → X
-row_stored_lem at l m none e f = absurd (differ (cc))
-row_stored_lem at l m (some r) e f = f r refl
+pub row_stored_lem : {X : Type 0} (at : ℕ) (l m : List ℤ) (o : Option (List ℤ)) → Some m ≡ row_stored at l o → ((zs : List ℤ) → o ≡ Some zs → X) → X
+row_stored_lem at l m None e f = absurd (differ (cc))
+row_stored_lem at l m (Some r) e f = f r refl
 
 -- one line more
-pub line_stored : (line at k : ℕ) (l m : List ℤ) (o : Option (List ℤ)) (rest : RowsFound) → ((zs : List ℤ) → o ≡ some zs → length zs ≡ k) → some m ≡ row_stored at l o
+pub line_stored : (line at k : ℕ) (l m : List ℤ) (o : Option (List ℤ)) (rest : RowsFound) → ((zs : List ℤ) → o ≡ Some zs → length zs ≡ k) → Some m ≡ row_stored at l o
     → rows_stored at l (and_lines line o rest) ≡ rows_stored (at + k) m rest
 unfolding flatten
-line_stored line at k l m none rest h e = absurd (differ (cc))
-line_stored line at k l m (some r) (Bad later) h e = refl
-line_stored line at k l m (some r) (Rows rows) h e =
+line_stored line at k l m None rest h e = absurd (differ (cc))
+line_stored line at k l m (Some r) (Bad later) h e = refl
+line_stored line at k l m (Some r) (Rows rows) h e =
     let n = h r refl in
     let q : m ≡ sets l at r = cc in
     ap₂ Numbers (omega (arith, length-append r (flatten rows))) (sets_append l at r (flatten rows) ∙ rw (n, q))
 
 -- the first line's numbers fill their list
-pub row-filled : (o : Option (List ℤ)) (l m : List ℤ) → ((zs : List ℤ) → o ≡ some zs → length zs ≡ length l) → some m ≡ row_stored 0 l o → o ≡ some m
-row-filled none l m h e = sym e
-row-filled (some r) l m h e = let q : m ≡ sets l 0 r = cc in ap some (sym (q ∙ sets_all r l (h r refl)))
+pub row-filled : (o : Option (List ℤ)) (l m : List ℤ) → ((zs : List ℤ) → o ≡ Some zs → length zs ≡ length l) → Some m ≡ row_stored 0 l o → o ≡ Some m
+row-filled None l m h e = sym e
+row-filled (Some r) l m h e = let q : m ≡ sets l 0 r = cc in ap Some (sym (q ∙ sets_all r l (h r refl)))

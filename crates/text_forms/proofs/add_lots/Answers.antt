@@ -27,8 +27,8 @@ overflow_mul-from c = let h : c.loop-i.i < length c.args.old.now / 6 = c.loop-i-
 pub overflow_add-from : goal.overflow_add-from
 overflow_add-from c = let h : c.loop-i.i < length c.args.old.now / 6 = c.loop-i-test.true in search rules
 
-pub old_segment-t-requires : goal.old_segment-t-requires
-old_segment-t-requires c =
+pub old_segment-requires : goal.old_segment-requires
+old_segment-requires c =
     let i = c.loop-i.i in
     let h : i < length c.args.old.now / 6 = c.loop-i-test.true in
     omega (arith, h, length-take (i * 6 + 6 - i * 6) (drop (i * 6) c.args.old.now), length-drop (i * 6) c.args.old.now)
@@ -54,14 +54,14 @@ module _ (old numbers now : List ℤ) (i : ℕ) (t : Segment) (h : i < length ol
 pub put-requires : goal.put-requires
 put-requires c =
     let h : c.loop-i.i < length c.args.old.now / 6 = c.loop-i-test.true in
-    let is = c.old_segment-t.ensures ∙ old_at c.args.old.now c.loop-i.i h in
-    omega (arith, room c.args.old.now c.args.numbers.now c.loop-i.numbers c.loop-i.i c.old_segment-t.result h is c.loop-i.invariant c.requires, place c.args.old.now c.args.numbers.now c.loop-i.numbers c.loop-i.i c.old_segment-t.result h is c.loop-i.invariant c.requires, c.requires)
+    let is = c.old_segment.ensures ∙ old_at c.args.old.now c.loop-i.i h in
+    omega (arith, room c.args.old.now c.args.numbers.now c.loop-i.numbers c.loop-i.i c.old_segment.result h is c.loop-i.invariant c.requires, place c.args.old.now c.args.numbers.now c.loop-i.numbers c.loop-i.i c.old_segment.result h is c.loop-i.invariant c.requires, c.requires)
 
 pub loop-i-preserved : goal.loop-i-preserved
 loop-i-preserved c =
     let h : c.loop-i.i < length c.args.old.now / 6 = c.loop-i-test.true in
-    let is = c.old_segment-t.ensures ∙ old_at c.args.old.now c.loop-i.i h in
-    (c.put.ensures ∙ more c.args.old.now c.args.numbers.now c.loop-i.numbers c.loop-i.i c.old_segment-t.result h is c.loop-i.invariant c.requires, omega (arith, place c.args.old.now c.args.numbers.now c.loop-i.numbers c.loop-i.i c.old_segment-t.result h is c.loop-i.invariant c.requires))
+    let is = c.old_segment.ensures ∙ old_at c.args.old.now c.loop-i.i h in
+    (c.put.ensures ∙ more c.args.old.now c.args.numbers.now c.loop-i.numbers c.loop-i.i c.old_segment.result h is c.loop-i.invariant c.requires, omega (arith, place c.args.old.now c.args.numbers.now c.loop-i.numbers c.loop-i.i c.old_segment.result h is c.loop-i.invariant c.requires))
 
 pub returns : goal.returns
 returns c =

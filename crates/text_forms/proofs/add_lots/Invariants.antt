@@ -1,6 +1,6 @@
 -- The segments passed are written.
 use mathlib.Core.Path.{◌≡◌}
-use Prim.Native.Nat.{◌-◌, ◌≤◌}
+use Prim.Native.Nat.{◌≤◌}
 use lib.ListN.{length, take}
 use Rattle.lists.specs.Written.{written}
 use Rattle.segm.specs.Segments.{laid}
@@ -9,6 +9,3 @@ use Rattle.text_forms.proofs.add_lots.Given as goal
 
 abbrev pub invariant-loop-i : goal.invariant-loop-i
 invariant-loop-i l = (l.numbers ≡ written (laid (take l.i (old_segments l.old))) l.initial.numbers) × (l.i ≤ length (old_segments l.old))
-
-abbrev pub decreases-loop-i : goal.decreases-loop-i
-decreases-loop-i l = l.n - l.i

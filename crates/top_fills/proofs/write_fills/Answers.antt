@@ -1,68 +1,33 @@
 -- What is written so far are the fills of the segments passed.
-use mathlib.Core.Path.{refl, ap, ap₂, ◌∙◌}
-use mathlib.Core.List.{List, map}
-use native.Mathlib.Omega.{arith}
-use Prim.Native.Nat.{ℕ, ◌<◌}
-use lib.ListN.{length, set, length-set}
+use Rattle.std.proofs.Common.{refl, ap, ap₂, ◌∙◌, List, map, ℕ, set, arith}
 use lib.Seq.{take_all}
 use Rattle.lists.specs.Written.{written}
-use Rattle.segm.specs.Segments.{Drawing, segments, segment_at, nowhere}
 use Rattle.lists.proofs.Written.{written_map}
+use Rattle.segm.specs.Segments.{Drawing, segments, segment_at, nowhere}
 use Rattle.segm.proofs.Segments.{count_inside, count_past}
 use Rattle.ray.specs.Ray.{fill, fills}
 use Rattle.top_fills.proofs.write_fills.Goals as goal
-use Rattle.top_fills.proofs.write_fills.Lts
-use Rattle.top_fills.proofs.write_fills.Reads
-use Rattle.top_fills.proofs.write_fills.Tie
-
-abbrev In-loop-i : Type 0
-In-loop-i = Lts.In-loop Tie.the-claims Reads.Pre Reads.Post goal.the-invariant-loop-i goal.the-decreases-loop-i
-
-abbrev At-loop-i : Type 0
-At-loop-i = Lts.At-loop Tie.the-claims Reads.Pre Reads.Post goal.the-invariant-loop-i goal.the-decreases-loop-i
-
-abbrev Start : Type 0
-Start = Lts.Start Tie.the-claims Reads.Pre Reads.Post goal.the-invariant-loop-i goal.the-decreases-loop-i
 
 pub loop-i-init : goal.loop-i-init
 unfolding written
-loop-i-init c = (omega arith, refl, refl)
-
-module _ (c : In-loop-i) where
-  abbrev l : At-loop-i
-  l = c.before
-
-  abbrev s : Start
-  s = l.before.before.before
-
-  abbrev d : Drawing
-  d = segments s.args.s.now
-
-  inside : l.loop-i.i < length d
-  inside = count_inside s.args.s.now l.count-n.ensures c.loop-i-test.true
+loop-i-init c = refl
 
 pub fill_at-requires : goal.fill_at-requires
-fill_at-requires c = let p = (s c).requires in (p.0, p.1, p.2, inside c)
+fill_at-requires c = (c.requires.0, c.requires.1, c.requires.2, count_inside c.args.s.now c.count-i-end.ensures c.loop-i-test.true)
 
 pub bounds-out-i : goal.bounds-out-i
-bounds-out-i c = let t = c in omega (arith, inside t.before, (s t.before).requires.3, (l t.before).loop-i.invariant.1)
+bounds-out-i c = omega (arith, count_inside c.args.s.now c.count-i-end.ensures c.loop-i-test.true, c.requires.3, c.loop-i.auto.out)
 
 pub loop-i-preserved : goal.loop-i-preserved
 unfolding segment_at
 loop-i-preserved c =
-    let t = c in
-    let i = (l t.before).loop-i.i in
-    let rule = (s t.before).args.rule in (
-      omega arith,
-      length-set (l t.before).loop-i.out i c.fill_at.result ∙ (l t.before).loop-i.invariant.1,
-      ap₂ (λ (a : List ℕ) (x : ℕ). set a i x) (l t.before).loop-i.invariant.2 c.fill_at.ensures
-          ∙ written_map (fill rule (d t.before)) (d t.before) nowhere (s t.before).args.out.now i (inside t.before) (s t.before).requires.3,
-    )
+    let i = c.loop-i.i in
+    let d = segments c.args.s.now in
+    ap₂ (λ (a : List ℕ) (x : ℕ). set a i x) c.loop-i.invariant c.fill_at.ensures
+    ∙ written_map (fill c.args.rule d) d nowhere c.args.out.now i (count_inside c.args.s.now c.count-i-end.ensures c.loop-i-test.true) c.requires.3
 
 pub returns : goal.returns
 unfolding fills
 returns c =
-    let a = c in
-    let q = a in
-    let d = segments q.args.s.now in
-    a.loop-i.invariant.2 ∙ ap (λ (e : Drawing). written (map (fill q.args.rule d) e) q.args.out.now) (take_all a.loop-i.i d (count_past q.args.s.now a.count-n.ensures c.loop-i-test.false))
+    let d = segments c.args.s.now in
+    c.loop-i.invariant ∙ ap (λ (e : Drawing). written (map (fill c.args.rule d) e) c.args.out.now) (take_all c.loop-i.i d (count_past c.args.s.now c.count-i-end.ensures c.loop-i-test.false))

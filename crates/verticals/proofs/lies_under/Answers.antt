@@ -1,26 +1,17 @@
 -- The machine's cross product is the side, and where that does not decide the end does.
-use mathlib.Core.Path.{sym, subst, ap, ◌∙◌}
+use mathlib.Core.Path.{sym, ap, ◌∙◌}
 use lib.IntN.{pos}
 use lib.Signed.{lt_z}
 use Rattle.integers.proofs.Booleans.{or_l}
-use Rattle.faults.specs.Faultless.{Proper}
 use Rattle.strip.specs.Strip.{above}
 use Rattle.verticals.specs.Verticals.{lies_under}
 use Rattle.verticals.proofs.Sides.{side_got, start_got}
 use Rattle.verticals.proofs.lies_under.Goals as goal
 
-pub segment_in-t-requires : goal.segment_in-t-requires
-segment_in-t-requires c = c.requires.0.inside
-
-pub cross-requires : goal.cross-requires
-cross-requires c =
-    let t = subst Proper (sym c.segment_in-t.ensures) c.requires.0.proper in
-    (t.near_a, t.near_b, c.requires.1)
-
-pub returns-then-cross-gt0 : goal.returns-then-cross-gt0
+pub returns-then-under : goal.returns-then-under
 unfolding lies_under above
-returns-then-cross-gt0 c = sym (or_l _ (ap (lt_z (pos 0)) (sym (side_got c.segment_in-t.ensures c.args.p c.cross.result c.cross.type_inv c.cross.ensures)) ∙ c.if-cross-gt0.true))
+returns-then-under c = c.if-under.true ∙ sym (or_l _ (ap (lt_z (pos 0)) (sym (side_got c.segment_in-t.ensures c.args.p c.cross-under.result c.cross-under.type_inv c.cross-under.ensures)) ∙ c.if-under.true))
 
-pub returns : goal.returns
+pub returns-else-under : goal.returns-else-under
 unfolding lies_under above
-returns c = start_got c.segment_in-t.ensures c.args.p (ap (lt_z (pos 0)) (sym (side_got c.segment_in-t.ensures c.args.p c.cross.result c.cross.type_inv c.cross.ensures)) ∙ c.if-cross-gt0.false) c.same.ensures
+returns-else-under c = start_got c.segment_in-t.ensures c.args.p (ap (lt_z (pos 0)) (sym (side_got c.segment_in-t.ensures c.args.p c.cross-under.result c.cross-under.type_inv c.cross-under.ensures)) ∙ c.if-under.false) c.same.ensures

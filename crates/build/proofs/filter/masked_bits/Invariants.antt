@@ -1,8 +1,8 @@
 -- What is written so far are the line bits of the segments passed, each by its own fill.
 use mathlib.Core.Path.{◌≡◌}
 use mathlib.Core.List.{map}
-use Prim.Native.Nat.{ℕ, ◌-◌, ◌≤◌}
-use lib.ListN.{length, take}
+use Prim.Native.Nat.{ℕ}
+use lib.ListN.{take}
 use lib.IntN.{nat_abs}
 use Rattle.segm.specs.declared.Segment.{Segment}
 use Rattle.lists.specs.Written.{written}
@@ -21,7 +21,4 @@ abbrev pub lines : Rule → Filter → Drawing → Segment → ℕ
 lines rule filter d s = nat_abs (mask rule filter d s).bits
 
 abbrev pub invariant-loop-i : goal.invariant-loop-i
-invariant-loop-i l = (l.i ≤ l.n) × (length l.bits ≡ length l.initial.bits) × (l.bits ≡ written (map (lines l.rule l.filter (segments l.s)) (take l.i (segments l.s))) l.initial.bits)
-
-abbrev pub decreases-loop-i : goal.decreases-loop-i
-decreases-loop-i l = l.n - l.i
+invariant-loop-i l = l.bits ≡ written (map (lines l.rule l.filter (segments l.s)) (take l.i (segments l.s))) l.initial.bits

@@ -2,6 +2,7 @@
 use mathlib.Core.Path.{◌≡◌, sym, subst, ◌∙◌}
 use mathlib.Core.List.{List, [], ◌∷◌, ◌++◌}
 use mathlib.Core.Bool.{Bool, true, false, cond}
+use native.Mathlib.Omega.{arith}
 use Prim.Native.Nat.{◌+◌, ◌*◌, ◌/◌, ◌-◌}
 use lib.ListN.{length, take, drop, set}
 use lib.IntN.{ℤ}
@@ -27,12 +28,12 @@ returns c =
     let kept : (b : Bool) → c.is_large.result ≡ b → cond b (pair_up c.args.contour.now ∷ []) [] ≡ keep (is_large c.args.min_area) (pair_up c.args.contour.now ∷ []) =
     λ b e. sym (keep_one (is_large c.args.min_area) (pair_up c.args.contour.now) (sym c.is_large.ensures ∙ e)) in
     let a = c.args in
-    let p = c.requires in
     let d = 2 * a.found.points in
+    let m = d + length a.contour.now - d in
     let n = length a.contour.now / 2 in
     let after : LoopTotals = record { loops = a.found.loops + 1; points = a.found.points + n } in
-    let out : List ℤ → List ℤ = λ (l : List ℤ). take d a.out.now ++ (l ++ drop (length a.out.now - d) (drop d a.out.now)) in
+    let out : List ℤ → List ℤ = λ (l : List ℤ). take d a.out.now ++ (l ++ drop m (drop d a.out.now)) in
     let lengths = set a.lengths.now a.found.loops n in
-    subst (λ (l : List (List Point)). Adds l a.found after a.out.now a.lengths.now (out c.copy.new.out) lengths) (kept true c.if-not-is_large.false)
-    (subst (λ (l : List ℤ). Adds (pair_up a.contour.now ∷ []) a.found after a.out.now a.lengths.now (out l) lengths) (sym c.copy.ensures)
-    (adds_one a.contour.now a.found a.out.now a.lengths.now p.0.whole p.2))
+    subst (λ (l : List (List Point)). Adds l a.found after a.out.now a.lengths.now (out c.copy_from_slice.new.self) lengths) (kept true c.if-not-is_large.false)
+    (subst (λ (l : List ℤ). Adds (pair_up a.contour.now ∷ []) a.found after a.out.now a.lengths.now (out l) lengths) (sym c.copy_from_slice.ensures.after)
+    (adds_one a.contour.now a.found a.out.now a.lengths.now m c.requires.0.whole c.requires.2 (omega arith)))

@@ -4,7 +4,7 @@ use mathlib.Core.List.{List, []}
 use mathlib.Core.Bool.{true, cond}
 use native.Mathlib.Omega.{arith}
 use native.Mathlib.Numerals.{add-one}
-use Prim.Native.Nat.{ℕ, suc, ◌+◌, ◌<◌, ◌≤◌}
+use Prim.Native.Nat.{ℕ, suc, ◌+◌, ◌<◌}
 use lib.Dec.{ltb}
 use lib.ListN.{length, get_or}
 use lib.IntN.{ℤ}
@@ -12,11 +12,12 @@ use Rattle.geom.specs.declared.Point.{Point}
 use Rattle.geom.specs.Points.{in_range}
 use Rattle.lists.specs.Members.{keep}
 use Rattle.lists.proofs.Members.{in_at}
-use Rattle.contour.specs.Points.{pair_up, origin, Writes}
+use Rattle.contour.specs.Points.{pair_up, origin, AllInRange, Writes}
 use Rattle.contour.specs.Area.{is_large}
 use Rattle.contour.proofs.Points.Coordinates.{length_pairs}
 use Rattle.bin_store.specs.Sightings.{Sighting, number_of, sight}
 use Rattle.bin_store.specs.Bins.{memory}
+use Rattle.bin_store.specs.Stores.{held}
 use Rattle.bin_store.proofs.Bins.Items.{none_sighted}
 use Rattle.split_loops.specs.declared.buffer.LoopTotals.{LoopTotals}
 use Rattle.split_loops.specs.Loops.{Buffered, buffer_point}
@@ -29,186 +30,95 @@ pub loop-i-init : goal.loop-i-init
 loop-i-init c =
     let a = c.args in
     let zero : LoopTotals = record { loops = 0; points = 0 } in
+    let empty : memory a.store.count a.store.seen.now a.store.numbers.now ≡ [] = ap (λ n. memory n a.store.seen.now a.store.numbers.now) c.requires.2 ∙ none_sighted a.store.seen.now a.store.numbers.now in
     record {
-      taking = subst (λ (m : List Sighting). Taking a.min_area (pair_up a.points.now) a.out.now a.lengths.now m [] a.out.now a.lengths.now zero 0) (sym (none_sighted a.seen.now a.numbers.now)) (none-taken a.min_area (pair_up a.points.now) a.out.now a.lengths.now);
-      inside = omega arith;
+      taking = subst (λ (m : List Sighting). Taking a.min_area (pair_up a.points.now) a.out.now a.lengths.now m [] a.out.now a.lengths.now zero 0) (sym empty) (none-taken a.min_area (pair_up a.points.now) a.out.now a.lengths.now);
       len_is = refl;
       binned = c.requires.1;
-      few = omega arith;
-      heads-room = refl;
-      nexts-room = refl;
-      seen-room = refl;
-      numbers_room = refl;
-      buffer-room = refl;
-      out-room = refl;
-      lengths_room = refl;
+      few = omega (arith, c.requires.2);
+      same_lists = record { heads_same = (refl, refl); nexts_same = (refl, refl); seen_same = (refl, refl); numbers_same = (refl, refl) };
     }
 
-pub overflow_add-len : goal.overflow_add-len
-overflow_add-len c =
-    let points : List Point =
-    pair_up c.args.points.now in
-    let inside : c.loop-i.i < length points =
-    omega (arith, c.loop-i-test.true, length_pairs c.args.points.now) in
-    let few : length points ≤ 2048 =
-    omega (arith, length_pairs c.args.points.now, c.requires.0.few) in
-    let points_room : c.loop-i.found.points + c.loop-i.len ≤ c.loop-i.i =
-    omega (arith, few_points c.loop-i.invariant.taking, c.loop-i.invariant.len_is) in
-    let short : c.loop-i.len < 2048 =
-    let h = inside in let k = few in omega (arith, points_room) in
-    record { fits = omega (arith, short) }
+-- a point read is in range
+near : (l : List ℤ) (i : ℕ) (p : Point) → AllInRange (pair_up l) → i < length (pair_up l) → p ≡ get_or (pair_up l) i origin → in_range p ≡ true
+near l i p n h e = ap in_range e ∙ n _ (in_at (pair_up l) origin i h)
 
-pub overflow_cast-len : goal.overflow_cast-len
-overflow_cast-len c =
-    let points : List Point =
-    pair_up c.args.points.now in
-    let inside : c.loop-i.i < length points =
-    omega (arith, c.loop-i-test.true, length_pairs c.args.points.now) in
-    let few : length points ≤ 2048 =
-    omega (arith, length_pairs c.args.points.now, c.requires.0.few) in
-    let points_room : c.loop-i.found.points + c.loop-i.len ≤ c.loop-i.i =
-    omega (arith, few_points c.loop-i.invariant.taking, c.loop-i.invariant.len_is) in
-    let short : c.loop-i.len < 2048 =
-    let h = inside in let k = few in omega (arith, points_room) in
-    record { fits = omega (arith, short) }
-
-pub sight_point-s-requires : goal.sight_point-s-requires
-sight_point-s-requires c =
-    let points : List Point =
-    pair_up c.args.points.now in
-    let inside : c.loop-i.i < length points =
-    omega (arith, c.loop-i-test.true, length_pairs c.args.points.now) in
-    let few : length points ≤ 2048 =
-    omega (arith, length_pairs c.args.points.now, c.requires.0.few) in
-    let point-is : get_or points c.loop-i.i origin ≡ c.point_at-p.result =
-    sym c.point_at-p.ensures in
-    let in_range_lem : in_range c.point_at-p.result ≡ true =
-    ap in_range (sym point-is) ∙ c.requires.0.near _ (in_at points origin c.loop-i.i inside) in
+pub insert_if_not_exist-number-requires : goal.insert_if_not_exist-number-requires
+insert_if_not_exist-number-requires c =
+    let l = c.args.points.now in
+    let inside : c.loop-i.i < length (pair_up l) = omega (arith, c.loop-i-test.true, length_pairs l) in
     let i = c.loop-i.invariant in
-    let q = c.requires in
-    let h = inside in
-    let k = few in (
+    let w = c.requires.3 in
+    let h = inside in (
       i.binned,
       record {
-        few = omega (arith, i.few);
-        nexts_fit = omega (arith, i.few, i.nexts-room, q.2.nexts_fit);
-        seen_fit = omega (arith, i.few, i.seen-room, q.2.seen_fit);
-        numbers_fit = omega (arith, i.few, i.numbers_room, q.2.numbers_fit);
+        few = omega (arith, i.few, length_pairs l, c.requires.0.few);
+        nexts_fit = omega (arith, i.few, i.same_lists.nexts_same.1, w.nexts_fit);
+        seen_fit = omega (arith, i.few, i.same_lists.seen_same.1, w.seen_fit);
+        numbers_fit = omega (arith, i.few, i.same_lists.numbers_same.1, w.numbers_fit);
       },
-      in_range_lem,
+      near l c.loop-i.i c.point_at-p.result c.requires.0.near inside c.point_at-p.ensures,
     )
 
 pub close-found-requires : goal.close-found-requires
 close-found-requires c =
-    let points : List Point =
-    pair_up c.args.points.now in
-    let inside : c.loop-i.i < length points =
-    omega (arith, c.loop-i-test.true, length_pairs c.args.points.now) in
-    let few : length points ≤ 2048 =
-    omega (arith, length_pairs c.args.points.now, c.requires.0.few) in
-    let points_room : c.loop-i.found.points + c.loop-i.len ≤ c.loop-i.i =
-    omega (arith, few_points c.loop-i.invariant.taking, c.loop-i.invariant.len_is) in
-    let loops-room : c.loop-i.found.loops + c.loop-i.len ≤ c.loop-i.i =
-    omega (arith, few_loops c.loop-i.invariant.taking, c.loop-i.invariant.len_is) in
-    let short : c.loop-i.len < 2048 =
-    let h = inside in let k = few in omega (arith, points_room) in
-    let point-is : get_or points c.loop-i.i origin ≡ c.point_at-p.result =
-    sym c.point_at-p.ensures in
-    let in_range_lem : in_range c.point_at-p.result ≡ true =
-    ap in_range (sym point-is) ∙ c.requires.0.near _ (in_at points origin c.loop-i.i inside) in
+    let l = c.args.points.now in
+    let inside : c.loop-i.i < length (pair_up l) = omega (arith, c.loop-i-test.true, length_pairs l) in
+    let few : length (pair_up l) < 2049 = omega (arith, length_pairs l, c.requires.0.few) in
     let i = c.loop-i.invariant in
-    let q = c.requires in
-    let h = inside in
-    let f = few in
-    let m = points_room in
-    let n = loops-room in (
-      in_range_lem,
-      short,
-      omega (arith, i.buffer-room, q.2.buffer_fits),
-      omega (arith, i.buffer-room, q.2.buffer_few),
+    let points_room : c.loop-i.found.points + c.loop-i.len < length (pair_up l) = omega (arith, few_points i.taking, i.len_is, inside) in
+    let loops_room : c.loop-i.found.loops + c.loop-i.len < length (pair_up l) = omega (arith, few_loops i.taking, i.len_is, inside) in
+    let s = c.loop-i.auto in
+    let q = c.requires in (
+      near l c.loop-i.i c.point_at-p.result q.0.near inside c.point_at-p.ensures,
+      omega (arith, points_room, few),
+      omega (arith, points_room, s.buffer, q.3.buffer_fits),
+      omega (arith, s.buffer, q.3.buffer_few),
       i.taking.near,
-      omega (arith, i.out-room, q.3, length_pairs c.args.points.now),
-      omega (arith, i.lengths_room, q.4),
-      omega arith,
-      omega arith,
+      omega (arith, points_room, s.out, q.4, length_pairs l),
+      omega (arith, loops_room, s.lengths, q.5),
+      omega (arith, loops_room, few),
+      omega (arith, points_room, few),
     )
-
-pub length_after-len-requires : goal.length_after-len-requires
-length_after-len-requires c =
-    let points : List Point =
-    pair_up c.args.points.now in
-    let inside : c.loop-i.i < length points =
-    omega (arith, c.loop-i-test.true, length_pairs c.args.points.now) in
-    let few : length points ≤ 2048 =
-    omega (arith, length_pairs c.args.points.now, c.requires.0.few) in
-    let points_room : c.loop-i.found.points + c.loop-i.len ≤ c.loop-i.i =
-    omega (arith, few_points c.loop-i.invariant.taking, c.loop-i.invariant.len_is) in
-    let short : c.loop-i.len < 2048 =
-    let h = inside in let k = few in omega (arith, points_room) in
-    short
-
-pub overflow_add-i : goal.overflow_add-i
-overflow_add-i c =
-    let points : List Point =
-    pair_up c.args.points.now in
-    let inside : c.loop-i.i < length points =
-    omega (arith, c.loop-i-test.true, length_pairs c.args.points.now) in
-    let few : length points ≤ 2048 =
-    omega (arith, length_pairs c.args.points.now, c.requires.0.few) in
-    record { fits = omega (arith, inside, few) }
-
-pub loop-i-smaller : goal.loop-i-smaller
-loop-i-smaller c = omega (arith, c.loop-i-test.true)
 
 pub loop-i-preserved : goal.loop-i-preserved
 loop-i-preserved c =
-    let points : List Point =
-    pair_up c.args.points.now in
-    let buffer : List Point =
-    first_points c.loop-i.len c.loop-i.buffer in
-    let inside : c.loop-i.i < length points =
-    omega (arith, c.loop-i-test.true, length_pairs c.args.points.now) in
-    let point-is : get_or points c.loop-i.i origin ≡ c.point_at-p.result =
-    sym c.point_at-p.ensures in
-    let in_range_lem : in_range c.point_at-p.result ≡ true =
-    ap in_range (sym point-is) ∙ c.requires.0.near _ (in_at points origin c.loop-i.i inside) in
-    let after : List Sighting =
-    memory c.sight_point-s.result.count c.sight_point-s.new.seen c.sight_point-s.new.numbers in
-    let sighted : after ≡ sight (memory c.loop-i.count c.loop-i.seen c.loop-i.numbers) c.point_at-p.result (suc (length buffer)) =
-    c.sight_point-s.ensures.0 ∙ ap (sight (memory c.loop-i.count c.loop-i.seen c.loop-i.numbers) c.point_at-p.result) (add-one c.loop-i.len ∙ ap suc c.loop-i.invariant.len_is) in
-    let number_is : c.sight_point-s.result.number ≡ number_of after c.point_at-p.result =
-    c.sight_point-s.ensures.1 in
-    let one : ℕ → Buffered =
-    λ number. buffer_point number buffer c.point_at-p.result in
-    let turned-is : one c.sight_point-s.result.number ≡ one (number_of after c.point_at-p.result) =
-    ap one number_is in
-    let added : Adds (keep (is_large c.args.min_area) (one (number_of after c.point_at-p.result)).loops) c.loop-i.found c.close-found.result c.loop-i.out c.loop-i.lengths c.close-found.new.out c.close-found.new.lengths =
-    subst (λ (t : Buffered). Adds (keep (is_large c.args.min_area) t.loops) c.loop-i.found c.close-found.result c.loop-i.out c.loop-i.lengths c.close-found.new.out c.close-found.new.lengths) turned-is c.close-found.ensures.1 in
-    let more : Taking c.args.min_area points c.args.out.now c.args.lengths.now after (one (number_of after c.point_at-p.result)).buffer c.close-found.new.out c.close-found.new.lengths c.close-found.result (c.loop-i.i + 1) =
-    taken_more c.loop-i.invariant.taking c.point_at-p.result after point-is inside in_range_lem sighted added in
-    let put : List ℤ =
-    c.close-found.new.buffer in
-    let len_is : c.length_after-len.result ≡ length (one c.sight_point-s.result.number).buffer =
-    c.length_after-len.ensures ∙ ap (λ (m : ℕ). cond (ltb c.sight_point-s.result.number m) c.sight_point-s.result.number (suc m)) c.loop-i.invariant.len_is
-    ∙ sym (length-buffered c.sight_point-s.result.number buffer c.point_at-p.result) in
-    let front-is : first_points c.length_after-len.result put ≡ (one c.sight_point-s.result.number).buffer =
-    ap (λ (m : ℕ). first_points m put) len_is ∙ c.close-found.ensures.0 in
+    let l = c.args.points.now in
+    let points = pair_up l in
+    let inside : c.loop-i.i < length points = omega (arith, c.loop-i-test.true, length_pairs l) in
     let i = c.loop-i.invariant in
+    let p = c.point_at-p.result in
+    let told = c.insert_if_not_exist-number in
+    let buffer : List Point = first_points c.loop-i.len c.loop-i.buffer in
+    let after : List Sighting = held told.new.self in
+    let sighted : after ≡ sight (held c.loop-i.store) p (suc (length buffer)) = told.ensures.holds ∙ ap (sight (held c.loop-i.store) p) (add-one c.loop-i.len ∙ ap suc i.len_is) in
+    let one : ℕ → Buffered = λ number. buffer_point number buffer p in
+    let same : one told.result ≡ one (number_of after p) = ap one told.ensures.tells in
+    let close = c.close-found in
+    let added : Adds (keep (is_large c.args.min_area) (one (number_of after p)).loops) c.loop-i.found close.result c.loop-i.out c.loop-i.lengths close.new.out close.new.lengths =
+    subst (λ (t : Buffered). Adds (keep (is_large c.args.min_area) t.loops) c.loop-i.found close.result c.loop-i.out c.loop-i.lengths close.new.out close.new.lengths) same close.ensures.1 in
+    let more : Taking c.args.min_area points c.args.out.now c.args.lengths.now after (one (number_of after p)).buffer close.new.out close.new.lengths close.result (c.loop-i.i + 1) =
+    taken_more i.taking p after (sym c.point_at-p.ensures) inside (near l c.loop-i.i p c.requires.0.near inside c.point_at-p.ensures) sighted added in
+    let len_is : c.length_after-len.result ≡ length (one told.result).buffer =
+    c.length_after-len.ensures ∙ ap (λ (m : ℕ). cond (ltb told.result m) told.result (suc m)) i.len_is ∙ sym (length-buffered told.result buffer p) in
+    let front-is : first_points c.length_after-len.result close.new.buffer ≡ (one told.result).buffer =
+    ap (λ (m : ℕ). first_points m close.new.buffer) len_is ∙ close.ensures.0 in
     let a = c.args in
-    let h = inside in
+    let s = i.same_lists in
+    let t = told.ensures.same_lists in
     record {
-      taking = subst (λ (b : List Point). Taking a.min_area points a.out.now a.lengths.now after b c.close-found.new.out c.close-found.new.lengths c.close-found.result (c.loop-i.i + 1)) (sym (front-is ∙ ap (λ (t : Buffered). t.buffer) turned-is)) more;
-      inside = omega arith;
+      taking =
+          subst (λ (b : List Point). Taking a.min_area points a.out.now a.lengths.now after b close.new.out close.new.lengths close.result (c.loop-i.i + 1))
+          (sym (front-is ∙ ap (λ (t : Buffered). t.buffer) same)) more;
       len_is = len_is ∙ sym (ap length front-is);
-      binned = c.sight_point-s.ensures.3;
-      few = omega (arith, i.few, c.sight_point-s.ensures.2);
-      heads-room = c.sight_point-s.auto.heads ∙ i.heads-room;
-      nexts-room = c.sight_point-s.auto.nexts ∙ i.nexts-room;
-      seen-room = c.sight_point-s.auto.seen ∙ i.seen-room;
-      numbers_room = c.sight_point-s.auto.numbers ∙ i.numbers_room;
-      buffer-room = c.close-found.auto.buffer ∙ i.buffer-room;
-      out-room = c.close-found.auto.out ∙ i.out-room;
-      lengths_room = c.close-found.auto.lengths ∙ i.lengths_room;
+      binned = told.ensures.binned;
+      few = omega (arith, i.few, told.ensures.one_more);
+      same_lists = record {
+        heads_same = (t.heads_same.0 ∙ s.heads_same.0, t.heads_same.1 ∙ s.heads_same.1);
+        nexts_same = (t.nexts_same.0 ∙ s.nexts_same.0, t.nexts_same.1 ∙ s.nexts_same.1);
+        seen_same = (t.seen_same.0 ∙ s.seen_same.0, t.seen_same.1 ∙ s.seen_same.1);
+        numbers_same = (t.numbers_same.0 ∙ s.numbers_same.0, t.numbers_same.1 ∙ s.numbers_same.1);
+      };
     }
 
 pub returns : goal.returns

@@ -1,96 +1,107 @@
 -- What is left of the text decides.
 use mathlib.Core.Path.{◌≡◌, refl, sym, ap, ◌∙◌}
-use mathlib.Core.List.{List, ◌∷◌, flatten}
-use mathlib.Core.Option.{Option}
 use mathlib.Core.Bool.{Bool, true}
-use Prim.Native.Nat.{ℕ, suc, ◌+◌, ◌-◌, ◌≤◌}
+use mathlib.Core.List.{List, [], ◌∷◌, flatten}
+use Prim.Native.Nat.{ℕ, suc, ◌+◌, ◌<◌, ◌≤◌}
 use native.Mathlib.Nat.{add-zero}
 use native.Mathlib.Numerals.{add-one}
 use native.Mathlib.Omega.{arith}
-use borrow.Author.Tests.{eq-eqb, ne_eqb}
-use lib.ListN.{length, take, drop, length-drop, drop_of_length-le}
+use lib.Dec.{eqb}
+use lib.ListN.{length, take, drop, length-drop}
 use lib.Seq.{length-take-le}
 use lib.IntN.{ℤ}
-use Rattle.text.specs.Finding.{slice, index_of}
-use Rattle.text.specs.Grammar.{pieces, row, and_lines, rows_from}
-use Rattle.text.specs.Storing.{row_stored, list_if, rows_stored}
-use Rattle.text.proofs.Grammar.Finding.{past, cut}
+use Rattle.std.specs.Prelude.{Option, Some, None, Err, position}
+use Rattle.text.specs.Grammar.{pieces, row, and_lines, after_last, rows_from}
+use Rattle.text.specs.Storing.{row_stored, list_if, rows_stored, lines_stored, Nothing, Numbers}
+use Rattle.text.proofs.Grammar.Finding.{cut_at, not_cut, past}
 use Rattle.text.proofs.Storing.StoredRows.{row-length, fields_later, last_bad, line_bad, lines_next, row_stored_lem, line_stored}
 use Rattle.text.proofs.Writing.{row_narrow}
 use Rattle.text.proofs.lines.read_lines.Invariants.{Walked}
 use Rattle.text.proofs.lines.read_lines.Goals as goal
 
-pub loop-start-init : goal.loop-start-init
-loop-start-init c = record { within = c.requires.0; later = omega arith; lines = omega arith; places = omega arith; room = refl; rest = refl }
+pub loop-end-init : goal.loop-end-init
+loop-end-init c = record { later = omega arith; lines = omega arith; places = omega arith; left = refl }
 
 -- the line that was found
-abbrev piece : (text : List ℕ) (start end : ℕ) → List ℕ
-piece text start end = take (end - start) (drop start text)
+module _ {text : List ℕ} {width : ℕ} {old numbers : List ℤ} {rest : List ℕ} {line at : ℕ} (l : Walked text width old numbers rest line at) {end : ℕ} (f : Some end ≡ position (λ x. eqb x 10) rest) where
+  inside : end < length rest
+  inside = (cut_at 10 rest end f).0
 
-module _ {text : List ℕ} {from width : ℕ} {old numbers : List ℤ} {start line at end : ℕ} (l : Walked text from width old numbers start line at) (f : (end ≡ start + index_of 10 (slice start (length text) text)) × (end ≤ length text)) where
-  cut-here : rows_stored 0 old (rows_from width 2 (pieces 10 (drop from text))) ≡ rows_stored at numbers (rows_from width line (piece text start end ∷ past 10 text end))
-  cut-here = l.rest ∙ ap (λ lines. rows_stored at numbers (rows_from width line lines)) (cut 10 text start end l.within f.0 f.1)
-
-  piece-length : length (piece text start end) ≡ end - start
-  piece-length = length-take-le (end - start) (drop start text) (omega (arith, length-drop start text, f.1))
-
-  -- the line that was read
-  next : (end ≡ length text → ⊥) → rows_stored 0 old (rows_from width 2 (pieces 10 (drop from text))) ≡ rows_stored at numbers (and_lines line (row width (pieces 44 (piece text start end))) (rows_from width (suc line) (pieces 10 (drop (end + 1) text))))
-  next n = cut-here ∙ rw (ne_eqb end (length text) n, lines_next width line (piece text start end) (drop (end + 1) text), fields_later width line l.later)
+  next : rows_stored 0 old (rows_from width 2 (pieces 10 text)) ≡ rows_stored at numbers (and_lines line (row width (pieces 44 (take end rest))) (rows_from width (suc line) (pieces 10 (drop (end + 1) rest))))
+  next =
+      l.left
+      ∙ ap (λ lines. rows_stored at numbers (rows_from width line lines)) (cut_at 10 rest end f).1
+      ∙ ap (rows_stored at numbers) (lines_next width line (take end rest) (drop (end + 1) rest))
+      ∙ ap (λ k. rows_stored at numbers (and_lines line (row k (pieces 44 (take end rest))) (rows_from width (suc line) (pieces 10 (drop (end + 1) rest))))) (fields_later width line l.later)
 
   -- a good line has its numbers, which leave few for the lines before it
-  narrow : (new : List ℤ) → list_if true new ≡ row_stored at numbers (row width (pieces 44 (piece text start end))) → at + width ≤ end + 1
-  narrow new told = row_stored_lem at numbers new (row width (pieces 44 (piece text start end))) told (λ zs e. omega (arith, row_narrow width (piece text start end) zs e, piece-length, l.places, f.0))
-
-pub returns-then-end-text : goal.returns-then-end-text
-unfolding rows_from
-returns-then-end-text c =
-    let text = c.args.text.now in
-    let p = piece text c.loop-start.start c.find-end.result in
-    sym
-    (cut-here c.loop-start.invariant c.find-end.ensures
-    ∙ rw (eq-eqb c.find-end.result (length text) c.if-end-text.true, last_bad c.loop-start.line p (omega (arith, c.loop-start-test.true, c.if-end-text.true, piece-length c.loop-start.invariant c.find-end.ensures))))
-
-pub read_line-requires : goal.read_line-requires
-read_line-requires c = omega (arith, piece-length c.loop-start.invariant c.find-end.ensures, c.loop-start.invariant.places, c.find-end.ensures.0, c.find-end.ensures.1, c.requires.1)
+  narrow : (new : List ℤ) → list_if true new ≡ row_stored at numbers (row width (pieces 44 (take end rest))) → width ≤ end + 1
+  narrow new told = row_stored_lem at numbers new (row width (pieces 44 (take end rest))) told (λ zs e. omega (arith, row_narrow width (take end rest) zs e, length-take-le end rest (omega (arith, inside))))
 
 -- what reading the line told
 told : (new : List ℤ) {t u : Bool} {o : Option (List ℤ)} → t ≡ u → list_if t new ≡ o → list_if u new ≡ o
 told new q e = ap (λ t. list_if t new) (sym q) ∙ e
 
+pub read_line-requires : goal.read_line-requires
+read_line-requires c = omega (arith, inside c.loop-end.invariant (sym c.in-Some.is ∙ c.find.ensures), length-take-le c.in-Some.end c.loop-end.rest.now)
+
 pub returns-then-not-read_line : goal.returns-then-not-read_line
 returns-then-not-read_line c =
-    let text = c.args.text.now in
-    let l = c.loop-start in
-    let r = row c.args.width (pieces 44 (piece text l.start c.find-end.result)) in
-    let after = rows_from c.args.width (suc l.line) (pieces 10 (drop (c.find-end.result + 1) text)) in
-    sym (next l.invariant c.find-end.ensures c.if-end-text.false ∙ rw (line_bad l.line l.at l.numbers r after (told c.read_line.new.numbers c.if-not-read_line.true c.read_line.ensures)))
+    let l = c.loop-end in
+    let r = row c.args.width (pieces 44 (take c.in-Some.end l.rest.now)) in
+    let below = rows_from c.args.width (suc l.line) (pieces 10 (drop (c.in-Some.end + 1) l.rest.now)) in
+    ap (λ r. lines_stored (Err r) c.read_line.new.numbers) c.bad_line.ensures
+    ∙ sym (next l.invariant (sym c.in-Some.is ∙ c.find.ensures) ∙ ap (rows_stored l.at l.numbers) (line_bad l.line l.at l.numbers r below (told c.read_line.new.numbers c.if-not-read_line.true c.read_line.ensures)))
 
 pub overflow_add-at : goal.overflow_add-at
-overflow_add-at c = record { fits = omega (arith, narrow c.loop-start.invariant c.find-end.ensures c.read_line.new.numbers (told c.read_line.new.numbers c.if-not-read_line.false c.read_line.ensures), c.find-end.ensures.1, c.requires.1) }
+overflow_add-at c =
+    let f = sym c.in-Some.is ∙ c.find.ensures in
+    omega (arith, narrow c.loop-end.invariant f c.read_line.new.numbers (told c.read_line.new.numbers c.if-not-read_line.false c.read_line.ensures), inside c.loop-end.invariant f, c.requires)
 
-pub loop-start-preserved : goal.loop-start-preserved
-loop-start-preserved c =
-    let text = c.args.text.now in
-    let l = c.loop-start in
-    let v = c.loop-start.invariant in
-    let f = c.find-end.ensures in
-    let r = row c.args.width (pieces 44 (piece text l.start c.find-end.result)) in
-    let after = rows_from c.args.width (suc l.line) (pieces 10 (drop (c.find-end.result + 1) text)) in
+pub loop-end-preserved : goal.loop-end-preserved
+loop-end-preserved c =
+    let l = c.loop-end in
+    let v = l.invariant in
+    let rest = l.rest.now in
+    let end = c.in-Some.end in
+    let f = sym c.in-Some.is ∙ c.find.ensures in
+    let r = row c.args.width (pieces 44 (take end rest)) in
+    let below = rows_from c.args.width (suc l.line) (pieces 10 (drop (end + 1) rest)) in
     let good = told c.read_line.new.numbers c.if-not-read_line.false c.read_line.ensures in
+    let left = ap length (past rest end) ∙ length-drop (end + 1) rest in
     record {
-      within = omega (arith, f.1, c.if-end-text.false);
       later = omega (arith, v.later);
-      lines = omega (arith, v.lines, f.0);
-      places = narrow v f c.read_line.new.numbers good;
-      room = c.read_line.auto.numbers ∙ v.room;
-      rest =
-          next v f c.if-end-text.false
-          ∙ line_stored l.line l.at c.args.width l.numbers c.read_line.new.numbers r after (row-length c.args.width (pieces 44 (piece text l.start c.find-end.result))) good
-          ∙ rw (← add-one l.line);
+      lines = omega (arith, v.lines, left, inside v f);
+      places = omega (arith, v.places, narrow v f c.read_line.new.numbers good, left, inside v f);
+      left =
+          next v f
+          ∙ line_stored l.line l.at c.args.width l.numbers c.read_line.new.numbers r below (row-length c.args.width (pieces 44 (take end rest))) good
+          ∙ ap (λ k. rows_stored (l.at + c.args.width) c.read_line.new.numbers (rows_from c.args.width k (pieces 10 (drop (end + 1) rest)))) (sym (add-one l.line))
+          ∙ ap (λ (t : List ℕ). rows_stored (l.at + c.args.width) c.read_line.new.numbers (rows_from c.args.width (l.line + 1) (pieces 10 t))) (sym (past rest end));
     }
 
-pub returns : goal.returns
-unfolding rows_from pieces flatten
-returns c =
-    sym (c.loop-start.invariant.rest ∙ rw (drop_of_length-le c.args.text.now {i = c.loop-start.start} c.loop-start-test.false, add-zero c.loop-start.at))
+pub loop-end-smaller : goal.loop-end-smaller
+loop-end-smaller c =
+    omega (arith, inside c.loop-end.invariant (sym c.in-Some.is ∙ c.find.ensures), ap length (past c.loop-end.rest.now c.in-Some.end), length-drop (c.in-Some.end + 1) c.loop-end.rest.now)
+
+-- no LF is left
+module _ {text : List ℕ} {width : ℕ} {old numbers : List ℤ} {rest : List ℕ} {line at : ℕ} (l : Walked text width old numbers rest line at) (f : None ≡ position (λ x. eqb x 10) rest) where
+  last : rows_stored 0 old (rows_from width 2 (pieces 10 text)) ≡ rows_stored at numbers (after_last line rest)
+  unfolding rows_from
+  last = l.left ∙ ap (λ lines. rows_stored at numbers (rows_from width line lines)) (not_cut 10 rest f)
+
+none_left : (at line : ℕ) (l : List ℤ) (rest : List ℕ) → length rest ≡ 0 → Numbers at l ≡ rows_stored at l (after_last line rest)
+unfolding flatten
+none_left at line l [] h = ap (λ n. Numbers n l) (sym (add-zero at))
+none_left at line l (b ∷ rest) h = absurd (omega arith)
+
+pub returns-then-is_empty : goal.returns-then-is_empty
+returns-then-is_empty c =
+    let l = c.loop-end in
+    none_left l.at l.line l.numbers l.rest.now (grind arith) ∙ sym (last l.invariant (sym c.in_default.is ∙ c.find.ensures))
+
+pub returns-else-is_empty : goal.returns-else-is_empty
+returns-else-is_empty c =
+    let l = c.loop-end in
+    let some : 0 < length l.rest.now = grind arith in
+    ap Nothing c.bad_line-else-is_empty.ensures ∙ sym (last l.invariant (sym c.in_default.is ∙ c.find.ensures) ∙ ap (rows_stored l.at l.numbers) (last_bad l.line l.rest.now some))

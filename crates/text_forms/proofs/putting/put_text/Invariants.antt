@@ -1,6 +1,6 @@
 -- The lines passed are put.
 use mathlib.Core.List.{List, map}
-use Prim.Native.Nat.{ℕ, ◌-◌}
+use Prim.Native.Nat.{ℕ}
 use lib.ListN.{drop}
 use lib.IntN.{ℤ}
 use Rattle.segm.specs.Segments.{segments}
@@ -16,7 +16,4 @@ line row = line_of (map signed row)
 
 -- from where the loop begins, once the first line is put
 abbrev pub invariant-loop-i : goal.invariant-loop-i
-invariant-loop-i l = Left (text_of (rows l.k (segments l.numbers))) l.initial.out l.initial.next (text_of (rows l.k (drop l.i (segments l.numbers)))) l.next l.out
-
-abbrev pub decreases-loop-i : goal.decreases-loop-i
-decreases-loop-i l = l.n - l.i
+invariant-loop-i l = Left (text_of (rows l.k (segments l.numbers))) l.initial.text (text_of (rows l.k (drop l.i (segments l.numbers)))) l.text

@@ -31,7 +31,7 @@ unfolding text_length tally
 few form c d h = few_bytes form c d h
 
 pub line_length-total-requires : goal.line_length-total-requires
-line_length-total-requires c = omega (arith, ap row_length c.first_row-first.ensures.0, few c.args.form c.args.c (segments c.args.numbers.now) c.requires)
+line_length-total-requires c = omega (arith, ap row_length c.first_row.ensures.0, few c.args.form c.args.c (segments c.args.numbers.now) c.requires)
 
 -- the first line was counted
 begun : (form : Form) (c : Choices) (d : Drawing) {row : List ℤ} {k first : ℕ} → row ≡ choice_numbers c → k ≡ fields_of form → first ≡ row_length row → first + text_length (rows k d) ≡ all form c d
@@ -46,40 +46,40 @@ unfolding text_length tally
 more k d i h = ap (tally row_length) (rows_more k d i h)
 
 pub overflow_mul-from : goal.overflow_mul-from
-overflow_mul-from c = omega (arith, (row_at c.args.form c.args.numbers.now c.fields-k.ensures c.count-n.ensures c.loop-i-test.true).room)
+overflow_mul-from c = omega (arith, (row_at c.args.form c.args.numbers.now c.fields-k.ensures c.count-i-end.ensures c.loop-i-test.true).room)
 
 pub overflow_add-from : goal.overflow_add-from
-overflow_add-from c = let at = row_at c.args.form c.args.numbers.now c.fields-k.ensures c.count-n.ensures c.loop-i-test.true in omega (arith, at.room, at.few)
+overflow_add-from c = let at = row_at c.args.form c.args.numbers.now c.fields-k.ensures c.count-i-end.ensures c.loop-i-test.true in omega (arith, at.room, at.few)
 
 pub offset_bounds-numbers-from : goal.offset_bounds-numbers-from
-offset_bounds-numbers-from c = let h = (row_at c.args.form c.args.numbers.now c.fields-k.ensures c.count-n.ensures c.loop-i-test.true).room in search rules
+offset_bounds-numbers-from c = let h = (row_at c.args.form c.args.numbers.now c.fields-k.ensures c.count-i-end.ensures c.loop-i-test.true).room in search rules
 
 pub slice_bounds-line_length-count : goal.slice_bounds-line_length-count
-slice_bounds-line_length-count c = let at = row_at c.args.form c.args.numbers.now c.fields-k.ensures c.count-n.ensures c.loop-i-test.true in omega (arith, at.room, at.few)
+slice_bounds-line_length-count c = let at = row_at c.args.form c.args.numbers.now c.fields-k.ensures c.count-i-end.ensures c.loop-i-test.true in omega (arith, at.room, at.few)
 
 pub slice_bounds-line_length-end-in-loop-i : goal.slice_bounds-line_length-end-in-loop-i
-slice_bounds-line_length-end-in-loop-i c = let at = row_at c.args.form c.args.numbers.now c.fields-k.ensures c.count-n.ensures c.loop-i-test.true in omega (arith, at.room, at.few)
+slice_bounds-line_length-end-in-loop-i c = let at = row_at c.args.form c.args.numbers.now c.fields-k.ensures c.count-i-end.ensures c.loop-i-test.true in omega (arith, at.room, at.few)
 
 pub line_length-total-requires-in-loop-i : goal.line_length-total-requires-in-loop-i
 line_length-total-requires-in-loop-i c =
     let d = segments c.args.numbers.now in
-    let at = row_at c.args.form c.args.numbers.now c.fields-k.ensures c.count-n.ensures c.loop-i-test.true in
-    omega (arith, ap row_length at.is, more c.fields-k.result d c.loop-i.i at.inside, c.loop-i.invariant, begun c.args.form c.args.c d c.first_row-first.ensures.0 c.fields-k.ensures c.line_length-total.ensures, few c.args.form c.args.c d c.requires)
+    let at = row_at c.args.form c.args.numbers.now c.fields-k.ensures c.count-i-end.ensures c.loop-i-test.true in
+    omega (arith, ap row_length at.is, more c.fields-k.result d c.loop-i.i at.inside, c.loop-i.invariant, begun c.args.form c.args.c d c.first_row.ensures.0 c.fields-k.ensures c.line_length-total.ensures, few c.args.form c.args.c d c.requires)
 
 pub overflow_add-total : goal.overflow_add-total
 overflow_add-total c =
     let d = segments c.args.numbers.now in
-    let at = row_at c.args.form c.args.numbers.now c.fields-k.ensures c.count-n.ensures c.loop-i-test.true in
-    omega (arith, c.line_length-total-in-loop-i.ensures, ap row_length at.is, more c.fields-k.result d c.loop-i.i at.inside, c.loop-i.invariant, begun c.args.form c.args.c d c.first_row-first.ensures.0 c.fields-k.ensures c.line_length-total.ensures, few c.args.form c.args.c d c.requires)
+    let at = row_at c.args.form c.args.numbers.now c.fields-k.ensures c.count-i-end.ensures c.loop-i-test.true in
+    omega (arith, c.line_length-total-in-loop-i.ensures, ap row_length at.is, more c.fields-k.result d c.loop-i.i at.inside, c.loop-i.invariant, begun c.args.form c.args.c d c.first_row.ensures.0 c.fields-k.ensures c.line_length-total.ensures, few c.args.form c.args.c d c.requires)
 
 pub loop-i-preserved : goal.loop-i-preserved
 loop-i-preserved c =
-    let at = row_at c.args.form c.args.numbers.now c.fields-k.ensures c.count-n.ensures c.loop-i-test.true in
+    let at = row_at c.args.form c.args.numbers.now c.fields-k.ensures c.count-i-end.ensures c.loop-i-test.true in
     omega (arith, c.loop-i.invariant, c.line_length-total-in-loop-i.ensures, ap row_length at.is, more c.fields-k.result (segments c.args.numbers.now) c.loop-i.i at.inside)
 
 pub returns : goal.returns
 unfolding text_length tally
 returns c =
     let d = segments c.args.numbers.now in
-    let none_left = ap (tally row_length) (rows_none c.fields-k.result d c.loop-i.i (count_past c.args.numbers.now c.count-n.ensures c.loop-i-test.false)) in
-    omega (arith, c.loop-i.invariant, none_left, begun c.args.form c.args.c d c.first_row-first.ensures.0 c.fields-k.ensures c.line_length-total.ensures, whole c.args.form c.args.c d)
+    let none_left = ap (tally row_length) (rows_none c.fields-k.result d c.loop-i.i (count_past c.args.numbers.now c.count-i-end.ensures c.loop-i-test.false)) in
+    omega (arith, c.loop-i.invariant, none_left, begun c.args.form c.args.c d c.first_row.ensures.0 c.fields-k.ensures c.line_length-total.ensures, whole c.args.form c.args.c d)
