@@ -8,11 +8,13 @@ ghost use Rattle.lists.specs.Written.{written};
 ghost use Rattle.contour.specs.Points.{coordinates, pair_up};
 ghost use Rattle.split_loops.specs.Loops.{split_loops};
 ghost use Rattle.split_loops.specs.Splitting.{loop_totals};
-ghost use Rattle.split_loops.specs.Splitting.{Working, Splittable};
+ghost use Rattle.split_loops.specs.Splitting.{HasRoom, Splittable};
 ghost use Rattle.contour.specs.Contour.{contour_of};
 ghost use Rattle.slice_cut.specs.Cutting.{walk_contours, points_of, roles_of, counts, Holds, paths_in, cut_walks, Stand};
 
-use split_loops::{COORDINATES, HEADS, LoopTotals, MOST, SMALL, SMALL_COORDINATES, SMALL_HEADS};
+use split_loops::{
+    COORDINATES, HEADS, LoopTotals, MOST, SMALL, SMALL_COORDINATES, SMALL_HEADS, SplitMemory,
+};
 
 // How many contours and points were found.
 #[derive(Clone, Copy)]
@@ -41,91 +43,31 @@ fn finish_all(
     }
 }
 
-// The contours of one walk. The lists from `heads` to `buffer` are working memory.
+// The contours of one walk.
 fn cut_walk(
     walk: &[i32],
     direction: bool,
     clockwise: bool,
     min_area: u64,
-    heads: &mut [u16],
-    nexts: &mut [u16],
-    seen: &mut [i32],
-    numbers: &mut [u16],
-    buffer: &mut [i32],
+    memory: SplitMemory,
     points: &mut [i32],
     lengths: &mut [u32],
     roles: &mut [u8],
 ) -> LoopTotals
     requires { Splittable walk.now
-        × Working (length (pair_up walk.now)) heads.old nexts.old seen.old numbers.old buffer.old
+        × HasRoom (length (pair_up walk.now)) memory
         × (length walk.now ≤ length points.old)
         × (length (pair_up walk.now) ≤ length lengths.old)
         × (length (pair_up walk.now) ≤ length roles.old) }
     ensures { (result ≡ loop_totals (split_loops min_area (pair_up walk.now)))
         × Holds (walk_contours clockwise min_area direction (pair_up walk.now)) points.old lengths.old roles.old points.new lengths.new roles.new }
 {
-    let found = split_loops::split_loops(
-        walk, min_area, heads, nexts, seen, numbers, buffer, points, lengths,
-    );
+    let found = split_loops::split_loops(walk, min_area, memory, points, lengths);
     finish_all(points, &lengths[..found.loops], roles, direction, clockwise);
     found
 }
 
-// The contours of all walks, in order.
-fn cut_all(
-    walks: &[i32],
-    walk_lengths: &[u16],
-    directions: &[u8],
-    clockwise: bool,
-    min_area: u64,
-    heads: &mut [u16],
-    nexts: &mut [u16],
-    seen: &mut [i32],
-    numbers: &mut [u16],
-    buffer: &mut [i32],
-    points: &mut [i32],
-    lengths: &mut [u32],
-    roles: &mut [u8],
-) -> Contours
-    requires { Stand walks.now walk_lengths.now
-        × (length directions.now ≡ length walk_lengths.now)
-        × Working (tally (λ n. n) walk_lengths.now) heads.old nexts.old seen.old numbers.old buffer.old
-        × (2 * length (flatten (paths_in walks.now walk_lengths.now)) ≤ length points.old)
-        × (length (flatten (paths_in walks.now walk_lengths.now)) ≤ length lengths.old)
-        × (length (flatten (paths_in walks.now walk_lengths.now)) ≤ length roles.old) }
-    ensures { (result ≡ counts (cut_walks clockwise min_area (paths_in walks.now walk_lengths.now) directions.now))
-        × Holds (cut_walks clockwise min_area (paths_in walks.now walk_lengths.now) directions.now) points.old lengths.old roles.old points.new lengths.new roles.new }
-{
-    let mut contours = 0;
-    let mut at = 0;
-    let mut from = 0;
-    for (k, length) in walk_lengths.iter().enumerate() {
-        let to = from + 2 * *length as usize;
-        let found = cut_walk(
-            &walks[from..to],
-            directions[k] == 1,
-            clockwise,
-            min_area,
-            heads,
-            nexts,
-            seen,
-            numbers,
-            buffer,
-            &mut points[2 * at..],
-            &mut lengths[contours..],
-            &mut roles[contours..],
-        );
-        contours += found.loops;
-        at += found.points;
-        from = to;
-    }
-    Contours {
-        contours,
-        points: at,
-    }
-}
-
-// The contours of all walks. It owns the memory for up to POINTS points, and stands by itself, so that no other memory stands beside it.
+// The contours of all walks, in order. It owns the memory for up to POINTS points, and stands by itself, so that no other memory stands beside it.
 #[inline(never)]
 fn cut_in<const POINTS: usize, const NUMBERS: usize, const BINS: usize>(
     walks: &[i32],
@@ -150,21 +92,35 @@ fn cut_in<const POINTS: usize, const NUMBERS: usize, const BINS: usize>(
     let mut seen = [0i32; NUMBERS];
     let mut numbers = [0u16; POINTS];
     let mut buffer = [0i32; NUMBERS];
-    cut_all(
-        walks,
-        walk_lengths,
-        directions,
-        clockwise,
-        min_area,
-        &mut heads,
-        &mut nexts,
-        &mut seen,
-        &mut numbers,
-        &mut buffer,
-        points,
-        lengths,
-        roles,
-    )
+    let mut contours = 0;
+    let mut at = 0;
+    let mut from = 0;
+    for (k, length) in walk_lengths.iter().enumerate() {
+        let to = from + 2 * *length as usize;
+        let found = cut_walk(
+            &walks[from..to],
+            directions[k] == 1,
+            clockwise,
+            min_area,
+            SplitMemory {
+                heads: &mut heads,
+                nexts: &mut nexts,
+                seen: &mut seen,
+                numbers: &mut numbers,
+                buffer: &mut buffer,
+            },
+            &mut points[2 * at..],
+            &mut lengths[contours..],
+            &mut roles[contours..],
+        );
+        contours += found.loops;
+        at += found.points;
+        from = to;
+    }
+    Contours {
+        contours,
+        points: at,
+    }
 }
 
 // The contours of all walks, with memory for those of a small drawing or of any.

@@ -11,13 +11,14 @@ use lib.IntN.{ℤ, pos}
 use Rattle.geom.specs.declared.Point.{Point}
 use Rattle.contour.specs.Points.{pair_up, coordinates, Writes}
 use Rattle.contour.proofs.Points.Coordinates.{pair_up-take, pair_up-drop, length_pairs, pairs_set, coordinates_pairs}
-use Rattle.split_loops.specs.Splitting.{first_points, Adds, Working, loop_totals}
+use Rattle.split_loops.specs.Splitting.{first_points, Adds, Added, Working, loop_totals}
 use native.Mathlib.Numerals.{add-one}
 use Rattle.lists.specs.Members.{keep}
 use Rattle.lists.specs.Written.{written}
 use Rattle.lists.proofs.Entries.{flatten-++}
 use Rattle.contour.proofs.Points.Written.{writes_more}
 use Rattle.split_loops.specs.declared.buffer.LoopTotals.{LoopTotals}
+use Rattle.split_loops.specs.declared.buffer.LoopWriter.{LoopWriter}
 pub mod Taking
 
 -- ---- the first points
@@ -51,13 +52,17 @@ pub keep_one : {A : Type 0} (P : A → Bool) (x : A) {b : Bool} → P x ≡ b �
 unfolding keep
 keep_one P x e = ap (λ (b : Bool). cond b (x ∷ []) []) e
 
-pub adds_none : (found : LoopTotals) (out : List ℤ) (lengths : List ℕ) → Adds [] found found out lengths out lengths
+pub added_none : (w : LoopWriter) → Added [] w w
 unfolding written coordinates flatten
-adds_none found out lengths = record {
-  loops_are = omega arith;
-  points_are = omega arith;
-  out_is = sym (take-append-drop (2 * found.points) out);
-  lengths_are = sym (take-append-drop found.loops lengths);
+added_none w = record {
+  same_out = (refl, refl);
+  same_lengths = (refl, refl);
+  adds = record {
+    loops_are = omega arith;
+    points_are = omega arith;
+    out_is = sym (take-append-drop (2 * w.found.points) w.out.now);
+    lengths_are = sym (take-append-drop w.found.loops w.lengths.now);
+  };
 }
 
 pub adds_one : (contour : List ℤ) (found : LoopTotals) (out : List ℤ) (lengths : List ℕ) (n : ℕ) → length contour % 2 ≡ 0 → found.loops < length lengths → n ≡ length contour

@@ -3,7 +3,7 @@
 
 mod buffer;
 
-pub use buffer::{LoopTotals, split_loops};
+pub use buffer::{LoopTotals, SplitMemory, split_loops};
 
 // How many points are split at most, how many coordinates these have, and how many bins there are for them: one more, so that there is always one.
 pub const MOST: usize = 2048;

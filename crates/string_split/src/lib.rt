@@ -8,7 +8,9 @@ ghost use Rattle.split_loops.specs.Splitting.{Splittable, loop_totals};
 ghost use Rattle.string_split.specs.Run.{out_of_range_at, split_verdict, lists, outcome, split_outcome};
 
 use refusal::{Kind, Refusal};
-use split_loops::{COORDINATES, HEADS, LoopTotals, MOST, SMALL, SMALL_COORDINATES, SMALL_HEADS};
+use split_loops::{
+    COORDINATES, HEADS, LoopTotals, MOST, SMALL, SMALL_COORDINATES, SMALL_HEADS, SplitMemory,
+};
 
 // What is wrong with point i, which must be in range.
 #[tactic(auto, unfolding(crate::specs::Run::out_of_range_at))]
@@ -47,22 +49,14 @@ fn split_in<const POINTS: usize, const NUMBERS: usize, const BINS: usize>(
     ensures { (result ≡ loop_totals (split_loops min_area (pair_up points.now)))
         × Writes (split_loops min_area (pair_up points.now)) out.old lengths.old out.new lengths.new }
 {
-    let mut heads = [0u16; BINS];
-    let mut nexts = [0u16; POINTS];
-    let mut seen = [0i32; NUMBERS];
-    let mut numbers = [0u16; POINTS];
-    let mut buffer = [0i32; NUMBERS];
-    split_loops::split_loops(
-        points,
-        min_area,
-        &mut heads,
-        &mut nexts,
-        &mut seen,
-        &mut numbers,
-        &mut buffer,
-        out,
-        lengths,
-    )
+    let memory = SplitMemory {
+        heads: &mut [0; BINS],
+        nexts: &mut [0; POINTS],
+        seen: &mut [0; NUMBERS],
+        numbers: &mut [0; POINTS],
+        buffer: &mut [0; NUMBERS],
+    };
+    split_loops::split_loops(points, min_area, memory, out, lengths)
 }
 
 // The loops of up to 2,048 points, as x, y pairs and one length a loop, or the refusal, in memory for as many as a small drawing has ends or for any.

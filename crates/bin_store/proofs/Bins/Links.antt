@@ -9,7 +9,7 @@ use native.Mathlib.Omega.{arith}
 use lib.ListN.{length, get_or, set, length-set}
 use lib.Seq.{get_or-set_same, get_or-set_other}
 use lib.IntN.{ℤ}
-use Rattle.integers.proofs.Booleans.{clash, is_false}
+use Rattle.integers.proofs.Booleans.{clash}
 use Rattle.geom.specs.declared.Point.{Point}
 use Rattle.geom.specs.Points.{eq_p}
 use Rattle.geom.proofs.Points.{eq_p-true}
@@ -18,11 +18,6 @@ use Rattle.bin_store.specs.Bins.{bin_index, point_of, Unseen, Linked, Binned, Re
 pub bin_below : (bins : ℕ) (p : Point) → 0 < bins → bin_index bins p < bins
 unfolding bin_index
 bin_below bins p h = N.mod-lt _ h
-
--- from none nothing is reached
-from_none : (nexts : List ℕ) (j k : ℕ) → Reaches nexts j k → j ≡ 0 → 0 < k → ⊥
-from_none nexts j k (here _) e h = omega arith
-from_none nexts j k (there i _ r) e h = omega arith
 
 -- past another item
 past : (nexts : List ℕ) (j k : ℕ) → Reaches nexts (suc j) (suc k) → (k ≡ j → ⊥) → Reaches nexts (get_or nexts j 0) (suc k)
@@ -42,9 +37,6 @@ module _ (nexts : List ℕ) (seen : List ℤ) (p : Point) where
   ahead_next count j h n a i k q =
       let e : j ≡ suc (j - 1) = omega arith in
       past nexts (j - 1) i (subst (λ d. Reaches nexts d (suc i)) e (a i k q)) (λ f. clash q (ap (λ d. eq_p (point_of seen d) p) f ∙ n))
-
-  pub ahead_none : (count j : ℕ) → j ≤ 0 → Ahead count j → Unseen count seen p
-  ahead_none count j h a i k = is_false (eq_p (point_of seen i) p) (λ q. from_none nexts j (suc i) (a i k q) (omega arith) (omega arith))
 
 -- a link stored at n changes nothing of what is reached from lower items
 still : (nexts : List ℕ) (n v : ℕ) → ((i : ℕ) → i < n → get_or nexts i 0 ≤ i) → (j k : ℕ) → j ≤ n → Reaches nexts j k → Reaches (set nexts n v) j k

@@ -27,15 +27,9 @@ unfolding clip_run
 both_in-requires c =
     (((lit≤ tt, refl), refl), omega (arith, length-segments c.args.numbers.now, c.count.ensures, c.if-count-le-SMALL.true), sym c.in_default.ensures, c.requires.0, c.requires.1)
 
-pub returns-then-count-le-SMALL : goal.returns-then-count-le-SMALL
-returns-then-count-le-SMALL c = rw (to_z-of_z c.ranges.rule, to_z-of_z c.ranges.boundary) at c.both_in.ensures
-
 pub both_in-requires-2 : goal.both_in-requires-2
 unfolding clip_run
 both_in-requires-2 c =
     let run = run_of c.args.numbers.now c.args.rule (pos 0) c.args.boundary (lists c.args.in_points.now c.args.in_lengths.now) in
     let asked = rw (to_z-of_z c.ranges.rule, to_z-of_z c.ranges.boundary) at c.in_default.ensures in
     (((lit≤ tt, refl), refl), asked_few run (sym asked), sym c.in_default.ensures, c.requires.0, c.requires.1)
-
-pub returns : goal.returns
-returns c = rw (to_z-of_z c.ranges.rule, to_z-of_z c.ranges.boundary) at c.both_in-2.ensures

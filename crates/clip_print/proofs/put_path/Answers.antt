@@ -10,11 +10,8 @@ use mir.Facts.{to_z-of_z}
 use Rattle.contour.specs.Points.{pair_up}
 use Rattle.clip_print.specs.Printed.{path_lines}
 use Rattle.clip_print.proofs.Printed.{path_more, path_none}
-use Rattle.writing.proofs.Puts.{left_all, left_less, left_none, left_fits}
+use Rattle.writing.proofs.Puts.{left_less, left_none, left_fits}
 use Rattle.clip_print.proofs.put_path.Goals as goal
-
-pub loop-i-init : goal.loop-i-init
-loop-i-init c = left_all (path_lines c.args.path 0 (pair_up c.args.points.now)) c.args.lines.now
 
 pub put_point-requires : goal.put_point-requires
 put_point-requires c =

@@ -23,9 +23,6 @@ unfolding tally
 loop-k-init c =
     record { put = left_all (lines_from 0 0 c.args.points.now c.args.lengths.now) c.args.lines.now; place = refl }
 
-pub overflow_mul-to : goal.overflow_mul-to
-overflow_mul-to c = omega (arith, path_fits c.args.points.now c.args.lengths.now c.loop-k.k c.loop-k.from (omega arith) c.loop-k.invariant.place c.requires.lengths_in_bounds)
-
 pub overflow_add-to : goal.overflow_add-to
 overflow_add-to c = omega (arith, path_fits c.args.points.now c.args.lengths.now c.loop-k.k c.loop-k.from (omega arith) c.loop-k.invariant.place c.requires.lengths_in_bounds)
 

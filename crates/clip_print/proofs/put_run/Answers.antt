@@ -1,12 +1,11 @@
 -- The lines of the paths, then the total.
-use mathlib.Core.Path.{◌≡◌, sym, ap}
+use mathlib.Core.Path.{◌≡◌, ap}
 use mathlib.Core.List.{List, ◌++◌}
 use lib.IntN.{ℤ}
 use Rattle.clip_paths.specs.declared.Totals.{Totals}
 use Prim.Native.Nat.{ℕ, ◌+◌, ◌≤◌}
 use native.Mathlib.Omega.{arith}
 use lib.ListN.{length, take, length-append}
-use lib.Seq.{length-take-le}
 use borrow.Author.Rules.{rules}
 use Rattle.writing.specs.Puts.{Put}
 use Rattle.contour.specs.Points.{pair_up, cut}
@@ -26,14 +25,8 @@ module _ (n : ℕ) (lengths : List ℕ) (points : List ℤ) where
   room : (t : Totals) (most : ℕ) → length (paths_lines 0 (cut n lengths (pair_up points)) ++ total_line t) ≤ most → length lines + length (total_line t) ≤ most
   room t most h = omega (arith, ap length first, length-append (paths_lines 0 (cut n lengths (pair_up points))) (total_line t))
 
-pub slice_bounds-put_paths-end : goal.slice_bounds-put_paths-end
-slice_bounds-put_paths-end c = sym (length-take-le c.args.t.paths c.args.lengths.now c.requires.held.few_paths)
-
-pub put_paths-requires : goal.put_paths-requires
-put_paths-requires c = record {
-  lengths_in_bounds = c.requires.held.few_points;
-  room = omega (arith, room c.args.t.paths c.args.lengths.now c.args.points.now c.args.t _ c.requires.points_in_bounds, ap length c.new-lines.ensures.list, c.new-lines.ensures.front);
-}
+pub put_paths-requires-clause-room : goal.put_paths-requires-clause-room
+put_paths-requires-clause-room c = omega (arith, room c.args.t.paths c.args.lengths.now c.args.points.now c.args.t _ c.requires.points_in_bounds, ap length c.new-lines.ensures.list, c.new-lines.ensures.front)
 
 pub put_total-requires : goal.put_total-requires
 put_total-requires c = omega (arith, room c.args.t.paths c.args.lengths.now c.args.points.now c.args.t _ c.requires.points_in_bounds, ap length c.new-lines.ensures.list, c.new-lines.ensures.front, c.put_paths.ensures.put.place, c.put_paths.ensures.room)

@@ -13,11 +13,6 @@ use Rattle.graph.proofs.Fronts.{front_nodes, ends_room}
 use Rattle.drawing_check.proofs.Memory.{fresh_run}
 use Rattle.measure.proofs.is_swept.Goals as goal
 
-pub write_nodes-requires : goal.write_nodes-requires
-write_nodes-requires c =
-    let f = c.requires.faultless in
-    (f, omega (arith, f.few), omega (arith, f.few), omega (arith, f.few), omega (arith, f.few), f.few)
-
 pub overflow_mul-e : goal.overflow_mul-e
 overflow_mul-e c =
     let d : Drawing =
@@ -71,6 +66,3 @@ is_clear-requires c =
       c.requires.faultless.few,
       λ i. omega (arith, ap nat_abs ((fresh_run d 1024 2048 2049 ((lit≤ tt, refl), refl) c.requires.faultless.few).blank i)),
     )
-
-pub returns : goal.returns
-returns c = c.is_clear.ensures.0.1 c.requires.apart

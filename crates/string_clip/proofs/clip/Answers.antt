@@ -22,17 +22,9 @@ pub clip_in-requires : goal.clip_in-requires
 unfolding clip_run
 clip_in-requires c = (((lit≤ tt, refl), refl), omega (arith, length-segments c.args.numbers.now, c.count.ensures), sym c.in_ok-ask_clip.ensures)
 
-pub returns-then-count-le-SMALL : goal.returns-then-count-le-SMALL
-returns-then-count-le-SMALL c =
-    rw (to_z-of_z c.ranges.rule, to_z-of_z c.ranges.invert, to_z-of_z c.ranges.boundary) at c.clip_in.ensures
-
 pub clip_in-requires-2 : goal.clip_in-requires-2
 unfolding clip_run
 clip_in-requires-2 c =
     let run = run_of c.args.numbers.now c.args.rule c.args.invert c.args.boundary (lists c.args.points.now c.args.lengths.now) in
     let asked = rw (to_z-of_z c.ranges.rule, to_z-of_z c.ranges.invert, to_z-of_z c.ranges.boundary) at c.in_ok-ask_clip.ensures in
     (((lit≤ tt, refl), refl), asked_few run (sym asked), sym c.in_ok-ask_clip.ensures)
-
-pub returns : goal.returns
-returns c =
-    rw (to_z-of_z c.ranges.rule, to_z-of_z c.ranges.invert, to_z-of_z c.ranges.boundary) at c.clip_in-2.ensures

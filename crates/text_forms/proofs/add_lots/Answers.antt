@@ -1,11 +1,10 @@
 -- The segments passed are written.
-use borrow.Author.Rules.{rules}
 use mathlib.Core.Path.{◌≡◌, refl, sym, ap, ◌∙◌}
 use mathlib.Core.List.{List, [], ◌∷◌, ◌++◌}
-use Prim.Native.Nat.{ℕ, ◌+◌, ◌*◌, ◌-◌, ◌/◌, ◌<◌, ◌≤◌}
+use Prim.Native.Nat.{ℕ, ◌+◌, ◌*◌, ◌/◌, ◌<◌, ◌≤◌}
 use native.Mathlib.Numerals.{add-one}
 use native.Mathlib.Omega.{arith}
-use lib.ListN.{length, get_or, take, drop, length-take, length-drop}
+use lib.ListN.{length, get_or, take, drop, length-take}
 use lib.Seq.{take-suc, take_all}
 use lib.IntN.{ℤ}
 use Rattle.lists.specs.Written.{written}
@@ -20,18 +19,6 @@ use Rattle.text_forms.proofs.add_lots.Goals as goal
 pub loop-i-init : goal.loop-i-init
 unfolding laid written
 loop-i-init c = (refl, omega arith)
-
-pub overflow_mul-from : goal.overflow_mul-from
-overflow_mul-from c = let h : c.loop-i.i < length c.args.old.now / 6 = c.loop-i-test.true in search rules
-
-pub overflow_add-from : goal.overflow_add-from
-overflow_add-from c = let h : c.loop-i.i < length c.args.old.now / 6 = c.loop-i-test.true in search rules
-
-pub old_segment-requires : goal.old_segment-requires
-old_segment-requires c =
-    let i = c.loop-i.i in
-    let h : i < length c.args.old.now / 6 = c.loop-i-test.true in
-    omega (arith, h, length-take (i * 6 + 6 - i * 6) (drop (i * 6) c.args.old.now), length-drop (i * 6) c.args.old.now)
 
 -- one segment more
 module _ (old numbers now : List ℤ) (i : ℕ) (t : Segment) (h : i < length old / 6) (read : t ≡ get_or (old_segments old) i nowhere) (v : (now ≡ written (laid (take i (old_segments old))) numbers) × (i ≤ length (old_segments old))) (q : length (old_segments old) * width ≤ length numbers) where

@@ -13,8 +13,8 @@ use Rattle.lists.specs.Members.{keep}
 use Rattle.contour.specs.Points.{pair_up, AllInRange}
 use Rattle.contour.specs.Area.{is_large}
 use Rattle.split_loops.specs.Loops.{buffer_point}
-use Rattle.split_loops.specs.Splitting.{first_points, Adds, Splittable}
-use Rattle.split_loops.proofs.Splitting.{adds_none, length-first_points, put_first_points, part-first_points}
+use Rattle.split_loops.specs.Splitting.{first_points, Added, Splittable}
+use Rattle.split_loops.proofs.Splitting.{added_none, length-first_points, put_first_points, part-first_points}
 use Rattle.split_loops.proofs.Fits.{near_more, near_drop}
 use Rattle.split_loops.proofs.OnePoint.{buffer_front, none-closed, one-closed}
 use Rattle.split_loops.proofs.buffer.close.Goals as goal
@@ -68,32 +68,31 @@ unfolding keep
 returns-then-len-from c =
     let a = c.args in
     let put = c.put_point in
+    let w = a.writer.now in
     let b = first_points a.len a.buffer.now in
     let n = as_many a.p a.number a.len a.buffer.now put.new.points c.requires.2 put.ensures in (
       after a.p a.number a.len a.buffer.now put.new.points c.requires.2 put.ensures,
-      subst (λ (l : List (List Point)). Adds (keep (is_large a.min_area) l) a.found a.found a.out.now a.lengths.now a.out.now a.lengths.now)
-          (sym (none-closed a.number b a.p (omega (arith, n, c.if-len-from.true)))) (adds_none a.found a.out.now a.lengths.now),
+      subst (λ (l : List (List Point)). Added (keep (is_large a.min_area) l) w w)
+          (sym (none-closed a.number b a.p (omega (arith, n, c.if-len-from.true)))) (added_none w),
     )
 
-pub add_loop-requires : goal.add_loop-requires
-add_loop-requires c =
+pub add-requires : goal.add-requires
+add-requires c =
     let a = c.args in
     let put = c.put_point in
     let r = c.requires in
     let n = part_length a.p a.number a.len a.buffer.now put.new.points r.2 put.ensures c.if-len-from.false in (
       splittable a.p a.number a.len a.buffer.now put.new.points r.2 put.ensures c.if-len-from.false r.1 r.4 r.0,
-      omega (arith, n, r.5),
-      r.6,
-      r.7,
-      r.8,
+      omega (arith, n),
+      record { points_fit = omega (arith, n, r.5.points_fit); loops_fit = omega (arith, n, r.5.loops_fit); few = r.5.few },
     )
 
 pub returns : goal.returns
 returns c =
     let a = c.args in
     let put = c.put_point in
-    let add = c.add_loop in (
+    let add = c.add in (
       after a.p a.number a.len a.buffer.now put.new.points c.requires.2 put.ensures,
-      subst (λ (l : List (List Point)). Adds (keep (is_large a.min_area) l) a.found add.result a.out.now a.lengths.now add.new.out add.new.lengths)
+      subst (λ (l : List (List Point)). Added (keep (is_large a.min_area) l) a.writer.now add.new.self)
           (loop_is a.p a.number a.len a.buffer.now put.new.points c.requires.2 put.ensures c.if-len-from.false) add.ensures,
     )

@@ -1,8 +1,9 @@
 -- The loops of the points taken, then the rest.
-use mathlib.Core.Path.{◌≡◌, sym, ap, subst, ◌∙◌}
+use mathlib.Core.Path.{◌≡◌, refl, sym, ap, subst, ◌∙◌}
 use mathlib.Core.List.{List, [], ◌++◌}
 use native.Mathlib.Omega.{arith}
 use Prim.Native.Nat.{ℕ, ◌+◌, ◌*◌, ◌/◌, ◌≤◌}
+use borrow.Author.Rules.{rules}
 use lib.ListN.{length, take}
 use lib.Seq.{length-take-le}
 use lib.IntN.{ℤ}
@@ -23,15 +24,15 @@ pub slice_bounds-new-end : goal.slice_bounds-new-end
 slice_bounds-new-end c = omega (arith, length_pairs c.args.points.now, c.requires.1.heads_fit)
 
 pub slice_bounds-new-end-2 : goal.slice_bounds-new-end-2
-slice_bounds-new-end-2 c = sym (length-take-le (length c.args.points.now / 2 + 1) c.args.heads.now (omega (arith, length_pairs c.args.points.now, c.requires.1.heads_fit)))
+slice_bounds-new-end-2 c = sym (length-take-le (length c.args.points.now / 2 + 1) c.args.memory.heads.now (omega (arith, length_pairs c.args.points.now, c.requires.1.heads_fit)))
 
-pub take_points-taken-requires : goal.take_points-taken-requires
-take_points-taken-requires c =
+pub take_points-len-requires : goal.take_points-len-requires
+take_points-len-requires c =
     let a = c.args in
     let p = c.requires in
     let s = c.new-store.ensures in
     let l = s.same_lists in
-    let bins_fit = length-take-le (length a.points.now / 2 + 1) a.heads.now (omega (arith, length_pairs a.points.now, p.1.heads_fit)) in (
+    let bins_fit = length-take-le (length a.points.now / 2 + 1) a.memory.heads.now (omega (arith, length_pairs a.points.now, p.1.heads_fit)) in (
       p.0,
       s.binned,
       s.empty,
@@ -43,6 +44,7 @@ take_points-taken-requires c =
         buffer_fits = p.1.buffer_fits;
         buffer_few = p.1.buffer_few;
       },
+      refl,
       p.2,
       p.3,
     )
@@ -80,40 +82,41 @@ module _ (least : ℕ) (l : List ℤ) (found : LoopTotals) (len : ℕ) (s : Spli
           near = subst AllInRange (sym part_is) (buffers_near [] [] (pair_up l) (λ p m. absurd m) s.near).buffer;
         }
 
-pub overflow_mul-taken : goal.overflow_mul-taken
-overflow_mul-taken c =
+pub overflow_mul-len : goal.overflow_mul-len
+overflow_mul-len c =
     let l = c.args.points.now in
-    let t = c.take_points-taken in
-    record { fits = omega (arith, points_fit c.args.min_area l t.result.found t.result.len c.requires.0 t.ensures.0 t.ensures.1, length_pairs l, c.requires.0.few) }
+    let t = c.take_points-len in
+    record { fits = omega (arith, points_fit c.args.min_area l t.new.writer.found t.result c.requires.0 t.ensures.2.found_is t.ensures.0, length_pairs l, c.requires.0.few) }
 
 pub slice_bounds-add_rest-end : goal.slice_bounds-add_rest-end
 slice_bounds-add_rest-end c =
-    let t = c.take_points-taken in
-    omega (arith, points_fit c.args.min_area c.args.points.now t.result.found t.result.len c.requires.0 t.ensures.0 t.ensures.1, t.auto.buffer, c.requires.1.buffer_fits)
+    let t = c.take_points-len in
+    omega (arith, points_fit c.args.min_area c.args.points.now t.new.writer.found t.result c.requires.0 t.ensures.2.found_is t.ensures.0, t.auto.buffer, c.requires.1.buffer_fits)
 
 pub slice_bounds-add_rest-end-2 : goal.slice_bounds-add_rest-end-2
 slice_bounds-add_rest-end-2 c =
-    let t = c.take_points-taken in
-    sym (length-take-le (2 * t.result.len) t.new.buffer (omega (arith, points_fit c.args.min_area c.args.points.now t.result.found t.result.len c.requires.0 t.ensures.0 t.ensures.1, t.auto.buffer, c.requires.1.buffer_fits)))
+    let t = c.take_points-len in
+    sym (length-take-le (2 * t.result) t.new.buffer (omega (arith, points_fit c.args.min_area c.args.points.now t.new.writer.found t.result c.requires.0 t.ensures.2.found_is t.ensures.0, t.auto.buffer, c.requires.1.buffer_fits)))
 
 pub add_rest-requires : goal.add_rest-requires
 add_rest-requires c =
     let a = c.args in
     let p = c.requires in
     let l = a.points.now in
-    let t = c.take_points-taken in
-    let len = t.result.len in
+    let t = c.take_points-len in
+    let len = t.result in
     let part = take (2 * len) t.new.buffer in
     let n = length_pairs l in
-    let fit = points_fit a.min_area l t.result.found len p.0 t.ensures.0 t.ensures.1 in
-    let loops = loops_fit a.min_area l t.result.found len p.0 t.ensures.0 t.ensures.1 in
+    let fit = points_fit a.min_area l t.new.writer.found len p.0 t.ensures.2.found_is t.ensures.0 in
+    let loops = loops_fit a.min_area l t.new.writer.found len p.0 t.ensures.2.found_is t.ensures.0 in
     let room : 2 * len ≤ length t.new.buffer = omega (arith, fit, t.auto.buffer, p.1.buffer_fits) in
     let length_part : length part ≡ 2 * len = length-take-le (2 * len) t.new.buffer room in (
-      splittable a.min_area l t.result.found len p.0 t.new.buffer room t.ensures.2 (omega (arith, n, fit)),
-      omega (arith, n, fit, length_part, p.2, t.auto.out),
-      omega (arith, n, loops, length_pairs part, length_part, p.3, t.auto.lengths),
-      omega (arith, n, loops, p.0.few),
-      omega (arith, n, fit, p.0.few),
+      splittable a.min_area l t.new.writer.found len p.0 t.new.buffer room t.ensures.1 (omega (arith, n, fit)),
+      record {
+        points_fit = omega (arith, n, fit, length_part, p.2, t.ensures.2.same_out.1);
+        loops_fit = omega (arith, n, loops, length_part, p.3, t.ensures.2.same_lengths.1);
+        few = (omega (arith, n, loops, p.0.few), omega (arith, n, fit, p.0.few));
+      },
     )
 
 pub returns : goal.returns
@@ -121,15 +124,16 @@ unfolding split_loops all_loops
 returns c =
     let a = c.args in
     let l = a.points.now in
-    let t = c.take_points-taken in
+    let t = c.take_points-len in
     let taken : Buffered = buffer_points [] [] (pair_up l) in
     let large : List (List Point) → List (List Point) = λ l. keep (is_large a.min_area) l in
-    let part = take (2 * t.result.len) t.new.buffer in
-    let part_is : pair_up part ≡ taken.buffer = pair_up-take t.new.buffer t.result.len ∙ t.ensures.2 in
+    let part = take (2 * t.result) t.new.buffer in
+    let part_is : pair_up part ≡ taken.buffer = pair_up-take t.new.buffer t.result ∙ t.ensures.1 in
     let loops_are : large taken.loops ++ large (rest (pair_up part)) ≡ split_loops a.min_area (pair_up l) =
     ap (λ (b : List Point). large taken.loops ++ large (rest b)) part_is ∙ sym (keep-++ (is_large a.min_area) taken.loops (rest taken.buffer)) in
     let done = large taken.loops in
-    let more = large (rest (pair_up part)) in (
-      totals_on done more t.ensures.0 c.add_rest.ensures ∙ ap loop_totals loops_are,
-      subst (λ (l : List (List Point)). Writes l a.out.now a.lengths.now c.add_rest.new.out c.add_rest.new.lengths) loops_are (writes_on done more t.ensures.0 t.ensures.3 c.add_rest.ensures),
-    )
+    let more = large (rest (pair_up part)) in
+    let w = c.add_rest.new.self in
+    let writes : Writes (split_loops a.min_area (pair_up l)) a.out.now a.lengths.now w.out.now w.lengths.now =
+    subst (λ (l : List (List Point)). Writes l a.out.now a.lengths.now w.out.now w.lengths.now) loops_are (writes_on done more t.ensures.2.found_is t.ensures.2.writes c.add_rest.ensures.adds) in
+    (totals_on done more t.ensures.2.found_is c.add_rest.ensures.adds ∙ ap loop_totals loops_are, record { points_are = search (rules, writes.points_are); lengths_are = search (rules, writes.lengths_are) })

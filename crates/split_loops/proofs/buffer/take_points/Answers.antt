@@ -19,7 +19,6 @@ use Rattle.bin_store.specs.Sightings.{Sighting, number_of, sight}
 use Rattle.bin_store.specs.Bins.{memory}
 use Rattle.bin_store.specs.Stores.{held}
 use Rattle.bin_store.proofs.Bins.Items.{none_sighted}
-use Rattle.split_loops.specs.declared.buffer.LoopTotals.{LoopTotals}
 use Rattle.split_loops.specs.Loops.{Buffered, buffer_point}
 use Rattle.split_loops.specs.Splitting.{loop_totals, first_points, Adds}
 use Rattle.split_loops.proofs.OnePoint.{length-buffered}
@@ -29,14 +28,17 @@ use Rattle.split_loops.proofs.buffer.take_points.Goals as goal
 pub loop-i-init : goal.loop-i-init
 loop-i-init c =
     let a = c.args in
-    let zero : LoopTotals = record { loops = 0; points = 0 } in
+    let w = a.writer.now in
     let empty : memory a.store.count a.store.seen.now a.store.numbers.now ≡ [] = ap (λ n. memory n a.store.seen.now a.store.numbers.now) c.requires.2 ∙ none_sighted a.store.seen.now a.store.numbers.now in
     record {
-      taking = subst (λ (m : List Sighting). Taking a.min_area (pair_up a.points.now) a.out.now a.lengths.now m [] a.out.now a.lengths.now zero 0) (sym empty) (none-taken a.min_area (pair_up a.points.now) a.out.now a.lengths.now);
+      taking =
+          rw (empty, c.requires.4) (none-taken a.min_area (pair_up a.points.now) w.out.now w.lengths.now);
       len_is = refl;
       binned = c.requires.1;
       few = omega (arith, c.requires.2);
       same_lists = record { heads_same = (refl, refl); nexts_same = (refl, refl); seen_same = (refl, refl); numbers_same = (refl, refl) };
+      same_out = (refl, refl);
+      same_lengths = (refl, refl);
     }
 
 -- a point read is in range
@@ -60,14 +62,14 @@ insert_if_not_exist-number-requires c =
       near l c.loop-i.i c.point_at-p.result c.requires.0.near inside c.point_at-p.ensures,
     )
 
-pub close-found-requires : goal.close-found-requires
-close-found-requires c =
+pub close-requires : goal.close-requires
+close-requires c =
     let l = c.args.points.now in
     let inside : c.loop-i.i < length (pair_up l) = omega (arith, c.loop-i-test.true, length_pairs l) in
     let few : length (pair_up l) < 2049 = omega (arith, length_pairs l, c.requires.0.few) in
     let i = c.loop-i.invariant in
-    let points_room : c.loop-i.found.points + c.loop-i.len < length (pair_up l) = omega (arith, few_points i.taking, i.len_is, inside) in
-    let loops_room : c.loop-i.found.loops + c.loop-i.len < length (pair_up l) = omega (arith, few_loops i.taking, i.len_is, inside) in
+    let points_room : c.loop-i.writer.found.points + c.loop-i.len < length (pair_up l) = omega (arith, few_points i.taking, i.len_is, inside) in
+    let loops_room : c.loop-i.writer.found.loops + c.loop-i.len < length (pair_up l) = omega (arith, few_loops i.taking, i.len_is, inside) in
     let s = c.loop-i.auto in
     let q = c.requires in (
       near l c.loop-i.i c.point_at-p.result q.0.near inside c.point_at-p.ensures,
@@ -75,10 +77,11 @@ close-found-requires c =
       omega (arith, points_room, s.buffer, q.3.buffer_fits),
       omega (arith, s.buffer, q.3.buffer_few),
       i.taking.near,
-      omega (arith, points_room, s.out, q.4, length_pairs l),
-      omega (arith, loops_room, s.lengths, q.5),
-      omega (arith, loops_room, few),
-      omega (arith, points_room, few),
+      record {
+        points_fit = omega (arith, points_room, i.same_out.1, q.5, length_pairs l);
+        loops_fit = omega (arith, loops_room, i.same_lengths.1, q.6);
+        few = (omega (arith, loops_room, few), omega (arith, points_room, few));
+      },
     )
 
 pub loop-i-preserved : goal.loop-i-preserved
@@ -94,10 +97,12 @@ loop-i-preserved c =
     let sighted : after ≡ sight (held c.loop-i.store) p (suc (length buffer)) = told.ensures.holds ∙ ap (sight (held c.loop-i.store) p) (add-one c.loop-i.len ∙ ap suc i.len_is) in
     let one : ℕ → Buffered = λ number. buffer_point number buffer p in
     let same : one told.result ≡ one (number_of after p) = ap one told.ensures.tells in
-    let close = c.close-found in
-    let added : Adds (keep (is_large c.args.min_area) (one (number_of after p)).loops) c.loop-i.found close.result c.loop-i.out c.loop-i.lengths close.new.out close.new.lengths =
-    subst (λ (t : Buffered). Adds (keep (is_large c.args.min_area) t.loops) c.loop-i.found close.result c.loop-i.out c.loop-i.lengths close.new.out close.new.lengths) same close.ensures.1 in
-    let more : Taking c.args.min_area points c.args.out.now c.args.lengths.now after (one (number_of after p)).buffer close.new.out close.new.lengths close.result (c.loop-i.i + 1) =
+    let close = c.close in
+    let w = c.loop-i.writer in
+    let w' = close.new.writer in
+    let added : Adds (keep (is_large c.args.min_area) (one (number_of after p)).loops) w.found w'.found w.out.now w.lengths.now w'.out.now w'.lengths.now =
+    subst (λ (t : Buffered). Adds (keep (is_large c.args.min_area) t.loops) w.found w'.found w.out.now w.lengths.now w'.out.now w'.lengths.now) same close.ensures.1.adds in
+    let more : Taking c.args.min_area points c.args.writer.now.out.now c.args.writer.now.lengths.now after (one (number_of after p)).buffer w'.out.now w'.lengths.now w'.found (c.loop-i.i + 1) =
     taken_more i.taking p after (sym c.point_at-p.ensures) inside (near l c.loop-i.i p c.requires.0.near inside c.point_at-p.ensures) sighted added in
     let len_is : c.length_after-len.result ≡ length (one told.result).buffer =
     c.length_after-len.ensures ∙ ap (λ (m : ℕ). cond (ltb told.result m) told.result (suc m)) i.len_is ∙ sym (length-buffered told.result buffer p) in
@@ -108,7 +113,7 @@ loop-i-preserved c =
     let t = told.ensures.same_lists in
     record {
       taking =
-          subst (λ (b : List Point). Taking a.min_area points a.out.now a.lengths.now after b close.new.out close.new.lengths close.result (c.loop-i.i + 1))
+          subst (λ (b : List Point). Taking a.min_area points a.writer.now.out.now a.writer.now.lengths.now after b w'.out.now w'.lengths.now w'.found (c.loop-i.i + 1))
           (sym (front-is ∙ ap (λ (t : Buffered). t.buffer) same)) more;
       len_is = len_is ∙ sym (ap length front-is);
       binned = told.ensures.binned;
@@ -119,15 +124,23 @@ loop-i-preserved c =
         seen_same = (t.seen_same.0 ∙ s.seen_same.0, t.seen_same.1 ∙ s.seen_same.1);
         numbers_same = (t.numbers_same.0 ∙ s.numbers_same.0, t.numbers_same.1 ∙ s.numbers_same.1);
       };
+      same_out = (close.ensures.1.same_out.0 ∙ i.same_out.0, close.ensures.1.same_out.1 ∙ i.same_out.1);
+      same_lengths = (close.ensures.1.same_lengths.0 ∙ i.same_lengths.0, close.ensures.1.same_lengths.1 ∙ i.same_lengths.1);
     }
 
 pub returns : goal.returns
 returns c =
     let a = c.args in
-    let t = c.loop-i.invariant.taking in
-    let all = sym (all_taken t (omega (arith, c.loop-i-test.false, length_pairs a.points.now))) in (
-      t.found_is ∙ ap (λ (u : Buffered). loop_totals (keep (is_large a.min_area) u.loops)) all,
-      c.loop-i.invariant.len_is ∙ ap (λ (u : Buffered). length u.buffer) all,
+    let w₀ = a.writer.now in
+    let w = c.loop-i.writer in
+    let i = c.loop-i.invariant in
+    let all = sym (all_taken i.taking (omega (arith, c.loop-i-test.false, length_pairs a.points.now))) in (
+      i.len_is ∙ ap (λ (u : Buffered). length u.buffer) all,
       ap (λ (u : Buffered). u.buffer) all,
-      subst (λ (u : Buffered). Writes (keep (is_large a.min_area) u.loops) a.out.now a.lengths.now c.loop-i.out c.loop-i.lengths) all t.writes,
+      record {
+        same_out = i.same_out;
+        same_lengths = i.same_lengths;
+        found_is = i.taking.found_is ∙ ap (λ (u : Buffered). loop_totals (keep (is_large a.min_area) u.loops)) all;
+        writes = subst (λ (u : Buffered). Writes (keep (is_large a.min_area) u.loops) w₀.out.now w₀.lengths.now w.out.now w.lengths.now) all i.taking.writes;
+      },
     )

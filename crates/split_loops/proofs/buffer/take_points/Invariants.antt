@@ -7,18 +7,20 @@ use lib.IntN.{ℤ}
 use Rattle.geom.specs.declared.Point.{Point}
 use Rattle.contour.specs.Points.{pair_up}
 use Rattle.bin_store.specs.declared.store.BinStore.{BinStore}
-use Rattle.bin_store.specs.Stores.{held, IsBinned, SameLists}
-use Rattle.split_loops.specs.declared.buffer.LoopTotals.{LoopTotals}
+use Rattle.bin_store.specs.Stores.{held, IsBinned, SameLists, Same}
+use Rattle.split_loops.specs.declared.buffer.LoopWriter.{LoopWriter}
 use Rattle.split_loops.specs.Splitting.{first_points}
 use Rattle.split_loops.proofs.Splitting.Taking.{Taking}
 use Rattle.split_loops.proofs.buffer.take_points.Given as goal
 
-pub record State (least : ℕ) (points : List Point) (out₀ : List ℤ) (lengths₀ : List ℕ) (store₀ store : BinStore) (buffer out : List ℤ) (lengths : List ℕ) (found : LoopTotals) (len i : ℕ) : Type 0 where
-  pub taking : Taking least points out₀ lengths₀ (held store) (first_points len buffer) out lengths found i
+pub record State (least : ℕ) (points : List Point) (writer₀ writer : LoopWriter) (store₀ store : BinStore) (buffer : List ℤ) (len i : ℕ) : Type 0 where
+  pub taking : Taking least points writer₀.out.now writer₀.lengths.now (held store) (first_points len buffer) writer.out.now writer.lengths.now writer.found i
   pub len_is : len ≡ length (first_points len buffer)
   pub binned : IsBinned store
   pub few : store.count ≤ i
   pub same_lists : SameLists store₀ store
+  pub same_out : Same writer₀.out writer.out
+  pub same_lengths : Same writer₀.lengths writer.lengths
 
 abbrev pub invariant-loop-i : goal.invariant-loop-i
-invariant-loop-i l = State l.min_area (pair_up l.points) l.initial.out l.initial.lengths l.initial.store l.store l.buffer l.out l.lengths l.found l.len l.i
+invariant-loop-i l = State l.min_area (pair_up l.points) l.initial.writer l.writer l.initial.store l.store l.buffer l.len l.i

@@ -13,7 +13,7 @@ use Rattle.segm.proofs.Segments.{count_past}
 use Rattle.writing.specs.Lines.{text_of}
 use Rattle.writing.specs.declared.Writer.{Writer}
 use Rattle.writing.specs.Puts.{Put, Room, Appended}
-use Rattle.writing.proofs.Puts.{then, as_well, left_all, left_less, left_none, left_fits}
+use Rattle.writing.proofs.Puts.{then, as_well, left_less, left_none, left_fits}
 use Rattle.text.specs.Writing.{choice_numbers}
 use Rattle.text_forms.specs.Forms.{fields_of, row_of, writing}
 use Rattle.text_forms.proofs.Rows.{rows, row_at, rows_more, rows_none}
@@ -45,9 +45,6 @@ put_line-requires c =
     let d = segments c.args.numbers.now in
     room c.args.form c.args.c d c.new-text.result (front c.new-text.result (writing c.args.form c.args.c d) c.new-text.ensures.list c.new-text.ensures.front c.requires) c.first_row.ensures.0
 
-pub loop-i-init : goal.loop-i-init
-loop-i-init c = left_all (text_of (rows c.fields-k.result (segments c.args.numbers.now))) c.put_line.new.self
-
 -- one line more
 left : (k : ℕ) (d : Drawing) (i : ℕ) → i < length d → text_of (rows k (drop i d)) ≡ line (take k (numbers_of (segment_at d i))) ++ text_of (rows k (drop (i + 1) d))
 unfolding text_of flatten
@@ -61,9 +58,6 @@ overflow_add-from c = let at = row_at c.args.form c.args.numbers.now c.fields-k.
 
 pub offset_bounds-numbers-from : goal.offset_bounds-numbers-from
 offset_bounds-numbers-from c = let h = (row_at c.args.form c.args.numbers.now c.fields-k.ensures c.count-i-end.ensures c.loop-i-test.true).room in search rules
-
-pub slice_bounds-put_line-count : goal.slice_bounds-put_line-count
-slice_bounds-put_line-count c = let at = row_at c.args.form c.args.numbers.now c.fields-k.ensures c.count-i-end.ensures c.loop-i-test.true in omega (arith, at.room, at.few)
 
 pub slice_bounds-put_line-end-in-loop-i : goal.slice_bounds-put_line-end-in-loop-i
 slice_bounds-put_line-end-in-loop-i c = let at = row_at c.args.form c.args.numbers.now c.fields-k.ensures c.count-i-end.ensures c.loop-i-test.true in omega (arith, at.room, at.few)

@@ -1,6 +1,6 @@
 -- The lines passed are counted.
 use borrow.Author.Rules.{rules}
-use mathlib.Core.Path.{◌≡◌, refl, sym, ap}
+use mathlib.Core.Path.{◌≡◌, sym, ap}
 use mathlib.Core.List.{List, ◌∷◌}
 use Prim.Native.Nat.{ℕ, ◌+◌, ◌*◌, ◌≤◌, ◌<◌}
 use native.Mathlib.Omega.{arith}
@@ -37,9 +37,6 @@ line_length-total-requires c = omega (arith, ap row_length c.first_row.ensures.0
 begun : (form : Form) (c : Choices) (d : Drawing) {row : List ℤ} {k first : ℕ} → row ≡ choice_numbers c → k ≡ fields_of form → first ≡ row_length row → first + text_length (rows k d) ≡ all form c d
 begun form c d r e q = omega (arith, q, ap row_length r, ap (λ n. text_length (rows n d)) e)
 
-pub loop-i-init : goal.loop-i-init
-loop-i-init c = refl
-
 -- one line more
 more : (k : ℕ) (d : Drawing) (i : ℕ) → i < length d → text_length (rows k (drop i d)) ≡ row_length (take k (numbers_of (segment_at d i))) + text_length (rows k (drop (i + 1) d))
 unfolding text_length tally
@@ -53,9 +50,6 @@ overflow_add-from c = let at = row_at c.args.form c.args.numbers.now c.fields-k.
 
 pub offset_bounds-numbers-from : goal.offset_bounds-numbers-from
 offset_bounds-numbers-from c = let h = (row_at c.args.form c.args.numbers.now c.fields-k.ensures c.count-i-end.ensures c.loop-i-test.true).room in search rules
-
-pub slice_bounds-line_length-count : goal.slice_bounds-line_length-count
-slice_bounds-line_length-count c = let at = row_at c.args.form c.args.numbers.now c.fields-k.ensures c.count-i-end.ensures c.loop-i-test.true in omega (arith, at.room, at.few)
 
 pub slice_bounds-line_length-end-in-loop-i : goal.slice_bounds-line_length-end-in-loop-i
 slice_bounds-line_length-end-in-loop-i c = let at = row_at c.args.form c.args.numbers.now c.fields-k.ensures c.count-i-end.ensures c.loop-i-test.true in omega (arith, at.room, at.few)

@@ -3,7 +3,7 @@ use mathlib.Core.Path.{sym, ◌∙◌, ap}
 use Prim.Native.Nat.{◌-◌}
 use native.Mathlib.Omega.{arith}
 use Rattle.geom.specs.Points.{eq_p}
-use Rattle.bin_store.proofs.Bins.Links.{ahead_first, ahead_next, ahead_none}
+use Rattle.bin_store.proofs.Bins.Links.{ahead_first, ahead_next}
 use Rattle.bin_store.proofs.store.BinStore.find.Goals as goal
 
 pub loop-j-init : goal.loop-j-init
@@ -13,14 +13,8 @@ loop-j-init c =
     let l = c.requires.0.linked in
     (l.heads_below b, ahead_first s.nexts.now s.seen.now c.args.p s.count s.heads.now l b c.bin_index-b.ensures)
 
-pub loop-j-smaller : goal.loop-j-smaller
-loop-j-smaller c = omega (arith, c.requires.0.linked.nexts_below (c.loop-j.j - 1) (omega arith))
-
 pub loop-j-preserved : goal.loop-j-preserved
 loop-j-preserved c =
     let s = c.args.self.now in
     let e = (ap (λ q. eq_p q c.args.p) (sym c.point_at.ensures) ∙ sym c.same.ensures) ∙ c.if-same.false in
     (omega (arith, c.requires.0.linked.nexts_below (c.loop-j.j - 1) (omega arith)), ahead_next s.nexts.now s.seen.now c.args.p s.count c.loop-j.j c.loop-j-test.true e c.loop-j.invariant.1)
-
-pub returns : goal.returns
-returns c = let s = c.args.self.now in ahead_none s.nexts.now s.seen.now c.args.p s.count c.loop-j.j c.loop-j-test.false c.loop-j.invariant.1

@@ -8,7 +8,7 @@ use lib.IntN.{ℤ}
 use Rattle.lists.specs.Sums.{tally}
 use Rattle.slice_cut.specs.Cutting.{paths_in}
 use Rattle.slice_cut.proofs.Cutting.AllWalks.{Cut}
-use Rattle.slice_cut.proofs.cut_all.Given as goal
+use Rattle.slice_cut.proofs.cut_in.Given as goal
 
 pub record State (clockwise : Bool) (least : ℕ) (walks : List ℤ) (walk_lengths directions : List ℕ) (points₀ : List ℤ) (lengths₀ roles₀ : List ℕ) (points : List ℤ) (lengths roles : List ℕ) (contours at from k : ℕ) : Type 0 where
   pub cut : Cut clockwise least (paths_in walks walk_lengths) directions points₀ lengths₀ roles₀ points lengths roles contours at k
@@ -17,5 +17,5 @@ pub record State (clockwise : Bool) (least : ℕ) (walks : List ℤ) (walk_lengt
   pub inside : (2 * at ≤ length points₀) × (contours ≤ length lengths₀) × (contours ≤ length roles₀)
 
 abbrev pub invariant-loop-k : goal.invariant-loop-k
-invariant-loop-k l =
+invariant-loop-k g l =
     State l.clockwise l.min_area l.walks l.walk_lengths l.directions l.initial.points l.initial.lengths l.initial.roles l.points l.lengths l.roles l.contours l.at l.from l.k
