@@ -6,6 +6,7 @@ ghost use Rattle.drawing_check.specs.Memory.{RightSizes};
 ghost use Rattle.checks.specs.Runs.{fills_run, asked};
 ghost use Rattle.build.specs.Fills.{fills_outcome, outcome};
 
+use drawing_check::DrawingMemory;
 use refusal::Refusal;
 
 // The fills of a drawing of up to so many segments, of which this was asked first. It owns the run's memory.
@@ -19,12 +20,9 @@ fn fills_in<const SEGMENTS: usize, const ENDS: usize, const STARTS: usize>(
         × (asked (fills_run numbers.now rule (length fills.old)) ≡ accepted) }
     ensures { outcome result fills.new ≡ fills_outcome numbers.now rule fills.old }
 {
-    let mut flat = [0u16; ENDS];
-    let mut starts = [0u16; STARTS];
-    let mut nodes = [0u16; ENDS];
-    let mut tops = [0i32; SEGMENTS];
-    drawing_check::check::<SEGMENTS, ENDS>(numbers, &mut flat, &mut starts, &mut nodes, &mut tops)?;
-    top_fills::write_fills(numbers, fill_rule::rule_of(rule), &tops, fills);
+    let mut memory = DrawingMemory::<SEGMENTS, ENDS, STARTS>::new();
+    memory.check(numbers)?;
+    top_fills::write_fills(numbers, fill_rule::rule_of(rule), &memory.tops, fills);
     Ok(segm::count(numbers))
 }
 

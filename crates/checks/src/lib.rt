@@ -9,6 +9,7 @@ ghost use Rattle.drawing_check.specs.Drawing.{drawing_verdict};
 ghost use Rattle.drawing_check.specs.Memory.{RightSizes};
 ghost use Rattle.checks.specs.Runs.{clip_choices, fills_run, clip_run, clip_input, slice_run, asked, verdict};
 
+use drawing_check::DrawingMemory;
 use refusal::Refusal;
 
 // Whether numbers are no whole segments, or too many.
@@ -84,11 +85,8 @@ fn check_in<const SEGMENTS: usize, const ENDS: usize, const STARTS: usize>(
     requires { RightSizes SEGMENTS ENDS STARTS × (length (segments numbers.now) ≤ SEGMENTS) }
     ensures { result ≡ drawing_verdict (segments numbers.now) }
 {
-    let mut flat = [0u16; ENDS];
-    let mut starts = [0u16; STARTS];
-    let mut nodes = [0u16; ENDS];
-    let mut tops = [0i32; SEGMENTS];
-    drawing_check::check::<SEGMENTS, ENDS>(numbers, &mut flat, &mut starts, &mut nodes, &mut tops)
+    let mut memory = DrawingMemory::<SEGMENTS, ENDS, STARTS>::new();
+    memory.check(numbers)
 }
 
 // The verdict on a drawing, with memory by its size.

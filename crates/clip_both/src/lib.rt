@@ -10,6 +10,7 @@ ghost use Rattle.string_clip.specs.Run.{lists, run_of, Room, outcome};
 ghost use Rattle.clip_both.specs.Together.{Together};
 
 use clip_paths::Totals;
+use drawing_check::DrawingMemory;
 use refusal::Refusal;
 
 // What two clip runs answer.
@@ -56,32 +57,29 @@ fn both_in<const SEGMENTS: usize, const ENDS: usize, const STARTS: usize>(
         (outcome result.inside (lists in_points.new in_lengths.new)) (lists in_points.old in_lengths.old)
         (outcome result.outside (lists out_points.new out_lengths.new)) (lists out_points.old out_lengths.old) }
 {
-    let mut flat = [0u16; ENDS];
-    let mut starts = [0u16; STARTS];
-    let mut nodes = [0u16; ENDS];
-    let mut tops = [0i32; SEGMENTS];
+    let mut memory = DrawingMemory::<SEGMENTS, ENDS, STARTS>::new();
     let mut bits = [0u8; SEGMENTS];
     let mut moves = [0u16; ENDS];
-    let checked = drawing_check::check::<SEGMENTS, ENDS>(
-        s,
-        &mut flat,
-        &mut starts,
-        &mut nodes,
-        &mut tops,
-    );
-    if let Err(refusal) = checked {
+    if let Err(refusal) = memory.check(s) {
         return neither(refusal);
     }
-    string_clip::keep_lines(s, rule, 0, boundary, &tops, &mut bits);
+    string_clip::keep_lines(s, rule, 0, boundary, &memory.tops, &mut bits);
     let inside = string_clip::clip_kept(
-        s, &flat, &starts, &nodes, &mut bits, &mut moves, in_points, in_lengths,
+        s,
+        &memory.flat,
+        &memory.starts,
+        &memory.nodes,
+        &mut bits,
+        &mut moves,
+        in_points,
+        in_lengths,
     );
-    string_clip::keep_lines(s, rule, 1, boundary, &tops, &mut bits);
+    string_clip::keep_lines(s, rule, 1, boundary, &memory.tops, &mut bits);
     let outside = string_clip::clip_kept(
         s,
-        &flat,
-        &starts,
-        &nodes,
+        &memory.flat,
+        &memory.starts,
+        &memory.nodes,
         &mut bits,
         &mut moves,
         out_points,

@@ -19,13 +19,17 @@ abbrev pub RightSizes : (segments ends starts : ℕ) → Type 0
 RightSizes segments ends starts = EndsOf segments ends × (starts ≡ ends + 1)
 
 -- ---- the run's
+-- no top is counted yet
+abbrev pub Blank : List ℤ → Type 0
+Blank tops = (i : ℕ) → get_or tops i (pos 0) ≡ pos 0
+
 -- room for the nodes and the top counts of a drawing
 pub record DrawingRoom (d : Drawing) (flat starts nodes : List ℕ) (tops : List ℤ) : Type 0 where
   pub flat_room : 2 * length d ≤ length flat
   pub starts_room : 2 * length d < length starts
   pub nodes_room : 2 * length d ≤ length nodes
   pub tops_room : length d ≤ length tops
-  pub blank : (i : ℕ) → get_or tops i (pos 0) ≡ pos 0
+  pub blank : Blank tops
 
 -- what the check leaves of an accepted drawing: its nodes and its top counts, at the fronts of the lists
 pub record Prepared (d : Drawing) (flat starts nodes : List ℕ) (tops : List ℤ) : Type 0 where

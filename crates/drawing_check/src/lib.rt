@@ -10,11 +10,13 @@ ghost use Rattle.faults.specs.Faultless.{Proper, Faultless};
 ghost use Rattle.ends.specs.Ends.{end_before};
 ghost use Rattle.ends.specs.Ordering.{ordering};
 ghost use Rattle.meetings.specs.Meetings.{meets_wrongly};
+ghost use Rattle.graph.specs.Nodes.{Nodes};
 ghost use Rattle.count_up.specs.CountUp.{BoundedBy, Counted};
 ghost use Rattle.balance.specs.Balance.{NodesByPoint};
 ghost use Rattle.drawing_check.specs.Drawing.{meeting_at, meetings_of, unbalanced_of, drawing_verdict};
-ghost use Rattle.drawing_check.specs.Memory.{EndsOf, DrawingRoom, EndsRoom, OrderedIn, NumberedIn, Checked};
+ghost use Rattle.drawing_check.specs.Memory.{EndsOf, RightSizes, Blank, DrawingRoom, EndsRoom, OrderedIn, NumberedIn, Prepared, Checked};
 
+use moves::Graph;
 use refusal::{Kind, Refusal};
 use segm::Segment;
 
@@ -163,4 +165,62 @@ pub fn check<const SEGMENTS: usize, const ENDS: usize>(
         &mut scratch,
         &mut sums,
     )
+}
+
+// Working memory of a run on a drawing of up to so many segments: the check leaves an accepted drawing's nodes and top counts there.
+#[derive(Drop)]
+pub struct DrawingMemory<const SEGMENTS: usize, const ENDS: usize, const STARTS: usize> {
+    pub flat: [u16; ENDS],
+    pub starts: [u16; STARTS],
+    pub nodes: [u16; ENDS],
+    pub tops: [i32; SEGMENTS],
+}
+
+impl<const SEGMENTS: usize, const ENDS: usize, const STARTS: usize> DrawingMemory<
+    SEGMENTS,
+    ENDS,
+    STARTS,
+> {
+    // Blank memory.
+    #[tactic(auto, using(crate::proofs::Memory::fresh))]
+    pub fn new() -> Self
+        requires { RightSizes SEGMENTS ENDS STARTS }
+        ensures { Blank result.tops }
+    {
+        DrawingMemory {
+            flat: [0; ENDS],
+            starts: [0; STARTS],
+            nodes: [0; ENDS],
+            tops: [0; SEGMENTS],
+        }
+    }
+
+    // The verdict on a drawing of up to so many segments. After a refusal the memory holds anything.
+    pub fn check(&mut self, s: &[i32]) -> Result<(), Refusal>
+        requires { RightSizes SEGMENTS ENDS STARTS × (length (segments s.now) ≤ SEGMENTS) × Blank self.old.tops }
+        ensures { let d = segments s.now in
+            Checked (drawing_verdict d) d result self.new.flat self.new.starts self.new.nodes self.new.tops }
+    {
+        check::<SEGMENTS, ENDS>(
+            s,
+            &mut self.flat,
+            &mut self.starts,
+            &mut self.nodes,
+            &mut self.tops,
+        )
+    }
+
+    // The nodes that the check left of an accepted drawing.
+    #[tactic(auto, using(crate::proofs::Memory::as_many, crate::proofs::Memory::front_graph))]
+    pub fn graph(&self, s: &[i32]) -> Graph<'_>
+        requires { let d = segments s.now in RightSizes SEGMENTS ENDS STARTS × (length d ≤ SEGMENTS) × Prepared d self.now.flat self.now.starts self.now.nodes self.now.tops }
+        ensures { Nodes (segments s.now) result.flat.now result.starts.now result.nodes.now }
+    {
+        let e = 2 * segm::count(s);
+        Graph {
+            flat: &self.flat[..e],
+            starts: &self.starts,
+            nodes: &self.nodes[..e],
+        }
+    }
 }

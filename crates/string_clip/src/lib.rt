@@ -17,6 +17,7 @@ ghost use Rattle.clip_paths.specs.Writing.{bits_paths};
 ghost use Rattle.string_clip.specs.Run.{lists, run_of, Room, outcome, clip_outcome};
 
 use clip_paths::Totals;
+use drawing_check::DrawingMemory;
 use moves::Graph;
 use refusal::Refusal;
 
@@ -77,16 +78,20 @@ fn clip_in<const SEGMENTS: usize, const ENDS: usize, const STARTS: usize>(
         × (asked (run_of s.now rule invert boundary (lists points.old lengths.old)) ≡ accepted) }
     ensures { outcome result (lists points.new lengths.new) ≡ clip_outcome s.now rule invert boundary (lists points.old lengths.old) }
 {
-    let mut flat = [0u16; ENDS];
-    let mut starts = [0u16; STARTS];
-    let mut nodes = [0u16; ENDS];
-    let mut tops = [0i32; SEGMENTS];
+    let mut memory = DrawingMemory::<SEGMENTS, ENDS, STARTS>::new();
     let mut bits = [0u8; SEGMENTS];
     let mut moves = [0u16; ENDS];
-    drawing_check::check::<SEGMENTS, ENDS>(s, &mut flat, &mut starts, &mut nodes, &mut tops)?;
-    keep_lines(s, rule, invert, boundary, &tops, &mut bits);
+    memory.check(s)?;
+    keep_lines(s, rule, invert, boundary, &memory.tops, &mut bits);
     Ok(clip_kept(
-        s, &flat, &starts, &nodes, &mut bits, &mut moves, points, lengths,
+        s,
+        &memory.flat,
+        &memory.starts,
+        &memory.nodes,
+        &mut bits,
+        &mut moves,
+        points,
+        lengths,
     ))
 }
 

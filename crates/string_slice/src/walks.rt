@@ -2,14 +2,17 @@
 // top counts ends with this stage.
 ghost use Rattle.std.specs.Prelude.{◌≡◌, map, ◌*◌, ◌%◌, ◌≤◌, length};
 ghost use Rattle.segm.specs.Segments.{segments};
+ghost use Rattle.graph.specs.Nodes.{Nodes};
+ghost use Rattle.count_up.specs.CountUp.{Counted};
 ghost use Rattle.drawing_check.specs.Drawing.{drawing_verdict};
-ghost use Rattle.drawing_check.specs.Memory.{RightSizes, Prepared};
+ghost use Rattle.drawing_check.specs.Memory.{RightSizes};
 ghost use Rattle.checks.specs.Accepted.{Good};
 ghost use Rattle.slice_walk.specs.Walk.{walks};
 ghost use Rattle.slice_walk.specs.Writing.{WalksAre};
 ghost use Rattle.string_slice.specs.Contours.{side_bits};
 ghost use Rattle.string_slice.specs.Walking.{WalkRoom, WalkedOf};
 
+use drawing_check::DrawingMemory;
 use fill_rule::Rule;
 use moves::Graph;
 use refusal::{Kind, Refusal};
@@ -27,9 +30,7 @@ fn keep_sides(fills: &mut [u8])
 fn walk_links(
     s: &[i32],
     rule: Rule,
-    flat: &[u16],
-    starts: &[u16],
-    nodes: &[u16],
+    g: Graph,
     tops: &[i32],
     bits: &mut [u8],
     points: &mut [i32],
@@ -38,7 +39,8 @@ fn walk_links(
 ) -> Option<usize>
     requires { let d = segments s.now in
         Good d
-        × Prepared d flat.now starts.now nodes.now tops.now
+        × Nodes d g.flat.now g.starts.now g.nodes.now
+        × Counted d tops.now
         × (length d ≤ length tops.now)
         × (length d ≤ length bits.old)
         × WalkRoom d points.old lengths.old directions.old }
@@ -46,15 +48,9 @@ fn walk_links(
         WalksAre d (walks d (side_bits rule d)) points.old lengths.old directions.old result points.new lengths.new directions.new }
 {
     let m = segm::count(s);
-    let e = 2 * m;
     let bits = &mut bits[..m];
     top_fills::write_fills(s, rule, tops, bits);
     keep_sides(bits);
-    let g = Graph {
-        flat: &flat[..e],
-        starts,
-        nodes: &nodes[..e],
-    };
     slice_walk::write_walks(s, g, bits, points, lengths, directions)
 }
 
@@ -73,19 +69,14 @@ pub fn make_walks<const SEGMENTS: usize, const ENDS: usize, const STARTS: usize>
         × WalkRoom (segments s.now) walks.old walk_lengths.old directions.old }
     ensures { WalkedOf s.now (drawing_verdict (segments s.now)) rule result walks.new walk_lengths.new directions.new }
 {
-    let mut flat = [0u16; ENDS];
-    let mut starts = [0u16; STARTS];
-    let mut nodes = [0u16; ENDS];
-    let mut tops = [0i32; SEGMENTS];
+    let mut memory = DrawingMemory::<SEGMENTS, ENDS, STARTS>::new();
     let mut bits = [0u8; SEGMENTS];
-    drawing_check::check::<SEGMENTS, ENDS>(s, &mut flat, &mut starts, &mut nodes, &mut tops)?;
+    memory.check(s)?;
     walk_links(
         s,
         fill_rule::rule_of(rule),
-        &flat,
-        &starts,
-        &nodes,
-        &tops,
+        memory.graph(s),
+        &memory.tops,
         &mut bits,
         walks,
         walk_lengths,

@@ -17,7 +17,7 @@ returns-in-Err g c =
     let ls₀ = lists a.in_points.now a.in_lengths.now in
     let ls₁ = lists a.out_points.now a.out_lengths.now in
     let run = run_of a.s.now a.rule (pos 0) a.boundary ls₀ in
-    let no = sym (asked_accepted run (sym c.requires.2) (sym c.in-Err.is ∙ c.check-checked.ensures.0)) in
+    let no = sym (asked_accepted run (sym c.requires.2) (sym c.in-Err.is ∙ c.check.ensures.0)) in
     rw c.neither.ensures
     (both_runs a.s.now a.rule a.boundary _ ls₀ _ ls₁
     (refused_answer a.s.now a.rule (pos 0) a.boundary ls₀ no)
@@ -29,10 +29,10 @@ keep_lines-requires g c =
     let a = c.args in
     let ls₀ = lists a.in_points.now a.in_lengths.now in
     let run = run_of a.s.now a.rule (pos 0) a.boundary ls₀ in
-    let yes = sym (asked_accepted run (sym c.requires.2) (sym c.in_default.is ∙ c.check-checked.ensures.0)) in (
+    let yes = sym (asked_accepted run (sym c.requires.2) (sym c.in_default.is ∙ c.check.ensures.0)) in (
       accepted_drawing a.s.now a.rule (pos 0) a.boundary ls₀ yes,
-      (c.check-checked.ensures.1 c.in_default.is).counts_are,
-      omega (arith, c.requires.1, c.check-checked.auto.tops),
+      (c.check.ensures.1 c.in_default.is).counts_are,
+      omega (arith, c.requires.1),
       omega (arith, c.requires.1, length-replicate {A = ℕ} g.row.SEGMENTS 0),
     )
 
@@ -42,9 +42,9 @@ clip_kept-inside-requires g c =
     let a = c.args in
     let ls₀ = lists a.in_points.now a.in_lengths.now in
     let run = run_of a.s.now a.rule (pos 0) a.boundary ls₀ in
-    let yes = sym (asked_accepted run (sym c.requires.2) (sym c.in_default.is ∙ c.check-checked.ensures.0)) in (
+    let yes = sym (asked_accepted run (sym c.requires.2) (sym c.in_default.is ∙ c.check.ensures.0)) in (
       accepted_drawing a.s.now a.rule (pos 0) a.boundary ls₀ yes,
-      (c.check-checked.ensures.1 c.in_default.is).nodes_are,
+      (c.check.ensures.1 c.in_default.is).nodes_are,
       omega (arith, c.requires.1, length-replicate {A = ℕ} g.row.SEGMENTS 0, c.keep_lines.auto.bits),
       omega (arith, c.requires.1, c.requires.0.0.1, length-replicate {A = ℕ} g.row.ENDS 0),
       c.requires.3,
@@ -56,10 +56,10 @@ keep_lines-requires-2 g c =
     let a = c.args in
     let ls₀ = lists a.in_points.now a.in_lengths.now in
     let run = run_of a.s.now a.rule (pos 0) a.boundary ls₀ in
-    let yes = sym (asked_accepted run (sym c.requires.2) (sym c.in_default.is ∙ c.check-checked.ensures.0)) in (
+    let yes = sym (asked_accepted run (sym c.requires.2) (sym c.in_default.is ∙ c.check.ensures.0)) in (
       accepted_drawing a.s.now a.rule (pos 0) a.boundary ls₀ yes,
-      (c.check-checked.ensures.1 c.in_default.is).counts_are,
-      omega (arith, c.requires.1, c.check-checked.auto.tops),
+      (c.check.ensures.1 c.in_default.is).counts_are,
+      omega (arith, c.requires.1),
       omega (arith, c.requires.1, length-replicate {A = ℕ} g.row.SEGMENTS 0, c.keep_lines.auto.bits, c.clip_kept-inside.auto.bits),
     )
 
@@ -69,9 +69,9 @@ clip_kept-outside-requires g c =
     let a = c.args in
     let ls₀ = lists a.in_points.now a.in_lengths.now in
     let run = run_of a.s.now a.rule (pos 0) a.boundary ls₀ in
-    let yes = sym (asked_accepted run (sym c.requires.2) (sym c.in_default.is ∙ c.check-checked.ensures.0)) in (
+    let yes = sym (asked_accepted run (sym c.requires.2) (sym c.in_default.is ∙ c.check.ensures.0)) in (
       accepted_drawing a.s.now a.rule (pos 0) a.boundary ls₀ yes,
-      (c.check-checked.ensures.1 c.in_default.is).nodes_are,
+      (c.check.ensures.1 c.in_default.is).nodes_are,
       omega (arith, c.requires.1, length-replicate {A = ℕ} g.row.SEGMENTS 0, c.keep_lines.auto.bits, c.clip_kept-inside.auto.bits, c.keep_lines-2.auto.bits),
       omega (arith, c.requires.1, c.requires.0.0.1, length-replicate {A = ℕ} g.row.ENDS 0, c.clip_kept-inside.auto.moves),
       c.requires.4,
@@ -84,7 +84,7 @@ returns g c =
     let ls₀ = lists a.in_points.now a.in_lengths.now in
     let ls₁ = lists a.out_points.now a.out_lengths.now in
     let run = run_of a.s.now a.rule (pos 0) a.boundary ls₀ in
-    let yes = sym (asked_accepted run (sym c.requires.2) (sym c.in_default.is ∙ c.check-checked.ensures.0)) in
+    let yes = sym (asked_accepted run (sym c.requires.2) (sym c.in_default.is ∙ c.check.ensures.0)) in
     both_runs a.s.now a.rule a.boundary _ ls₀ _ ls₁
     (accepted_answer a.s.now a.rule (pos 0) a.boundary ls₀ yes
     (rw (to_z-of_z c.ranges.rule, to_z-of_z c.ranges.boundary) at c.keep_lines.ensures) c.clip_kept-inside.ensures.0 c.clip_kept-inside.ensures.1)

@@ -1,6 +1,5 @@
 -- The ordered ends stand at the front of their list.
-use mathlib.Core.Path.{◌≡◌, refl, sym, ap, ◌∙◌}
-use lib.Dec.{lit≤}
+use mathlib.Core.Path.{◌≡◌, sym, ap, ◌∙◌}
 use mathlib.Core.List.{List}
 use native.Mathlib.Omega.{arith}
 use Prim.Native.Nat.{ℕ, ◌*◌, ◌≤◌}
@@ -10,7 +9,7 @@ use lib.IntN.{nat_abs}
 use Rattle.segm.specs.Segments.{Drawing, segments}
 use Rattle.segm.proofs.Segments.{length-segments}
 use Rattle.graph.proofs.Fronts.{front_nodes, ends_room}
-use Rattle.drawing_check.proofs.Memory.{fresh_run}
+use Rattle.drawing_check.proofs.Memory.{fresh}
 use Rattle.measure.proofs.is_swept.Goals as goal
 
 pub overflow_mul-e : goal.overflow_mul-e
@@ -64,5 +63,5 @@ is_clear-requires c =
       c.requires.faultless,
       (front_nodes d flat c.write_nodes.new.starts c.write_nodes.new.nodes c.write_nodes.ensures n n-is).order,
       c.requires.faultless.few,
-      λ i. omega (arith, ap nat_abs ((fresh_run d 1024 2048 2049 ((lit≤ tt, refl), refl) c.requires.faultless.few).blank i)),
+      λ i. omega (arith, ap nat_abs (fresh 1024 i)),
     )

@@ -25,7 +25,7 @@ keep_lines-requires g c =
     let ls = lists c.args.points.now c.args.lengths.now in
     let run = run_of c.args.s.now c.args.rule c.args.invert c.args.boundary ls in
     let yes = sym (asked_accepted run (sym c.requires.2) c.in_ok-check.ensures.0) in
-    (accepted_drawing c.args.s.now c.args.rule c.args.invert c.args.boundary ls yes, (c.in_ok-check.ensures.1 refl).counts_are, omega (arith, c.requires.1, c.check.auto.tops), omega (arith, c.requires.1, length-replicate {A = ℕ} g.row.SEGMENTS 0))
+    (accepted_drawing c.args.s.now c.args.rule c.args.invert c.args.boundary ls yes, (c.in_ok-check.ensures.1 refl).counts_are, omega (arith, c.requires.1), omega (arith, c.requires.1, length-replicate {A = ℕ} g.row.SEGMENTS 0))
 
 pub clip_kept-requires : goal.clip_kept-requires
 unfolding clip_run

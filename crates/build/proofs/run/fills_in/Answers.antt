@@ -32,7 +32,7 @@ write_fills-requires g c =
     let run = fills_run numbers c.args.rule (length c.args.fills.now) in
     let accepted = sym (asked_accepted run (sym c.requires.2) c.in_ok-check.ensures.0) in
     let room = verdict_room run accepted (lent (length c.args.fills.now) 1) (inl refl) in
-    (verdict_good run accepted, (c.in_ok-check.ensures.1 refl).counts_are, omega (arith, c.requires.1, c.check.auto.tops), omega (arith, room, length-segments numbers))
+    (verdict_good run accepted, (c.in_ok-check.ensures.1 refl).counts_are, omega (arith, c.requires.1), omega (arith, room, length-segments numbers))
 
 pub returns : goal.returns
 unfolding fills_run

@@ -15,8 +15,9 @@ use Rattle.string_slice.proofs.walks.make_walks.Goals as goal
 pub walk_links-requires : goal.walk_links-requires
 walk_links-requires g c = (
   drawing_good (segments c.args.s.now) (omega (arith, c.requires.1, c.requires.0.0.0)) (sym c.in_ok-check.ensures.0),
-  c.in_ok-check.ensures.1 refl,
-  omega (arith, c.requires.1, c.check.auto.tops),
+  c.graph.ensures,
+  (c.in_ok-check.ensures.1 refl).counts_are,
+  omega (arith, c.requires.1),
   omega (arith, c.requires.1, length-replicate {A = ℕ} g.row.SEGMENTS 0),
   c.requires.2,
 )

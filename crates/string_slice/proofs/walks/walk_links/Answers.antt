@@ -5,7 +5,6 @@ use Rattle.lists.specs.Written.{written}
 use Rattle.lists.proofs.Written.{written_whole}
 use Rattle.segm.specs.Segments.{Drawing, segments}
 use Rattle.segm.proofs.Segments.{length-segments}
-use Rattle.graph.proofs.Fronts.{front_nodes, ends_room, numbers_room}
 use Rattle.fill_rule.specs.declared.Rule.{Rule}
 use Rattle.ray.specs.Ray.{fills}
 use Rattle.ray.proofs.Fills.{length-fills}
@@ -22,31 +21,18 @@ unfolding side_bits
 sides_are rule d m bits m-is room e k =
     k ∙ ap (map (λ f. f % 4)) (e ∙ written_whole (fills rule d) (take m bits) (omega (arith, m-is, length-fills rule d, length-take-le m bits room)))
 
-pub overflow_mul-e : goal.overflow_mul-e
-overflow_mul-e c = record { fits = omega (arith, c.count-m.ensures, length-segments c.args.s.now, c.requires.0.faultless.few) }
-
 pub slice_bounds-bits-end : goal.slice_bounds-bits-end
-slice_bounds-bits-end c = omega (arith, length-segments c.args.s.now, c.requires.3)
+slice_bounds-bits-end c = omega (arith, length-segments c.args.s.now, c.requires.4)
 
 pub slice_bounds-bits-end-2 : goal.slice_bounds-bits-end-2
-slice_bounds-bits-end-2 c = sym (length-take-le _ _ (omega (arith, length-segments c.args.s.now, c.requires.3)))
+slice_bounds-bits-end-2 c = sym (length-take-le _ _ (omega (arith, length-segments c.args.s.now, c.requires.4)))
 
 pub write_fills-requires : goal.write_fills-requires
 write_fills-requires c =
     let m = c.count-m.result in
     let m-is : m ≡ length (segments c.args.s.now) = c.count-m.ensures ∙ sym (length-segments c.args.s.now) in
     let p = c.requires in
-    (p.0, p.1.counts_are, p.2, omega (arith, m-is, length-take-le m c.args.bits.now (omega (arith, m-is, p.3))))
-
-pub slice_bounds-g-end : goal.slice_bounds-g-end
-slice_bounds-g-end c =
-    let m-is : c.count-m.result ≡ length (segments c.args.s.now) = c.count-m.ensures ∙ sym (length-segments c.args.s.now) in
-    sym (length-take-le _ _ (ends_room (segments c.args.s.now) c.args.flat.now c.args.starts.now c.args.nodes.now c.requires.1.nodes_are c.count-m.result m-is))
-
-pub slice_bounds-g-end-2 : goal.slice_bounds-g-end-2
-slice_bounds-g-end-2 c =
-    let m-is : c.count-m.result ≡ length (segments c.args.s.now) = c.count-m.ensures ∙ sym (length-segments c.args.s.now) in
-    sym (length-take-le _ _ (numbers_room (segments c.args.s.now) c.args.flat.now c.args.starts.now c.args.nodes.now c.requires.1.nodes_are c.count-m.result m-is))
+    (p.0, p.2, p.3, omega (arith, m-is, length-take-le m c.args.bits.now (omega (arith, m-is, p.4))))
 
 pub write_walks-requires : goal.write_walks-requires
 write_walks-requires c =
@@ -54,16 +40,16 @@ write_walks-requires c =
     let d = segments c.args.s.now in
     let p = c.requires in
     let m-is : m ≡ length d = c.count-m.ensures ∙ sym (length-segments c.args.s.now) in
-    let sides = sides_are c.args.rule d m c.args.bits.now m-is (omega (arith, m-is, p.3)) c.write_fills.ensures c.keep_sides.ensures in
+    let sides = sides_are c.args.rule d m c.args.bits.now m-is (omega (arith, m-is, p.4)) c.write_fills.ensures c.keep_sides.ensures in
     let k : length c.keep_sides.new.fills ≡ length d = ap length sides ∙ length_sides c.args.rule d in (
       record {
         faultless = p.0.faultless;
-        nodes_are = front_nodes d c.args.flat.now c.args.starts.now c.args.nodes.now p.1.nodes_are m m-is;
+        nodes_are = p.1;
         as_many = k;
       },
-      omega (arith, k, p.4.points_room),
-      omega (arith, k, p.4.lengths_room),
-      omega (arith, k, p.4.directions_room),
+      omega (arith, k, p.5.points_room),
+      omega (arith, k, p.5.lengths_room),
+      omega (arith, k, p.5.directions_room),
     )
 
 pub returns : goal.returns
@@ -71,6 +57,6 @@ returns c =
     let m = c.count-m.result in
     let d = segments c.args.s.now in
     let m-is : m ≡ length d = c.count-m.ensures ∙ sym (length-segments c.args.s.now) in
-    let sides = sides_are c.args.rule d m c.args.bits.now m-is (omega (arith, m-is, c.requires.3)) c.write_fills.ensures c.keep_sides.ensures in
+    let sides = sides_are c.args.rule d m c.args.bits.now m-is (omega (arith, m-is, c.requires.4)) c.write_fills.ensures c.keep_sides.ensures in
     subst (λ (bits : List ℕ). WalksAre d (walks d bits) c.args.points.now c.args.lengths.now c.args.directions.now c.write_walks.result c.write_walks.new.points c.write_walks.new.lengths c.write_walks.new.directions)
     sides c.write_walks.ensures
