@@ -3,4 +3,4 @@
 
 mod store;
 
-pub use store::BinStore;
+pub use store::{BinMemory, BinStore, Seen, clear, sight_point};

@@ -64,7 +64,7 @@ fn answer_with(text: &[u8], points: &mut [i32], lengths: &mut [u32], out: &mut [
 {
     match clip_text(text, points, lengths) {
         Ok(t) => clip_print::put_run(t, points, lengths, out),
-        Err(refusal) => writing::put_refused(refusal, out),
+        Err(refusal) => writing::put_refused(refusal.kind.number(), refusal.place, out),
     }
 }
 

@@ -3,6 +3,7 @@
 
 ghost use Rattle.std.specs.Prelude.{◌≡◌, true, suc, ◌+◌, ◌*◌, ◌%◌, ◌≤◌, length, get_or, set};
 ghost use Rattle.geom.specs.Points.{in_range};
+ghost use Rattle.lists.specs.Written.{written};
 ghost use Rattle.contour.specs.Points.{coordinates, pair_up, turned_round, origin, AllInRange};
 ghost use Rattle.contour.specs.Area.{cross_product, shoelace, is_clockwise, is_large};
 ghost use Rattle.contour.specs.Contour.{contour_of};
@@ -29,6 +30,16 @@ pub fn put_point(points: &mut [i32], q: usize, p: Point)
 {
     points[2 * q] = p.x;
     points[2 * q + 1] = p.y;
+}
+
+// Writes these numbers to the front of out, one by one: a copy of the whole would need a function of the C library.
+pub fn copy(points: &[i32], out: &mut [i32])
+    requires { length points.now ≤ length out.old }
+    ensures { out.new ≡ written points.now out.old }
+{
+    for (k, z) in points.iter().enumerate() {
+        out[k] = *z;
+    }
 }
 
 // The points the other way round, in place.

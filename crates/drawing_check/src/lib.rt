@@ -1,4 +1,5 @@
-// The verdict on a drawing alone, refusals 3 to 9 and 13; and what an accepted drawing leaves for a run: its nodes and top counts.
+// The verdict on a drawing alone, refusals 3 to 9 and 13, unless something was refused before; and what an accepted drawing leaves for a run: its nodes and top
+// counts.
 #![tactic(auto)]
 
 ghost use Rattle.std.specs.Prelude.{◌≡◌, ℕ, ◌*◌, ◌<◌, ◌≤◌, length, get_or, drop, pos};
@@ -135,22 +136,25 @@ fn check_ends(
     find_by_ends(s, flat, nodes, sums, tops)
 }
 
-// The verdict on a drawing of up to so many segments. An accepted drawing's nodes and top counts are left in the lists, which are working memory of the run that
-// comes; after a refusal they hold anything. What only the check needs it owns, by size, so that of this memory a small drawing has no more on the stack than it
-// needs.
+// The verdict on a drawing of up to so many segments, unless something was refused before. An accepted drawing's nodes and top counts are left in the lists,
+// which are working memory of the run that comes; after a refusal they hold anything. What only the check needs it owns, by size, so that of this memory a small
+// drawing has no more on the stack than it needs.
 #[inline(never)]
 pub fn check<const SEGMENTS: usize, const ENDS: usize>(
+    before: Result<(), Refusal>,
     s: &[i32],
     flat: &mut [u16],
     starts: &mut [u16],
     nodes: &mut [u16],
     tops: &mut [i32],
 ) -> Result<(), Refusal>
-    requires { let d = segments s.now in
-        EndsOf SEGMENTS ENDS × (length d ≤ SEGMENTS) × DrawingRoom d flat.old starts.old nodes.old tops.old }
+    requires sizes { EndsOf SEGMENTS ENDS }
+    requires room { let d = segments s.now in
+        before ≡ accepted → (length d ≤ SEGMENTS) × DrawingRoom d flat.old starts.old nodes.old tops.old }
     ensures { let d = segments s.now in
-        Checked (drawing_verdict d) d result flat.new starts.new nodes.new tops.new }
+        Checked (before then drawing_verdict d) d result flat.new starts.new nodes.new tops.new }
 {
+    before?;
     faults::find_fault(s)?;
     let mut keys = [0u64; ENDS];
     let mut scratch = [0u64; SEGMENTS];
@@ -202,6 +206,7 @@ impl<const SEGMENTS: usize, const ENDS: usize, const STARTS: usize> DrawingMemor
             Checked (drawing_verdict d) d result self.new.flat self.new.starts self.new.nodes self.new.tops }
     {
         check::<SEGMENTS, ENDS>(
+            Ok(()),
             s,
             &mut self.flat,
             &mut self.starts,

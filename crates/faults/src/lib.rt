@@ -1,8 +1,8 @@
 // Refusals 3 to 7 and 13: what can be wrong with one segment, by place.
 #![tactic(auto)]
 
-ghost use Rattle.std.specs.Prelude.{◌≡◌};
-ghost use Rattle.segm.specs.Segments.{segments};
+ghost use Rattle.std.specs.Prelude.{◌≡◌, ◌<◌};
+ghost use Rattle.segm.specs.Segments.{count, segments};
 ghost use Rattle.faults.specs.Faults.{fault, fault_at, faults_of};
 
 use geom::Point;
@@ -40,15 +40,22 @@ fn fault(p: Point, t: Segment) -> Option<Kind>
 // What is wrong at place i. No segment is before the first one: it stands there itself.
 #[tactic(auto, unfolding(crate::specs::Faults::fault_at))]
 fn fault_at(s: &[i32], i: usize) -> Option<Kind>
+    requires { i < count s.now }
     ensures { result ≡ fault_at (segments s.now) i }
 {
-    let before = segm::segment_at(s, i.saturating_sub(1));
-    fault(before.a, segm::segment_at(s, i))
+    let before = segm::segment_in(s, i.saturating_sub(1));
+    fault(before.a, segm::segment_in(s, i))
 }
 
 // The first place with a fault.
 pub fn find_fault(s: &[i32]) -> Result<(), Refusal>
     ensures { result ≡ faults_of (segments s.now) }
 {
-    refusal::find_first(segm::count(s), |i| fault_at(s, i))
+    refusal::find_first(
+        segm::count(s),
+        |i| -> Option<Kind>
+            requires { i < count s.now }
+            ensures { result ≡ fault_at (segments s.entry.now) i }
+        { fault_at(s, i) },
+    )
 }

@@ -172,6 +172,10 @@ lt_p_level p q h k = simp (h, eq_eq_z (≤ℤ-antisym p.x q.x (lt_z_false k) (lt
 pub eq_p_apart : (p q : Point) → (p.x ≡ q.x → ⊥) → eq_p p q ≡ false
 eq_p_apart p q h = ne_eq_p {p = p} {q = q} (λ e. h (ap (λ (r : Point). r.x) e))
 
+pub eq_p_level : (p q : Point) → p.x ≡ q.x → eq_p p q ≡ eq_z p.y q.y
+unfolding eq_p
+eq_p_level p q h = simp (eq_eq_z h)
+
 -- `==` compares bits
 pub bits_eq_z : (w : Width) (x y : ℤ) → mag x < 2 ^ hbits w → mag y < 2 ^ hbits w → eqb (of_z w x) (of_z w y) ≡ eq_z x y
 bits_eq_z w x y hx hy =

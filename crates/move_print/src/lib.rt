@@ -18,6 +18,6 @@ pub fn answer(text: &[u8], from: Form, to: Form, out: &mut [u8; text::MOST_BYTES
 {
     match stored_text::move_text(text, from, to, out) {
         Ok(count) => count,
-        Err(refusal) => writing::put_refused(refusal, out),
+        Err(refusal) => writing::put_refused(refusal.kind.number(), refusal.place, out),
     }
 }

@@ -1,13 +1,16 @@
 -- Moves named by the end of a link that they leave: where they lead, the bit that they take, and the ends of a node.
 use mathlib.Core.Path.{◌≡◌, refl, sym, ◌∙◌, ap, subst}
-use mathlib.Core.List.{List}
+use mathlib.Core.List.{List, [], ◌∷◌}
+use mathlib.Core.Logic.{inl, inr}
 use mathlib.Core.Bool.{Bool, true, false, beq}
-use Prim.Native.Nat.{ℕ, ◌+◌, ◌-◌, ◌*◌, ◌<◌, ◌≤◌}
+use Prim.Native.Nat.{ℕ, zero, suc, ◌+◌, ◌-◌, ◌*◌, ◌<◌, ◌≤◌}
 use native.Mathlib.Omega.{arith}
 use native.Mathlib.Decide.{dec_le}
 use native.Mathlib.Numerals.{add-one}
-use borrow.Author.Tests.{lt-ltb, le-ltb}
+use borrow.Author.Tests.{ltb-true, ltb-false, lt-ltb, le-ltb}
+use lib.Dec.{ltb}
 use lib.ListN.{length, get_or, take, drop}
+use lib.Seq.{drop-cons}
 use Rattle.geom.specs.declared.Point.{Point}
 use Rattle.lists.specs.Members.{◌∈◌}
 use Rattle.lists.proofs.Members.{in_at}
@@ -99,3 +102,27 @@ pub end_below : (m : ℕ) (flat starts : List ℕ) (v j : ℕ) → NodeAt m flat
 end_below m flat starts v j n h =
     n.ends (get_or (take (get_or starts (v + 1) 0 - get_or starts v 0) (drop (get_or starts v 0) flat)) j 0)
     (subst (λ l. get_or (take (get_or starts (v + 1) 0 - get_or starts v 0) (drop (get_or starts v 0) flat)) j 0 ∈ l) (part_is flat starts v) (in_at (take (get_or starts (v + 1) 0 - get_or starts v 0) (drop (get_or starts v 0) flat)) 0 j h))
+
+-- a part of a flat list from j on
+abbrev pub part_from : List ℕ → ℕ → ℕ → List ℕ
+part_from flat end j = take (end - j) (drop j flat)
+
+pub part_step : (flat : List ℕ) (end j : ℕ) → j < end → end ≤ length flat → part_from flat end j ≡ get_or flat j 0 ∷ part_from flat end (j + 1)
+part_step flat end j h k =
+    let e : end - j ≡ suc (end - (j + 1)) = omega arith in
+    rw (e, drop-cons flat j 0 (omega arith), add-one)
+
+pub part_end : (flat : List ℕ) (end j : ℕ) → end ≤ j → part_from flat end j ≡ []
+part_end flat end j h = let e : end - j ≡ 0 = omega arith in rw e
+
+-- the parts from j on are parts of the node's
+part_in : (flat : List ℕ) (end j k x : ℕ) → j ≤ k → end ≤ length flat → x ∈ part_from flat end k → x ∈ part_from flat end j
+part_in flat end j k x h l m = go (k - j) j (omega arith)
+  where
+    go : (n i : ℕ) → i + n ≡ k → x ∈ part_from flat end i
+    go zero i e = let q : k ≡ i = omega arith in subst (λ t. x ∈ part_from flat end t) q m
+    go (suc n) i e = by (ltb i end) refl (go n (i + 1) (omega arith))
+      where
+        by : (b : Bool) → ltb i end ≡ b → x ∈ part_from flat end (i + 1) → x ∈ part_from flat end i
+        by true q r = subst (λ t. x ∈ t) (sym (part_step flat end i (ltb-true i end q) l)) (inr r)
+        by false q r = absurd (subst (λ t. x ∈ t) (part_end flat end (i + 1) (omega (arith, ltb-false i end q))) r)

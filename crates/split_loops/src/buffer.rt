@@ -8,7 +8,7 @@ ghost use Rattle.bin_store.specs.Stores.{IsBinned};
 ghost use Rattle.split_loops.specs.Loops.{buffer_point, buffer_points, rest, split_loops};
 ghost use Rattle.split_loops.specs.Splitting.{loop_totals, first_points, Added, RoomFor, IsEmpty, HoldsLoops, Working, HasRoom, Splittable};
 
-use bin_store::BinStore;
+use bin_store::BinMemory;
 use geom::Point;
 
 // How many loops and points were written.
@@ -47,7 +47,7 @@ impl<'a> LoopWriter<'a> {
         }
         let n = contour.len() / 2;
         let start = 2 * self.found.points;
-        self.out[start..start + contour.len()].copy_from_slice(contour);
+        contour::copy(contour, &mut self.out[start..start + contour.len()]);
         self.lengths[self.found.loops] = n as u32;
         self.found.loops += 1;
         self.found.points += n;
@@ -103,13 +103,13 @@ fn length_after(number: u16, len: usize) -> usize
 fn take_points(
     points: &[i32],
     min_area: u64,
-    mut store: BinStore,
+    mut store: BinMemory,
     buffer: &mut [i32],
     writer: &mut LoopWriter,
 ) -> usize
     requires { Splittable points.now
         × IsBinned store
-        × (store.count ≡ 0)
+        × (store.counts.count ≡ 0)
         × Working (length (pair_up points.now)) store.heads.now store.nexts.now store.seen.now store.numbers.now buffer.old
         × IsEmpty writer.old
         × (length points.now ≤ length writer.old.out.now)
@@ -151,7 +151,7 @@ pub fn split_loops(
         buffer,
     } = memory;
     let bins = points.len() / 2 + 1;
-    let store = BinStore::new(&mut heads[..bins], nexts, seen, numbers);
+    let store = BinMemory::new(&mut heads[..bins], nexts, seen, numbers);
     let mut writer = LoopWriter {
         out,
         lengths,

@@ -1,12 +1,12 @@
 -- Bytes put into a list, one run after another.
 use mathlib.Core.Path.{◌≡◌, refl, sym, ap, ◌∙◌}
 use mathlib.Core.List.{List, [], ◌∷◌, ◌++◌, append_assoc, append-nil}
-use Prim.Native.Nat.{ℕ, ◌+◌, ◌^◌, ◌<◌, ◌≤◌}
+use Prim.Native.Nat.{ℕ, suc, ◌+◌, ◌^◌, ◌<◌, ◌≤◌}
 use native.Mathlib.Nat.{zero-add}
 use native.Mathlib.Omega.{arith}
 use borrow.Rule.Slice.PartMut.{put_mid}
-use lib.ListN.{length, take, drop, length-append}
-use lib.Seq.{take_all, take-length, sets}
+use lib.ListN.{length, take, drop, set, length-append}
+use lib.Seq.{take_all, take-length, set_comm, sets}
 use Rattle.std.proofs.lemmas.List.Edits.{sets-eq}
 use Rattle.std.proofs.lemmas.Slice.{put_mid-paste}
 use lib.IntN.{ℤ}
@@ -43,6 +43,17 @@ overwritten l i k s new e n h =
     put_mid-paste i k l new s (length s) e (sym n) refl
     ∙ ap (λ (t : List ℕ). take i l ++ t ++ drop (i + length s) l) (take-length s)
     ∙ sym (sets-eq s l i h)
+
+-- one byte more, before them
+set_before : (l : List ℕ) (i j x : ℕ) (s : List ℕ) → i < j → set (sets l j s) i x ≡ sets (set l i x) j s
+set_before l i j x [] h = refl
+set_before l i j x (y ∷ s) h = set_before (set l j y) i (suc j) x s (omega arith) ∙ ap (λ (k : List ℕ). sets k (suc j) s) (set_comm l j i y x (omega arith))
+
+pub put_before : {a b : List ℕ} {i k : ℕ} {s : List ℕ} (x : ℕ) → Put a (suc i) s k b → Put a i (x ∷ s) k (set b i x)
+put_before {a = a} {i = i} {s = s} x p = record {
+  list = ap (λ (l : List ℕ). set l i x) p.list ∙ set_before a i (suc i) x s (omega arith);
+  place = omega (arith, p.place);
+}
 
 -- what stands at the front of a list that has room
 pub put_whole : {old s new : List ℕ} {r : ℕ} → Put old 0 s r new → length s ≤ length old → (r ≡ length s) × (new ≡ written s old)

@@ -4,13 +4,11 @@
 
 ghost use Rattle.std.specs.Prelude.{◌≡◌, [], ◌∷◌, map, ◌^◌, ◌≤◌, ◌<◌, length};
 ghost use Rattle.decimal.specs.Decimal.{signed};
-ghost use Rattle.refusal.specs.Numbers.{number_of};
 ghost use Rattle.writing.specs.Lines.{line_of, refused_line};
 ghost use Rattle.writing.specs.Lengths.{digits_in, signed_length, row_length};
 ghost use Rattle.writing.specs.Puts.{Put, Room, Appended};
 
 use itoa::{Buffer, Integer};
-use refusal::Refusal;
 
 // A lent list, and the place that the next byte goes to.
 #[derive(Drop)]
@@ -37,13 +35,15 @@ impl<'a> Writer<'a> {
         self.at += 1;
     }
 
+    // One by one: they are few, and a copy of all would need a function of the C library, which the compiler would call where it saw the whole of this.
+    #[inline(never)]
     pub fn put_bytes(&mut self, s: &[u8])
         requires { Room self.old s.now }
         ensures { Appended self.old s.now self.new }
     {
-        let end = self.at + s.len();
-        self.out[self.at..end].copy_from_slice(s);
-        self.at = end;
+        for b in s {
+            self.put_byte(*b);
+        }
     }
 
     // What is printed of a number.
@@ -111,14 +111,14 @@ pub fn line_length(row: &[i32]) -> usize
 }
 
 // The one line of a refusal, at the front of a list; tells how many bytes it has.
-pub fn put_refused(refusal: Refusal, out: &mut [u8]) -> usize
-    requires { length (refused_line (number_of refusal.kind) refusal.place) ≤ length out.old }
-    ensures { Put out.old 0 (refused_line (number_of refusal.kind) refusal.place) result out.new }
+pub fn put_refused(number: u32, place: usize, out: &mut [u8]) -> usize
+    requires { length (refused_line number place) ≤ length out.old }
+    ensures { Put out.old 0 (refused_line number place) result out.new }
 {
     let mut line = Writer::new(out);
     line.put_bytes(b"refused");
-    line.put_next(refusal.kind.number());
-    line.put_next(refusal.place);
+    line.put_next(number);
+    line.put_next(place);
     line.put_byte(b'\n');
     line.at
 }

@@ -11,6 +11,7 @@ use Rattle.refusal.specs.declared.Refusal.{Refusal}
 use Rattle.clip_paths.specs.declared.Totals.{Totals}
 use Rattle.contour.specs.Points.{pair_up, cut}
 use Rattle.string_clip.specs.Run.{told, Lists, lists, Outcome, outcome, output}
+use Rattle.writing.specs.Lines.{refused_line}
 use Rattle.writing.specs.Puts.{Put}
 use Rattle.clip_print.specs.Printed.{Held, lines_of, printed}
 use Rattle.clip_print.specs.Lengths.{longest}
@@ -55,7 +56,8 @@ pub put_refused-requires : goal.put_refused-requires
 put_refused-requires c =
     let ls = lists c.args.points.now c.args.lengths.now in
     let h = fits c.args.points.now c.clip_text.new.points c.args.out.now c.clip_text.auto.points c.requires in
-    room c.args.text.now ls c.clip_text.new.points c.clip_text.new.lengths c.clip_text.ensures c.args.out.now h c.in-Err.is
+    let r = room c.args.text.now ls c.clip_text.new.points c.clip_text.new.lengths c.clip_text.ensures c.args.out.now h c.in-Err.is in
+    subst (λ n. length (refused_line n c.in-Err.refusal.place) ≤ length c.args.out.now) (sym c.number.ensures) r
 
 pub returns-in-Ok : goal.returns-in-Ok
 returns-in-Ok c =
@@ -68,5 +70,6 @@ pub returns-in-Err : goal.returns-in-Err
 returns-in-Err c =
     let ls = lists c.args.points.now c.args.lengths.now in
     let h = fits c.args.points.now c.clip_text.new.points c.args.out.now c.clip_text.auto.points c.requires in
-    let w = whole c.args.text.now ls c.clip_text.new.points c.clip_text.new.lengths c.clip_text.ensures c.args.out.now h c.in-Err.is c.put_refused.ensures in
+    let put = subst (λ n. Put c.args.out.now 0 (refused_line n c.in-Err.refusal.place) c.put_refused.result c.put_refused.new.out) c.number.ensures c.put_refused.ensures in
+    let w = whole c.args.text.now ls c.clip_text.new.points c.clip_text.new.lengths c.clip_text.ensures c.args.out.now h c.in-Err.is put in
     record { upper_bound = w.0; value = w.1 }

@@ -12,6 +12,7 @@ use Rattle.refusal.specs.declared.Refusal.{Refusal}
 use Rattle.stored_text.specs.Outcome.{outcome, move_outcome}
 use Rattle.writing.proofs.Lengths.{length_refused, refused_short}
 use Rattle.writing.proofs.Puts.{put_whole}
+use Rattle.writing.specs.Lines.{refused_line}
 use Rattle.writing.specs.Puts.{Put}
 use Rattle.refusal.specs.Numbers.{number_of}
 use Rattle.text.specs.Grammar.{most_bytes}
@@ -38,7 +39,7 @@ pub put_refused-requires : goal.put_refused-requires
 put_refused-requires c =
     let room : length c.args.out.now ≡ most_bytes = search rules in
     let r = refused c.args.text.now c.args.out.now c.move_text.new.out c.args.from c.args.to room c.move_text.ensures c.in-Err.is in
-    omega (arith, line-fits c.in-Err.refusal c.args.out.now room, ap length r.1)
+    omega (arith, line-fits c.in-Err.refusal c.args.out.now room, ap length r.1, ap (λ n. length (refused_line n c.in-Err.refusal.place)) c.number.ensures)
 
 pub returns-in-Ok : goal.returns-in-Ok
 returns-in-Ok c =
@@ -53,7 +54,8 @@ returns-in-Err c =
     let bytes = answer_to c.args.from c.args.to c.args.text.now in
     let r = refused c.args.text.now old c.move_text.new.out c.args.from c.args.to room c.move_text.ensures c.in-Err.is in
     let fits : length bytes ≤ length old = omega (arith, ap length r.0, line-fits c.in-Err.refusal old room) in
-    let put = subst (λ (l : List ℕ). Put l 0 (line_of_refusal c.in-Err.refusal) c.put_refused.result c.put_refused.new.out) r.1 c.put_refused.ensures in
+    let told = subst (λ n. Put c.move_text.new.out 0 (refused_line n c.in-Err.refusal.place) c.put_refused.result c.put_refused.new.out) c.number.ensures c.put_refused.ensures in
+    let put = subst (λ (l : List ℕ). Put l 0 (line_of_refusal c.in-Err.refusal) c.put_refused.result c.put_refused.new.out) r.1 told in
     let p = put_whole (rw r.0 at put) fits in
     let w = stands bytes old fits p.0 p.1 in
     record { prefix_len = (w.inside, sym (length-take-le _ _ w.inside)); value = (w.count, w.list) }

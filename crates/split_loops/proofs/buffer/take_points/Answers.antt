@@ -29,7 +29,7 @@ pub loop-i-init : goal.loop-i-init
 loop-i-init c =
     let a = c.args in
     let w = a.writer.now in
-    let empty : memory a.store.count a.store.seen.now a.store.numbers.now ≡ [] = ap (λ n. memory n a.store.seen.now a.store.numbers.now) c.requires.2 ∙ none_sighted a.store.seen.now a.store.numbers.now in
+    let empty : memory a.store.counts.count a.store.seen.now a.store.numbers.now ≡ [] = ap (λ n. memory n a.store.seen.now a.store.numbers.now) c.requires.2 ∙ none_sighted a.store.seen.now a.store.numbers.now in
     record {
       taking =
           rw (empty, c.requires.4) (none-taken a.min_area (pair_up a.points.now) w.out.now w.lengths.now);

@@ -7,6 +7,7 @@ use lib.ListN.{length, take, drop, set, length-append, length-take, length-drop,
 use lib.IntN.{ℤ}
 use Rattle.geom.specs.declared.Point.{Point}
 use Rattle.lists.specs.Members.{keep}
+use Rattle.lists.proofs.Written.{written_whole}
 use Rattle.contour.specs.Points.{pair_up}
 use Rattle.contour.specs.Area.{is_large}
 use Rattle.split_loops.specs.declared.buffer.LoopTotals.{LoopTotals}
@@ -34,10 +35,10 @@ returns c =
     let out : List ℤ → List ℤ = λ (l : List ℤ). take d w.out.now ++ (l ++ drop m (drop d w.out.now)) in
     let lengths = set w.lengths.now w.found.loops n in
     record {
-      same_out = (refl, omega (arith, length-append {A = ℤ}, length-take d w.out.now, length-drop d w.out.now, length-drop m (drop d w.out.now), c.copy_from_slice.auto.self, c.requires.2.points_fit));
+      same_out = (refl, omega (arith, length-append {A = ℤ}, length-take d w.out.now, length-drop d w.out.now, length-drop m (drop d w.out.now), c.copy.auto.out, c.requires.2.points_fit));
       same_lengths = (refl, length-set w.lengths.now w.found.loops n);
       adds =
-          subst (λ (l : List (List Point)). Adds l w.found after w.out.now w.lengths.now (out c.copy_from_slice.new.self) lengths) kept
-          (subst (λ (l : List ℤ). Adds (pair_up contour ∷ []) w.found after w.out.now w.lengths.now (out l) lengths) (sym c.copy_from_slice.ensures.after)
+          subst (λ (l : List (List Point)). Adds l w.found after w.out.now w.lengths.now (out c.copy.new.out) lengths) kept
+          (subst (λ (l : List ℤ). Adds (pair_up contour ∷ []) w.found after w.out.now w.lengths.now (out l) lengths) (sym (c.copy.ensures ∙ written_whole contour _ (omega (arith, length-take {A = ℤ}, length-drop d w.out.now, c.requires.2.points_fit))))
           (adds_one contour w.found w.out.now w.lengths.now m c.requires.0.whole (omega arith) (omega arith)));
     }

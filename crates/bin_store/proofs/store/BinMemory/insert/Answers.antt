@@ -3,12 +3,12 @@ use mathlib.Core.Path.{refl}
 use native.Mathlib.Omega.{arith}
 use Rattle.bin_store.specs.Stores.{held}
 use Rattle.bin_store.proofs.Bins.Sighted.{told_again, told_first}
-use Rattle.bin_store.proofs.store.BinStore.insert.Goals as goal
+use Rattle.bin_store.proofs.store.BinMemory.insert.Goals as goal
 
 pub returns-in-Some : goal.returns-in-Some
 returns-in-Some c =
     let s = c.args.self in
-    let t = told_again s.count s.seen.now s.numbers.now c.args.p c.args.number c.in-Some.i c.in-Some.ensures.0 c.in-Some.ensures.1 c.requires.0.linked.apart in
+    let t = told_again s.counts.count s.seen.now s.numbers.now c.args.p c.args.number c.in-Some.i c.in-Some.ensures.0 c.in-Some.ensures.1 c.requires.0.1.linked.apart in
     record {
       holds = t.0;
       tells = t.1;
@@ -20,7 +20,7 @@ returns-in-Some c =
 pub returns : goal.returns
 returns c =
     let s = c.args.self in
-    let t = told_first s.count s.seen.now s.numbers.now c.args.p c.args.number (held c.store.new.self) c.in_default.ensures c.store.ensures.holds in
+    let t = told_first s.counts.count s.seen.now s.numbers.now c.args.p c.args.number (held c.store.new.self) c.in_default.ensures c.store.ensures.holds in
     record {
       holds = t.0;
       tells = t.1;
